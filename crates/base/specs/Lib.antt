@@ -1,0 +1,9 @@
+pub mod Pick
+pub mod Bits
+pub mod Answers
+pub mod Every
+pub mod PickLaws
+pub mod EveryLaws
+pub mod BitLaws
+pub mod ListLaws
+pub mod AnswerLaws

@@ -1,0 +1,41 @@
+-- What a choice by a test gives, and the rules by which a branch of the code settles it.
+use Prim.Native.Nat.{ℕ, _≤_}
+use mathlib.Core.Bool.{Bool, true, false}
+use mathlib.Core.Path.{_≡_, refl}
+use mathlib.Core.Logic.{_⊎_, inl, inr}
+use borrow.Author.Tests.{lt-ltb, le-ltb, le-leb, lt-leb, eq-eqb, ne-eqb}
+use borrow.Author.Needs.{needs}
+use Rattle.base.specs.Pick.{pick}
+
+pub pick-true : {A : Type 0} (b : Bool) (x y : A) → b ≡ true → pick b x y ≡ x
+unfolding pick
+pick-true b x y holds = rw holds
+
+pub pick-false : {A : Type 0} (b : Bool) (x y : A) → b ≡ false → pick b x y ≡ y
+unfolding pick
+pick-false b x y fails = rw fails
+
+pub pick-same : {A : Type 0} (b : Bool) (x : A) → pick b x x ≡ x
+unfolding pick
+pick-same true x = refl
+pick-same false x = refl
+
+-- a bound of both choices bounds the choice
+pub pick-le : (b : Bool) (x y n : ℕ) → x ≤ n → y ≤ n → pick b x y ≤ n
+unfolding pick
+pick-le true x y n first second = first
+pick-le false x y n first second = second
+
+-- a function of a choice is the choice of its values
+pub pick-through : {A B : Type 0} (f : A → B) (b : Bool) (x y : A) → f (pick b x y) ≡ pick b (f x) (f y)
+unfolding pick
+pick-through f true x y = refl
+pick-through f false x y = refl
+
+-- a test holds or fails
+pub either-way : (b : Bool) → (b ≡ true) ⊎ (b ≡ false)
+either-way true = inl refl
+either-way false = inr refl
+
+-- the rules for `search` at the end of a branch
+pub ruleset tests = (pick-true, pick-false, lt-ltb, le-ltb, le-leb, lt-leb, eq-eqb, ne-eqb, needs)
