@@ -1,8 +1,9 @@
 -- What a choice by a test gives, and the rules by which a branch of the code settles it.
 use Prim.Native.Nat.{ℕ, _≤_}
-use mathlib.Core.Bool.{Bool, true, false}
+use mathlib.Core.Bool.{Bool, true, false, _&&_}
 use mathlib.Core.Path.{_≡_, refl}
 use mathlib.Core.Logic.{_⊎_, inl, inr}
+use native.Mathlib.Omega.{arith}
 use borrow.Author.Tests.{lt-ltb, le-ltb, le-leb, lt-leb, eq-eqb, ne-eqb}
 use borrow.Author.Needs.{needs}
 use Rattle.base.specs.Pick.{pick}
@@ -32,10 +33,24 @@ unfolding pick
 pick-through f true x y = refl
 pick-through f false x y = refl
 
+-- no test both holds and fails
+pub never : false ≡ true → ⊥
+never e = let z : _≡_ {A = ℕ} 0 1 = cc in omega arith
+
 -- a test holds or fails
 pub either-way : (b : Bool) → (b ≡ true) ⊎ (b ≡ false)
 either-way true = inl refl
 either-way false = inr refl
+
+-- both of two tests hold
+pub both-hold : (a b : Bool) → (a && b) ≡ true → (a ≡ true) × (b ≡ true)
+both-hold true b e = (refl, e)
+both-hold false b e = (e, absurd (never e))
+
+-- a test that fails fails in company
+pub and-false : (a : Bool) → (a && false) ≡ false
+and-false true = refl
+and-false false = refl
 
 -- the rules for `search` at the end of a branch
 pub ruleset tests = (pick-true, pick-false, lt-ltb, le-ltb, le-leb, lt-leb, eq-eqb, ne-eqb, needs)

@@ -1,0 +1,4 @@
+pub mod Queue
+pub mod QueueLaws
+pub mod CanonicalLaws
+pub mod FactsLaws

@@ -1,0 +1,171 @@
+// A queue of up to sixteen characters with their marks, the oldest at slot 0.
+// It is canonical: slots past the count are zero, so two queues that hold the same characters are equal.
+ghost use mathlib.Core.Path.{_≡_};
+ghost use Rattle.queue.specs.Queue.{emptyQueue, room, entered, replaced, movedDown, taken, oldest, unmarked, anyMarked, marked};
+ghost use lib.ListN.{take};
+
+// A received or waiting character; marks are 1 parity, 2 framing, 4 break.
+pub struct Character {
+    pub data: u8,
+    pub marks: u8,
+}
+
+pub struct Queue {
+    pub slots: [Character; 16],
+    pub count: u8,
+}
+
+pub struct Put {
+    pub queue: Queue,
+    pub full: bool,
+}
+
+pub struct Taken {
+    pub queue: Queue,
+    pub character: Character,
+}
+
+fn moved_down(s: [Character; 16]) -> [Character; 16]
+    ensures { λ r. ⌜ r ≡ movedDown s ⌝ }
+{
+    [
+        s[1],
+        s[2],
+        s[3],
+        s[4],
+        s[5],
+        s[6],
+        s[7],
+        s[8],
+        s[9],
+        s[10],
+        s[11],
+        s[12],
+        s[13],
+        s[14],
+        s[15],
+        Character { data: 0, marks: 0 },
+    ]
+}
+
+fn marked_among(s: [Character; 16], count: u8) -> bool
+    ensures { λ r. ⌜ r ≡ anyMarked (take count s) ⌝ }
+{
+    let n = count as usize;
+    let mut i: usize = 0;
+    while i < 16 {
+        if n <= i {
+            return false;
+        }
+        if s[i].marks != 0 {
+            return true;
+        }
+        i = i + 1;
+    }
+    false
+}
+
+impl Queue {
+    pub const SLOTS: u8 = 16;
+
+    pub fn empty() -> Self
+        ensures { λ r. ⌜ r ≡ emptyQueue ⌝ }
+    {
+        Queue {
+            slots: [Character { data: 0, marks: 0 }; 16],
+            count: 0,
+        }
+    }
+
+    pub fn emptied(self) -> Self
+        ensures { λ r. ⌜ r ≡ emptyQueue ⌝ }
+    {
+        Queue::empty()
+    }
+
+    pub fn has_room(self, capacity: u8) -> bool
+        ensures { λ r. ⌜ r ≡ room self capacity ⌝ }
+    {
+        (self.count < Queue::SLOTS) & (self.count < capacity)
+    }
+
+    pub fn put(mut self, capacity: u8, ch: Character) -> Put
+        ensures { λ r. ⌜ r ≡ entered self capacity ch ⌝ }
+    {
+        let room = self.has_room(capacity);
+        if room {
+            let at = self.count as usize;
+            self.slots[at] = ch;
+            self.count = self.count + 1;
+            return Put {
+                queue: self,
+                full: false,
+            };
+        }
+        Put {
+            queue: self,
+            full: true,
+        }
+    }
+
+    pub fn replace(mut self, ch: Character) -> Self
+        ensures { λ r. ⌜ r ≡ replaced self ch ⌝ }
+    {
+        let held = (0 < self.count) & (self.count <= Queue::SLOTS);
+        if held {
+            let at = (self.count - 1) as usize;
+            self.slots[at] = ch;
+            return self;
+        }
+        self
+    }
+
+    pub fn take(mut self) -> Taken
+        ensures { λ r. ⌜ r ≡ taken self ⌝ }
+    {
+        if self.count == 0 {
+            return Taken {
+                queue: self,
+                character: Character { data: 0, marks: 0 },
+            };
+        }
+        let character = self.slots[0];
+        let slots = self.slots;
+        self.slots = moved_down(slots);
+        self.count = self.count - 1;
+        Taken {
+            queue: self,
+            character,
+        }
+    }
+
+    pub fn first(self) -> Character
+        ensures { λ r. ⌜ r ≡ oldest self ⌝ }
+    {
+        if self.count == 0 {
+            return Character { data: 0, marks: 0 };
+        }
+        self.slots[0]
+    }
+
+    pub fn unmark(mut self) -> Self
+        ensures { λ r. ⌜ r ≡ unmarked self ⌝ }
+    {
+        if self.count == 0 {
+            return self;
+        }
+        let ch = self.slots[0];
+        self.slots[0] = Character {
+            data: ch.data,
+            marks: 0,
+        };
+        self
+    }
+
+    pub fn any_marked(self) -> bool
+        ensures { λ r. ⌜ r ≡ marked self ⌝ }
+    {
+        let slots = self.slots;
+        marked_among(slots, self.count)
+    }
+}
