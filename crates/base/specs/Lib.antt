@@ -1,6 +1,7 @@
 pub mod Pick
 pub mod Bits
 pub mod Answers
+pub mod Refusals
 pub mod Every
 pub mod PickLaws
 pub mod EveryLaws

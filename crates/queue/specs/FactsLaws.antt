@@ -123,9 +123,10 @@ module _ (capacity : ℕ) (small : capacity ≤ 16) where
         kept-unmarking = through capacity unmarked unmarking;
       }
 
--- 16450 mode, and FIFO mode
+-- 16450 mode
 pub facts-1 : Facts 1
 facts-1 = facts 1 (omega arith)
 
+-- FIFO mode
 pub facts-16 : Facts 16
 facts-16 = facts 16 (omega arith)

@@ -2,3 +2,4 @@ pub mod Queue
 pub mod QueueLaws
 pub mod CanonicalLaws
 pub mod FactsLaws
+pub mod AcceptLaws

@@ -1,7 +1,7 @@
 // A queue of up to sixteen characters with their marks, the oldest at slot 0.
 // It is canonical: slots past the count are zero, so two queues that hold the same characters are equal.
 ghost use mathlib.Core.Path.{_≡_};
-ghost use Rattle.queue.specs.Queue.{emptyQueue, room, entered, replaced, movedDown, taken, oldest, unmarked, anyMarked, marked};
+ghost use Rattle.queue.specs.Queue.{emptyQueue, room, entered, replaced, movedDown, taken, oldest, unmarked, anyMarked, marked, capacity, accepted};
 ghost use lib.ListN.{take};
 
 // A received or waiting character; marks are 1 parity, 2 framing, 4 break.
@@ -67,6 +67,8 @@ fn marked_among(s: [Character; 16], count: u8) -> bool
 
 impl Queue {
     pub const SLOTS: u8 = 16;
+    pub const CAPACITY_16450: u8 = 1;
+    pub const CAPACITY_FIFO: u8 = 16;
 
     pub fn empty() -> Self
         ensures { λ r. ⌜ r ≡ emptyQueue ⌝ }
@@ -106,6 +108,35 @@ impl Queue {
             queue: self,
             full: true,
         }
+    }
+
+    pub fn capacity(fifo: bool) -> u8
+        ensures { λ r. ⌜ r ≡ capacity fifo ⌝ }
+    {
+        if fifo {
+            Queue::CAPACITY_FIFO
+        } else {
+            Queue::CAPACITY_16450
+        }
+    }
+
+    // What both queues of a channel do with one character more.
+    pub fn accept(self, fifo: bool, ch: Character) -> Put
+        ensures { λ r. ⌜ r ≡ accepted fifo self ch ⌝ }
+    {
+        let capacity = Queue::capacity(fifo);
+        let room = self.has_room(capacity);
+        if room {
+            return self.put(capacity, ch);
+        }
+        if fifo {
+            return Put {
+                queue: self,
+                full: true,
+            };
+        }
+        let queue = self.replace(ch);
+        Put { queue, full: true }
     }
 
     pub fn replace(mut self, ch: Character) -> Self

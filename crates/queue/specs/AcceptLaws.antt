@@ -1,0 +1,68 @@
+-- One character more, in both modes: in terms of the list that the queue holds.
+use Prim.Native.Nat.{_<_, _≤_}
+use mathlib.Core.List.{List, [], _∷_, _++_}
+use mathlib.Core.Bool.{Bool, true, false}
+use mathlib.Core.Path.{_≡_, refl, ap₂, _∙_}
+use native.Mathlib.Omega.{arith}
+use lib.Dec.{ltb}
+use lib.ListN.{length}
+use borrow.Author.Tests.{lt-ltb, le-ltb}
+use Rattle.base.specs.Pick.{pick}
+use Rattle.base.specs.PickLaws.{pick-true, pick-false, pick-same, pick-through, and-false}
+use Rattle.queue.specs.declared.Character.{Character}
+use Rattle.queue.specs.declared.Queue.{Queue}
+use Rattle.queue.specs.declared.Put.{Put}
+use Rattle.queue.specs.Queue.{room, entered, replaced, capacity, accepted, canonical}
+use Rattle.queue.specs.QueueLaws.{holding, enter-room, replace-newest}
+use Rattle.queue.specs.FactsLaws.{Facts, facts-1, facts-16}
+
+pub capacity-small : (fifo : Bool) → capacity fifo ≤ 16
+unfolding capacity pick
+capacity-small true = omega arith
+capacity-small false = omega arith
+
+pub facts-of : (fifo : Bool) → Facts (capacity fifo)
+unfolding capacity pick
+facts-of true = facts-16
+facts-of false = facts-1
+
+module _ (fifo : Bool) (l : List Character) (ch : Character) where
+  has-room : length l < capacity fifo → room (holding l) (capacity fifo) ≡ true
+  unfolding room
+  has-room less = rw (lt-ltb (length l) 16 (omega (arith, capacity-small fifo)), lt-ltb (length l) (capacity fifo) less)
+
+  no-room : capacity fifo ≤ length l → room (holding l) (capacity fifo) ≡ false
+  unfolding room
+  no-room more = rw (le-ltb (length l) (capacity fifo) more) (and-false (ltb (length l) 16))
+
+  -- room: behind the others
+  pub accept-room : length l < capacity fifo → accepted fifo (holding l) ch ≡ record { queue = holding (l ++ (ch ∷ [])); full = false }
+  unfolding accepted
+  accept-room less = pick-true _ _ _ (has-room less) ∙ enter-room (capacity fifo) (capacity-small fifo) l ch less
+
+full-16450 : capacity false ≤ 1
+unfolding capacity pick
+full-16450 = omega arith
+
+-- full in FIFO mode: the queue stays
+pub accept-lost : (l : List Character) (ch : Character) → 16 ≤ length l → accepted true (holding l) ch ≡ record { queue = holding l; full = true }
+unfolding accepted
+accept-lost l ch more =
+    pick-false _ _ _ (no-room true l ch (omega (arith, capacity-small true))) ∙ pick-true _ _ _ refl
+
+-- full in 16450 mode: the new one stands in the old one's place
+pub accept-replaced : (old ch : Character) → accepted false (holding (old ∷ [])) ch ≡ record { queue = holding (ch ∷ []); full = true }
+unfolding accepted
+accept-replaced old ch =
+    pick-false _ _ _ (no-room false (old ∷ []) ch full-16450) ∙ pick-false _ _ _ refl
+    ∙ (λ i. record { queue = replace-newest [] old ch (omega arith) i; full = true })
+
+-- the canonical form is kept in both modes
+pub kept-accepting : (fifo : Bool) (q : Queue) (ch : Character) → canonical (capacity fifo) q ≡ true → canonical (capacity fifo) (accepted fifo q ch .queue) ≡ true
+unfolding accepted
+kept-accepting fifo q ch e =
+    pick-through (λ (p : Put). canonical (capacity fifo) (p .queue)) (room q (capacity fifo)) _ _
+    ∙ ap₂ (pick (room q (capacity fifo))) (facts-of fifo .kept-entering q ch e)
+    (pick-through (λ (p : Put). canonical (capacity fifo) (p .queue)) fifo _ _
+    ∙ ap₂ (pick fifo) e (facts-of fifo .kept-replacing q ch e) ∙ pick-same fifo true)
+    ∙ pick-same (room q (capacity fifo)) true
