@@ -1,12 +1,14 @@
 """Tests of tools/reading, run on a small repository in a temporary folder."""
-import shutil
-import subprocess
-import sys
-import tempfile
+import contextlib
+import io
+import runpy
 import unittest
 from pathlib import Path
 
-READING = Path(__file__).with_name("reading")
+from room import Room
+
+# the script has no .py to its name and cannot be imported; within one process the tests take no time
+main = runpy.run_path(str(Path(__file__).with_name("reading")))["main"]
 
 DOCUMENT = """\
 # A paper
@@ -68,29 +70,21 @@ ROWS = """\
 """
 
 
-class Reading(unittest.TestCase):
+class Reading(Room):
     def setUp(self):
-        room = tempfile.TemporaryDirectory()
-        self.addCleanup(room.cleanup)
-        self.root = Path(room.name)
+        super().setUp()
         self.write("crates.txt", "# rooms\nlamp:\n")
         self.write("paper.md", DOCUMENT)
         self.write("crates/lamp/specs/Lib.antt", "pub mod Lamp\n")
         self.write("crates/lamp/specs/Lamp.antt", SPECS)
         self.write("crates/lamp/specs/BellLaws.antt", LAWS)
-        self.write("tools/reading", "")
-        shutil.copy(READING, self.root / "tools/reading")
-
-    def write(self, name, text):
-        path = self.root / name
-        path.parent.mkdir(parents=True, exist_ok=True)
-        path.write_text(text, "utf-8")
 
     def run_it(self, *words):
         """The status, and all that was written."""
-        done = subprocess.run([sys.executable, self.root / "tools/reading", *words], cwd=self.root,
-                              stdout=subprocess.PIPE, stderr=subprocess.STDOUT, encoding="utf-8")
-        return done.returncode, done.stdout
+        said = io.StringIO()
+        with contextlib.redirect_stdout(said), contextlib.redirect_stderr(said):
+            status = main(words, self.root)
+        return status, said.getvalue()
 
     def fails(self, reason, *words):
         status, said = self.run_it(*words)
@@ -103,7 +97,7 @@ class Reading(unittest.TestCase):
         return said
 
     def against(self, *words):
-        return ("--against", "paper.md", *words)
+        return ("--against", str(self.root / "paper.md"), *words)
 
     def test_page_has_each_quotation_with_its_definition(self):
         self.passes()
