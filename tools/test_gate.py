@@ -1,0 +1,70 @@
+"""Tests of tools/test, with a stand-in for the toolchain: what it runs, in which order, and where it stops."""
+import os
+import subprocess
+import unittest
+from pathlib import Path
+
+from room import Room
+
+TOOLS = Path(__file__).parent
+VERDICT = "7 passed, 0 failed"
+RT = f'#!/bin/sh\ncase $1 in version) echo kit 9 ;; fmt) [ -z "$UNTIDY" ] ;; ci) echo "{VERDICT}" ;; esac\n'
+
+
+class Gate(Room):
+    def setUp(self):
+        super().setUp()
+        self.script("bin/rt", RT)
+        self.script("tools/checks/10-good", "#!/bin/sh\necho good\n")
+        self.script("tools/reading", '#!/bin/sh\necho "reading $*"\n')
+        self.write("crates.txt", "lamp:\n")
+        self.write("crates/lamp/src/lib.rt", "")
+        for name in ("test", "find-rt"):
+            self.script(f"tools/{name}", (TOOLS / name).read_text("utf-8"))
+
+    def run_it(self, **settings):
+        """The status, and the lines written."""
+        setting = {**os.environ, "HAILSTOAT_DOCUMENT_01": "nowhere", **settings}
+        setting["PATH"] = f"{self.root / 'bin'}:{os.environ['PATH']}"
+        done = subprocess.run([self.root / "tools/test"], cwd="/", env=setting,
+                              stdout=subprocess.PIPE, stderr=subprocess.STDOUT, encoding="utf-8")
+        return done.returncode, done.stdout.splitlines()
+
+    def stops(self, reason, **settings):
+        status, said = self.run_it(**settings)
+        self.assertEqual((status, said[-1]), (1, f"tools/test: {reason}"))
+        self.assertNotIn(VERDICT, said)
+
+    def test_verdict_is_the_last_line(self):
+        status, said = self.run_it()
+        self.assertEqual((status, said[-1]), (0, VERDICT))
+        self.assertLess(said.index("reading --check"), said.index("good"))
+        self.assertTrue(any("Document 01 is not at hand" in line for line in said))
+
+    def test_document_01_is_used_where_it_is_at_hand(self):
+        self.write("paper.md", "")
+        _, said = self.run_it(HAILSTOAT_DOCUMENT_01="paper.md")
+        self.assertTrue(any(line.startswith("reading --check --against paper.md") for line in said))
+
+    def test_kits_that_differ_are_told_and_fail_nothing(self):
+        self.write("docs/kit", "kit 9\n")
+        self.assertFalse(any("differ" in line for line in self.run_it()[1]))
+        self.write("docs/kit", "kit 8\n")
+        status, said = self.run_it()
+        self.assertEqual(status, 0)
+        self.assertTrue(any("differ" in line for line in said))
+
+    def test_each_failure_stops_it(self):
+        self.stops(f"failed: {self.root}/bin/rt fmt --check", UNTIDY="1")
+        self.script("tools/checks/05-bad", "#!/bin/sh\nexit 3\n")
+        self.stops("failed: tools/checks/05-bad")
+        (self.root / "tools/checks/05-bad").chmod(0o644)
+        self.stops("tools/checks/05-bad is not executable")
+        self.write("crates/lost/src/lib.rt", "")
+        self.stops("crates.txt does not list crates/lost")
+        self.script("tools/reading", "#!/bin/sh\nexit 1\n")
+        self.stops("failed: tools/reading --check")
+
+
+if __name__ == "__main__":
+    unittest.main()
