@@ -67,7 +67,9 @@ fn marked_among(s: [Character; 16], count: u8) -> bool
 
 impl Queue {
     pub const SLOTS: u8 = 16;
+
     pub const CAPACITY_16450: u8 = 1;
+
     pub const CAPACITY_FIFO: u8 = 16;
 
     pub fn empty() -> Self

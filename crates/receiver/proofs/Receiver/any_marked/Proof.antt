@@ -1,0 +1,15 @@
+use Rattle.base.specs.PickLaws.{pick-true, pick-false}
+use Rattle.receiver.specs.Receiver.{someMarked}
+use borrow.Author.Needs.{needs}
+use Rattle.receiver.proofs.Receiver.any_marked.Statement.{statement}
+use Rattle.receiver.proofs.Receiver.any_marked.Tie as tie
+
+any-marked-requires : tie.Need-any-marked-requires
+any-marked-requires c κs = search needs
+
+returns : tie.Need-returns
+unfolding someMarked
+returns c = simp (← c .any-marked .ensures, pick-true, pick-false)
+
+pub any-marked-spec : {M : Type 1} → statement M
+any-marked-spec = tie.close (tie.spec any-marked-requires returns)

@@ -1,0 +1,15 @@
+use Rattle.base.specs.PickLaws.{pick-true, pick-false}
+use Rattle.receiver.specs.Receiver.{cleared}
+use borrow.Author.Needs.{needs}
+use Rattle.receiver.proofs.Receiver.clear.Statement.{statement}
+use Rattle.receiver.proofs.Receiver.clear.Tie as tie
+
+emptied-requires : tie.Need-emptied-requires
+emptied-requires c κs = search needs
+
+returns : tie.Need-returns
+unfolding cleared
+returns c = simp (← c .emptied .ensures, pick-true, pick-false)
+
+pub clear-spec : {M : Type 1} → statement M
+clear-spec = tie.close (tie.spec emptied-requires returns)

@@ -1,0 +1,11 @@
+use Rattle.base.specs.PickLaws.{tests}
+use Rattle.receiver.specs.Receiver.{timeoutStands}
+use Rattle.receiver.proofs.Receiver.timed_out.Statement.{statement}
+use Rattle.receiver.proofs.Receiver.timed_out.Tie as tie
+
+returns : tie.Need-returns
+unfolding timeoutStands
+returns c = search tests
+
+pub timed-out-spec : {M : Type 1} → statement M
+timed-out-spec = tie.close (tie.spec returns)

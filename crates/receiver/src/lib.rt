@@ -1,0 +1,158 @@
+// The receive side of a channel: the queue, overrun, kept marks, the time-out count and the last byte read.
+// `fifo` is the mode in every call; the channel has it in its FCR.
+use queue::Character;
+use queue::Queue;
+ghost use mathlib.Core.Path.{_≡_};
+ghost use Rattle.receiver.specs.Receiver.{quiet, noneQueued, received, got, shownMarks, someMarked, looked, waited, cleared, turned, restarted, dataStands, timeoutStands};
+
+pub struct Receiver {
+    pub queue: Queue,
+    pub overrun: bool,
+    pub kept: u8,
+    pub timeout: u8,
+    pub last: u8,
+}
+
+pub struct Got {
+    pub receiver: Receiver,
+    pub byte: u8,
+}
+
+impl Receiver {
+    // A time-out stands once this many character times have passed over a waiting character.
+    pub const TIMEOUT: u8 = 4;
+
+    pub fn power_up() -> Self
+        ensures { λ r. ⌜ r ≡ quiet ⌝ }
+    {
+        Receiver {
+            queue: Queue::empty(),
+            overrun: false,
+            kept: 0,
+            timeout: 0,
+            last: 0,
+        }
+    }
+
+    pub fn is_empty(self) -> bool
+        ensures { λ r. ⌜ r ≡ noneQueued self ⌝ }
+    {
+        self.queue.count == 0
+    }
+
+    pub fn receive(mut self, fifo: bool, ch: Character) -> Self
+        ensures { λ r. ⌜ r ≡ received fifo self ch ⌝ }
+    {
+        let waiting = self.queue;
+        let put = waiting.accept(fifo, ch);
+        let next = put.queue;
+        self.queue = next;
+        self.overrun = self.overrun | put.full;
+        self.kept = base::pick_byte(fifo, self.kept, self.kept | ch.marks);
+        self.timeout = 0;
+        self
+    }
+
+    pub fn get(mut self) -> Got
+        ensures { λ r. ⌜ r ≡ got self ⌝ }
+    {
+        let none = self.is_empty();
+        if none {
+            return Got {
+                receiver: self,
+                byte: self.last,
+            };
+        }
+        let waiting = self.queue;
+        let taken = waiting.take();
+        let rest = taken.queue;
+        self.queue = rest;
+        self.timeout = 0;
+        self.last = taken.character.data;
+        Got {
+            receiver: self,
+            byte: taken.character.data,
+        }
+    }
+
+    pub fn marks(self, fifo: bool) -> u8
+        ensures { λ r. ⌜ r ≡ shownMarks fifo self ⌝ }
+    {
+        let waiting = self.queue;
+        let oldest = waiting.first();
+        base::pick_byte(fifo, oldest.marks, self.kept)
+    }
+
+    pub fn any_marked(self, fifo: bool) -> bool
+        ensures { λ r. ⌜ r ≡ someMarked fifo self ⌝ }
+    {
+        let waiting = self.queue;
+        let marked = waiting.any_marked();
+        fifo & marked
+    }
+
+    pub fn look(mut self, fifo: bool) -> Self
+        ensures { λ r. ⌜ r ≡ looked fifo self ⌝ }
+    {
+        self.overrun = false;
+        if fifo {
+            let waiting = self.queue;
+            let shown = waiting.unmark();
+            self.queue = shown;
+            return self;
+        }
+        self.kept = 0;
+        self
+    }
+
+    pub fn wait(mut self, fifo: bool) -> Self
+        ensures { λ r. ⌜ r ≡ waited fifo self ⌝ }
+    {
+        let none = self.is_empty();
+        let counts = fifo & !none & (self.timeout < Receiver::TIMEOUT);
+        if counts {
+            self.timeout = self.timeout + 1;
+            return self;
+        }
+        self
+    }
+
+    pub fn clear(mut self) -> Self
+        ensures { λ r. ⌜ r ≡ cleared self ⌝ }
+    {
+        let waiting = self.queue;
+        let none = waiting.emptied();
+        self.queue = none;
+        self.timeout = 0;
+        self
+    }
+
+    pub fn turn(self) -> Self
+        ensures { λ r. ⌜ r ≡ turned self ⌝ }
+    {
+        let mut next = self.clear();
+        next.kept = 0;
+        next
+    }
+
+    pub fn restart(self) -> Self
+        ensures { λ r. ⌜ r ≡ restarted self ⌝ }
+    {
+        let mut next = self.turn();
+        next.overrun = false;
+        next
+    }
+
+    pub fn data(self, fifo: bool, trigger: u8) -> bool
+        ensures { λ r. ⌜ r ≡ dataStands fifo trigger self ⌝ }
+    {
+        let none = self.is_empty();
+        base::pick_flag(fifo, trigger <= self.queue.count, !none)
+    }
+
+    pub fn timed_out(self) -> bool
+        ensures { λ r. ⌜ r ≡ timeoutStands self ⌝ }
+    {
+        self.timeout == Receiver::TIMEOUT
+    }
+}

@@ -1,0 +1,44 @@
+#include "listing.h"
+
+#include <inttypes.h>
+#include <stdio.h>
+
+#include "bench.h"
+#include "output.h"
+#include "records.h"
+
+/* "record number in decimal from 0, refusal number (0 for none), answer in
+   three hex capitals, output after the event; single spaces" */
+static void print_line(uint64_t number, struct outcome outcome, unsigned output)
+{
+    printf("%" PRIu64 " %u %03X %u\n", number, (unsigned)outcome.refusal, outcome.answer, output);
+}
+
+static void print_record(const uint8_t *record, size_t length)
+{
+    for (size_t i = 0; i < length; i += 1)
+        printf("%02X", (unsigned)record[i]);
+    printf(" ");
+}
+
+int listing_run(bool with_records)
+{
+    struct bench bench = bench_at_power_up();
+    struct records records;
+    uint8_t record[RECORD_BYTES];
+    records_begin(&records, stdin);
+
+    size_t length = records_next(&records, record);
+    for (uint64_t number = 0; length > 0; number += 1) {
+        /* "record of 1 to 3 bytes at the end of input" */
+        bool whole = length == RECORD_BYTES;
+        struct outcome outcome =
+            whole ? bench_event(&bench, record_event(record)) : refused(REFUSAL_SHORT);
+        if (with_records)
+            print_record(record, length);
+        print_line(number, outcome, bench_output(&bench));
+        /* "It stops after refusal 4." */
+        length = whole ? records_next(&records, record) : 0;
+    }
+    return output_result(ferror(stdin) != 0 ? 1 : 0);
+}

@@ -1,0 +1,12 @@
+#ifndef OUTPUT_H
+#define OUTPUT_H
+
+#include <stdio.h>
+
+/* A command's result, once all it printed has gone out; 1 if it has not. */
+static inline int output_result(int result)
+{
+    return fflush(stdout) != 0 || ferror(stdout) != 0 ? 1 : result;
+}
+
+#endif

@@ -1,0 +1,24 @@
+#ifndef TRIALS_H
+#define TRIALS_H
+
+#include <stddef.h>
+#include <stdint.h>
+
+struct trial {
+    uint32_t seed;
+    uint64_t count;
+};
+
+#define TRIALS 16U
+
+/* The streams that are run each time. */
+extern const struct trial trials[TRIALS];
+
+/* One stream, or all of the list: a line each of seed, count and digest. */
+int trials_run_one(struct trial trial);
+int trials_run_all(void);
+
+/* The stream's four-byte records on standard output. */
+int trials_generate(struct trial trial);
+
+#endif
