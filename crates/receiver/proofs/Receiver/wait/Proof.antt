@@ -1,4 +1,5 @@
 use native.Mathlib.Omega.{arith}
+use lib.Dec.{ltb}
 use borrow.Author.Tests.{ltb-true}
 use Rattle.base.specs.PickLaws.{pick-true, pick-false, both-hold}
 use Rattle.receiver.specs.Receiver.{waited}
@@ -10,7 +11,8 @@ is-empty-requires : tie.Need-is-empty-requires
 is-empty-requires c κs = search needs
 
 add-self : tie.Need-add-self
-add-self c = omega (arith, ltb-true _ 4 (both-hold _ _ (c .before .if1 .taken) .1))
+add-self c =
+    omega (arith, ltb-true (c .before .before .before .before .args .self .timeout) 4 (both-hold _ (ltb (c .before .before .before .before .args .self .timeout) 4) (c .before .if1 .taken) .1))
 
 returns : tie.Need-returns
 unfolding waited

@@ -1,0 +1,5 @@
+pub mod Parts
+pub mod Registers
+pub mod Status
+pub mod Effects
+pub mod Steps
