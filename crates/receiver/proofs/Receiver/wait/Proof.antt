@@ -1,3 +1,4 @@
+use mathlib.Core.Bool.{not, _&&_}
 use native.Mathlib.Omega.{arith}
 use lib.Dec.{ltb}
 use borrow.Author.Tests.{ltb-true}
@@ -12,7 +13,9 @@ is-empty-requires c κs = search needs
 
 add-self : tie.Need-add-self
 add-self c =
-    omega (arith, ltb-true (c .before .before .before .before .args .self .timeout) 4 (both-hold _ (ltb (c .before .before .before .before .args .self .timeout) 4) (c .before .if1 .taken) .1))
+    let a = c .before .before .before .before .args in
+    let none = c .before .before .before .is-empty .result in
+    omega (arith, ltb-true (a .self .timeout) 4 (both-hold (a .fifo && not none) (ltb (a .self .timeout) 4) (c .before .if1 .taken) .1))
 
 returns : tie.Need-returns
 unfolding waited
