@@ -80,7 +80,8 @@ fn digit(b: bool) -> u8
     if b { 1 } else { 0 }
 }
 
-fn nibble(b0: bool, b1: bool, b2: bool, b3: bool) -> u8
+// The number below 16 whose bits are these, bit 0 first.
+pub fn nibble(b0: bool, b1: bool, b2: bool, b3: bool) -> u8
     ensures { λ r. ⌜ (r ≡ bits (b0 ∷ b1 ∷ b2 ∷ b3 ∷ [])) × (r ≤ 15) ⌝ }
 {
     digit(b0) + 2 * (digit(b1) + 2 * (digit(b2) + 2 * digit(b3)))

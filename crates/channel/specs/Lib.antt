@@ -3,3 +3,4 @@ pub mod Registers
 pub mod Status
 pub mod Effects
 pub mod Steps
+pub mod StatusLaws

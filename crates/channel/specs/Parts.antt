@@ -18,7 +18,7 @@ powerUp =
       settings = record { ier = 0; fcr = 0; lcr = 0; mcr = 0; scratch = 0; dll = 0; dlm = 0 };
       receiver = quiet;
       transmitter = still;
-      modem = record { levels = 0; changes = 0 }
+      modem = record { levels = 0; changes = 0 };
     }
 
 -- "Master reset: IER, FCR, LCR, MCR, MSR bits 0-3, queues, shift register, overrun, marks, holding-empty flag and time-out count cleared;
@@ -29,7 +29,7 @@ masterReset c =
       settings = record { ier = 0; fcr = 0; lcr = 0; mcr = 0; scratch = c .settings .scratch; dll = c .settings .dll; dlm = c .settings .dlm };
       receiver = restarted (c .receiver);
       transmitter = still;
-      modem = record { levels = c .modem .levels; changes = 0 }
+      modem = record { levels = c .modem .levels; changes = 0 };
     }
 
 -- the channel with another part

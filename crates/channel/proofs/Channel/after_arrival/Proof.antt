@@ -1,0 +1,18 @@
+use Rattle.base.specs.PickLaws.{pick-true, pick-false}
+use Rattle.channel.specs.Effects.{afterArrival}
+use borrow.Author.Needs.{needs}
+use Rattle.channel.proofs.Channel.after_arrival.Statement.{statement}
+use Rattle.channel.proofs.Channel.after_arrival.Tie as tie
+
+is-fifo-requires : tie.Need-is-fifo-requires
+is-fifo-requires c κs = search needs
+
+receive-requires : tie.Need-receive-requires
+receive-requires c κs = search needs
+
+returns : tie.Need-returns
+unfolding afterArrival
+returns c = simp (← c .receive .ensures, ← c .before .before .is-fifo .ensures, pick-true, pick-false)
+
+pub after-arrival-spec : {M : Type 1} → statement M
+after-arrival-spec = tie.close (tie.spec is-fifo-requires receive-requires returns)

@@ -1,0 +1,151 @@
+-- What an accepted event does to a channel, and what it is answered with.
+use Prim.Native.Nat.{ℕ}
+use mathlib.Core.Bool.{Bool, true, false, not, _&&_, _||_}
+use mathlib.Core.List.{[], _∷_}
+use lib.Dec.{eqb}
+use Rattle.base.specs.Pick.{pick}
+use Rattle.base.specs.Bits.{bit, bits}
+use Rattle.base.specs.declared.Answer.{Answer}
+use Rattle.base.specs.declared.Answer.the-variants.{Byte, Done, Sent, Idle, Break}
+use Rattle.queue.specs.declared.Character.{Character}
+use Rattle.receiver.specs.declared.Receiver.{Receiver}
+use Rattle.receiver.specs.Receiver.{received, got, looked, waited, cleared, turned}
+use Rattle.transmitter.specs.declared.Transmitter.{Transmitter}
+use Rattle.transmitter.specs.Transmitter.{flagCleared, written, emptied, shifted, enabled}
+use Rattle.channel.specs.declared.Channel.{Channel}
+use Rattle.channel.specs.declared.Register.{Register}
+use Rattle.channel.specs.declared.Register.the-variants.{RbrThr, Ier, IirFcr, Lcr, Mcr, Lsr, Msr, Scratch, Dll, Dlm}
+use Rattle.channel.specs.Parts.{withSettings, withReceiver, withTransmitter, withModem, fifo, cut}
+use Rattle.channel.specs.Registers.{ierKept, mcrKept, fcrKept, withIer, withFcr, withLcr, withMcr, withScratch, withDll, withDlm}
+use Rattle.channel.specs.Status.{lsr, msr, inputs, cause, iir}
+
+-- ---- reads
+
+-- "A read that named 02 clears that flag."
+unfoldable pub iirRead : Channel → Channel
+iirRead c = withTransmitter c (pick (eqb (cause c) 0x02) (flagCleared (c .transmitter)) (c .transmitter))
+
+-- "A read clears overrun, and the marks it showed, after answering."
+unfoldable pub lsrRead : Channel → Channel
+lsrRead c = withReceiver c (looked (fifo c) (c .receiver))
+
+-- "A read clears bits 0-3 after answering."
+unfoldable pub msrRead : Channel → Channel
+msrRead c = withModem c (record { levels = c .modem .levels; changes = 0 })
+
+-- "read register": "the byte"
+unfoldable pub byteAt : Channel → Register → ℕ
+byteAt c RbrThr = got (c .receiver) .byte
+byteAt c Ier = c .settings .ier
+byteAt c IirFcr = iir c
+byteAt c Lcr = c .settings .lcr
+byteAt c Mcr = c .settings .mcr
+byteAt c Lsr = lsr c
+byteAt c Msr = msr c
+byteAt c Scratch = c .settings .scratch
+byteAt c Dll = c .settings .dll
+byteAt c Dlm = c .settings .dlm
+
+-- what a read leaves: four registers change something when they are read
+unfoldable pub afterRead : Channel → Register → Channel
+afterRead c RbrThr = withReceiver c (got (c .receiver) .receiver)
+afterRead c Ier = c
+afterRead c IirFcr = iirRead c
+afterRead c Lcr = c
+afterRead c Mcr = c
+afterRead c Lsr = lsrRead c
+afterRead c Msr = msrRead c
+afterRead c Scratch = c
+afterRead c Dll = c
+afterRead c Dlm = c
+
+-- ---- writes
+
+-- "IER write that turns bit 1 from 0 to 1 with the transmit queue empty sets the holding-empty flag."
+unfoldable pub ierWritten : Channel → ℕ → Channel
+ierWritten c byte =
+    record {
+      settings = withIer (c .settings) (ierKept byte);
+      receiver = c .receiver;
+      transmitter = pick (not (bit 1 (c .settings .ier)) && bit 1 byte) (enabled (c .transmitter)) (c .transmitter);
+      modem = c .modem;
+    }
+
+-- "A changed bit 0 empties both"
+unfoldable pub modeChanged : Channel → ℕ → Bool
+modeChanged c byte = (fifo c && not (bit 0 byte)) || (not (fifo c) && bit 0 byte)
+
+-- "Bit 0 set": "bit 1 empties the receive queue"; "A changed bit 0 empties both and clears kept marks."
+unfoldable pub fcrReceiver : Channel → ℕ → Receiver
+fcrReceiver c byte =
+    pick (modeChanged c byte) (turned (c .receiver))
+    (pick (bit 0 byte && bit 1 byte) (cleared (c .receiver)) (c .receiver))
+
+-- "Bit 0 set": "bit 2 the transmit queue"; "A changed bit 0 empties both"
+unfoldable pub fcrTransmitter : Channel → ℕ → Transmitter
+fcrTransmitter c byte = pick (modeChanged c byte || (bit 0 byte && bit 2 byte)) (emptied (c .transmitter)) (c .transmitter)
+
+-- the FCR with what it empties
+unfoldable pub fcrWritten : Channel → ℕ → Channel
+fcrWritten c byte =
+    record {
+      settings = withFcr (c .settings) (fcrKept byte);
+      receiver = fcrReceiver c byte;
+      transmitter = fcrTransmitter c byte;
+      modem = c .modem;
+    }
+
+-- "write register". "Writes to LSR and MSR are accepted and change nothing."
+unfoldable pub afterWrite : Channel → Register → ℕ → Channel
+afterWrite c RbrThr byte = withTransmitter c (written (fifo c) (c .transmitter) byte)
+afterWrite c Ier byte = ierWritten c byte
+afterWrite c IirFcr byte = fcrWritten c byte
+afterWrite c Lcr byte = withSettings c (withLcr (c .settings) byte)
+afterWrite c Mcr byte = withSettings c (withMcr (c .settings) (mcrKept byte))
+afterWrite c Lsr byte = c
+afterWrite c Msr byte = c
+afterWrite c Scratch byte = withSettings c (withScratch (c .settings) byte)
+afterWrite c Dll byte = withSettings c (withDll (c .settings) byte)
+afterWrite c Dlm byte = withSettings c (withDlm (c .settings) byte)
+
+-- ---- the wire
+
+-- "character arrives"
+unfoldable pub afterArrival : Channel → ℕ → ℕ → Channel
+afterArrival c marks byte = withReceiver c (received (fifo c) (c .receiver) (record { «data» = byte; marks = marks }))
+
+-- one of the two is set
+abbrev pub differ : Bool → Bool → Bool
+differ a b = (a && not b) || (not a && b)
+
+-- "bits 0, 1, 3 set when CTS, DSR, DCD change; bit 2 when RI goes from active to inactive": the changes that stand, with those from the
+-- inputs before to the inputs after
+unfoldable pub changesAfter : ℕ → ℕ → ℕ → ℕ
+changesAfter changes before after =
+    bits
+    ((bit 0 changes || differ (bit 0 before) (bit 0 after))
+    ∷ (bit 1 changes || differ (bit 1 before) (bit 1 after))
+    ∷ (bit 2 changes || (bit 2 before && not (bit 2 after)))
+    ∷ (bit 3 changes || differ (bit 3 before) (bit 3 after))
+    ∷ [])
+
+-- "modem inputs": "levels (1 CTS, 2 DSR, 4 RI, 8 DCD; set = active)"
+unfoldable pub afterLevels : Channel → ℕ → Channel
+afterLevels c levels = withModem c (record { levels = levels; changes = changesAfter (c .modem .changes) (inputs c) levels })
+
+-- "one character time passes": "a character in the shift register leaves, cut to the word length; the oldest queued moves in"; "in FIFO mode
+-- with a character in the receive queue the time-out count rises, up to 4"
+unfoldable pub afterTime : Channel → Channel
+afterTime c =
+    record {
+      settings = c .settings;
+      receiver = waited (fifo c) (c .receiver);
+      transmitter = shifted (c .transmitter);
+      modem = c .modem;
+    }
+
+-- "the byte sent; 100 idle; 200 break". "With LCR bit 6 set the answer is 200, and all else goes on."
+unfoldable pub timeAnswer : Channel → Answer
+timeAnswer c =
+    pick (bit 6 (c .settings .lcr)) Break
+    (pick (c .transmitter .busy) (Sent (cut (c .settings .lcr) (c .transmitter .shift))) Idle)

@@ -1,0 +1,117 @@
+// One TL16C552A channel, register by register: the state, its parts, and one event at a time.
+use base::Answer;
+use receiver::Receiver;
+use transmitter::Transmitter;
+
+mod reads;
+mod refusals;
+mod registers;
+mod status;
+mod wire;
+mod writes;
+
+ghost use mathlib.Core.Path.{_≡_};
+ghost use Rattle.channel.specs.Parts.{powerUp, masterReset};
+ghost use Rattle.channel.specs.Steps.{stepped};
+
+pub struct Settings {
+    pub ier: u8,
+    pub fcr: u8,
+    pub lcr: u8,
+    pub mcr: u8,
+    pub scratch: u8,
+    pub dll: u8,
+    pub dlm: u8,
+}
+
+// `levels` are the inputs last given, `changes` the bits 0 to 3 of the MSR.
+pub struct Modem {
+    pub levels: u8,
+    pub changes: u8,
+}
+
+pub struct Channel {
+    pub settings: Settings,
+    pub receiver: Receiver,
+    pub transmitter: Transmitter,
+    pub modem: Modem,
+}
+
+pub enum Register {
+    RbrThr,
+    Ier,
+    IirFcr,
+    Lcr,
+    Mcr,
+    Lsr,
+    Msr,
+    Scratch,
+    Dll,
+    Dlm,
+}
+
+// What can happen to a seat.
+pub enum SeatEvent {
+    Read(u8),
+    Write(u8, u8),
+    Arrival(u8, u8),
+    Levels(u8),
+    Time,
+}
+
+pub struct Stepped {
+    pub channel: Channel,
+    pub answer: Answer,
+}
+
+impl Channel {
+    pub fn power_up() -> Self
+        ensures { λ r. ⌜ r ≡ powerUp ⌝ }
+    {
+        Channel {
+            settings: Settings {
+                ier: 0,
+                fcr: 0,
+                lcr: 0,
+                mcr: 0,
+                scratch: 0,
+                dll: 0,
+                dlm: 0,
+            },
+            receiver: Receiver::power_up(),
+            transmitter: Transmitter::power_up(),
+            modem: Modem {
+                levels: 0,
+                changes: 0,
+            },
+        }
+    }
+
+    pub fn master_reset(mut self) -> Self
+        ensures { λ r. ⌜ r ≡ masterReset self ⌝ }
+    {
+        self.settings.ier = 0;
+        self.settings.fcr = 0;
+        self.settings.lcr = 0;
+        self.settings.mcr = 0;
+        let heard = self.receiver;
+        let quiet = heard.restart();
+        self.receiver = quiet;
+        let still = Transmitter::power_up();
+        self.transmitter = still;
+        self.modem.changes = 0;
+        self
+    }
+
+    pub fn step(self, e: SeatEvent) -> Stepped
+        ensures { λ r. ⌜ r ≡ stepped self e ⌝ }
+    {
+        match e {
+            SeatEvent::Read(number) => self.read(number),
+            SeatEvent::Write(number, byte) => self.write(number, byte),
+            SeatEvent::Arrival(marks, byte) => self.arrive(marks, byte),
+            SeatEvent::Levels(levels) => self.modem_inputs(levels),
+            SeatEvent::Time => self.character_time(),
+        }
+    }
+}
