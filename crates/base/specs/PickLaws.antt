@@ -1,8 +1,9 @@
 -- What a choice by a test gives, and the rules by which a branch of the code settles it.
 use Prim.Native.Nat.{ℕ, _≤_}
-use mathlib.Core.Bool.{Bool, true, false}
+use mathlib.Core.Bool.{Bool, true, false, _&&_}
 use mathlib.Core.Path.{_≡_, refl}
 use mathlib.Core.Logic.{_⊎_, inl, inr}
+use native.Mathlib.Omega.{arith}
 use borrow.Author.Tests.{lt-ltb, le-ltb, le-leb, lt-leb, eq-eqb, ne-eqb}
 use borrow.Author.Needs.{needs}
 use Rattle.base.specs.Pick.{pick}
@@ -36,6 +37,15 @@ pick-through f false x y = refl
 pub either-way : (b : Bool) → (b ≡ true) ⊎ (b ≡ false)
 either-way true = inl refl
 either-way false = inr refl
+
+-- and never both
+pub not-both : {b : Bool} → b ≡ true → b ≡ false → ⊥
+not-both holds fails = let z : _≡_ {A = ℕ} 0 1 = cc in omega arith
+
+-- both parts of a test that holds
+pub both-hold : (a b : Bool) → (a && b) ≡ true → (a ≡ true) × (b ≡ true)
+both-hold true b e = (refl, e)
+both-hold false b e = absurd (not-both e refl)
 
 -- the rules for `search` at the end of a branch
 pub ruleset tests = (pick-true, pick-false, lt-ltb, le-ltb, le-leb, lt-leb, eq-eqb, ne-eqb, needs)
