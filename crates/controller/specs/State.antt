@@ -1,0 +1,65 @@
+-- The state of a controller: power-up, the stages of its initialisation, and its parts one by one.
+use Prim.Native.Nat.{ℕ}
+use mathlib.Core.Bool.{Bool, true, false, _||_}
+use lib.Dec.{eqb}
+use Rattle.controller.specs.declared.Controller.{Controller}
+use Rattle.controller.specs.declared.Lines.{Lines}
+use Rattle.controller.specs.declared.Setup.{Setup}
+use Rattle.controller.specs.declared.Operation.{Operation}
+
+-- "At power-up it is not ready; all is 0 and line 0 ranks first."
+abbrev pub powerUp : Controller
+powerUp =
+    record {
+      lines = record { levels = 0; latches = 0 };
+      setup = record { stage = 0; level = false; base = 0; automatic = false };
+      operation = record { mask = 0; service = 0; first = 0; rotation = false; special = false; selected = false };
+    }
+
+-- "ICW1 is port 0 with bit 4 set; then ICW2 and ICW4 at port 1, then ready."
+abbrev pub awaitsIcw2 : Controller → Bool
+awaitsIcw2 c = eqb (c .setup .stage) 1
+
+abbrev pub awaitsIcw4 : Controller → Bool
+awaitsIcw4 c = eqb (c .setup .stage) 2
+
+abbrev pub ready : Controller → Bool
+ready c = eqb (c .setup .stage) 3
+
+-- "then ICW2 and ICW4": the stage after ICW2
+abbrev pub afterIcw2 : ℕ
+afterIcw2 = 2
+
+-- "before any accepted ICW1": not so
+abbrev pub begun : Controller → Bool
+begun c = awaitsIcw2 c || awaitsIcw4 c || ready c
+
+-- one part anew
+abbrev pub withLines : Controller → Lines → Controller
+withLines c l = record { lines = l; setup = c .setup; operation = c .operation }
+
+abbrev pub withSetup : Controller → Setup → Controller
+withSetup c s = record { lines = c .lines; setup = s; operation = c .operation }
+
+abbrev pub withOperation : Controller → Operation → Controller
+withOperation c o = record { lines = c .lines; setup = c .setup; operation = o }
+
+abbrev pub withMask : Controller → ℕ → Controller
+withMask c m =
+    let o = c .operation in
+    withOperation c (record { mask = m; service = o .service; first = o .first; rotation = o .rotation; special = o .special; selected = o .selected })
+
+abbrev pub withService : Controller → ℕ → Controller
+withService c s =
+    let o = c .operation in
+    withOperation c (record { mask = o .mask; service = s; first = o .first; rotation = o .rotation; special = o .special; selected = o .selected })
+
+abbrev pub withFirst : Controller → ℕ → Controller
+withFirst c n =
+    let o = c .operation in
+    withOperation c (record { mask = o .mask; service = o .service; first = n; rotation = o .rotation; special = o .special; selected = o .selected })
+
+abbrev pub withRotation : Controller → Bool → Controller
+withRotation c b =
+    let o = c .operation in
+    withOperation c (record { mask = o .mask; service = o .service; first = o .first; rotation = b; special = o .special; selected = o .selected })
