@@ -8,7 +8,7 @@ use Rattle.base.specs.Bits.{bit}
 use Rattle.controller.specs.State.{ready, begun, awaitsIcw4}
 use Rattle.controller.specs.Signals.{Signal, levels, read, write, acknowledge}
 use Rattle.controller.specs.Words.{isIcw1, isOcw3}
-use Rattle.controller.specs.declared.Controller.{Controller}
+use Rattle.controller.specs.declared.Setup.{Setup}
 
 -- "The order is": the first number whose condition holds, "0 for none"
 unfoldable pub firstHolding : List (ℕ × Bool) → ℕ
@@ -27,29 +27,29 @@ portAbove (write port b) = ltb 1 port
 portAbove acknowledge = false
 
 -- 8: "controller not ready: any read, an acknowledge, a port 0 write without bit 4, or a port 1 write before any accepted ICW1"
-abbrev pub notReady : Controller → Signal → Bool
-notReady c (levels high) = false
-notReady c (read port) = not (ready c)
-notReady c (write port b) = not (ready c) && (eqb port 0 && not (bit 4 b) || eqb port 1 && not (begun c))
-notReady c acknowledge = not (ready c)
+abbrev pub notReady : Setup → Signal → Bool
+notReady s (levels high) = false
+notReady s (read port) = not (ready s)
+notReady s (write port b) = not (ready s) && (eqb port 0 && not (bit 4 b) || eqb port 1 && not (begun s))
+notReady s acknowledge = not (ready s)
 
 -- "ICW1 with bit 0 or bit 1 clear": the test of ICW1
 abbrev pub icw1Served : ℕ → Bool
 icw1Served b = bit 0 b && bit 1 b
 
 -- 9: "not served: ICW1 with bit 0 or bit 1 clear; ICW4 with bit 0 clear; OCW3 with bit 2 set"
-abbrev pub notServed : Controller → Signal → Bool
-notServed c (levels high) = false
-notServed c (read port) = false
-notServed c (write port b) =
+abbrev pub notServed : Setup → Signal → Bool
+notServed s (levels high) = false
+notServed s (read port) = false
+notServed s (write port b) =
     eqb port 0 && isIcw1 b && not (icw1Served b)
-    || eqb port 1 && awaitsIcw4 c && not (bit 0 b)
+    || eqb port 1 && awaitsIcw4 s && not (bit 0 b)
     || eqb port 0 && isOcw3 b && bit 2 b
-notServed c acknowledge = false
+notServed s acknowledge = false
 
 -- "The order is 4, 3, 1, 2, then 5, 6, 7, 8, 9.": of these, those that a controller can give
-unfoldable pub refusal : Controller → Signal → ℕ
-refusal c s = firstHolding ((2, portAbove s) ∷ (8, notReady c s) ∷ (9, notServed c s) ∷ [])
+unfoldable pub refusal : Setup → Signal → ℕ
+refusal s signal = firstHolding ((2, portAbove signal) ∷ (8, notReady s signal) ∷ (9, notServed s signal) ∷ [])
 
 -- "line above 7 gives refusal 1"
 unfoldable pub placeRefusal : ℕ → ℕ

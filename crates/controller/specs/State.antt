@@ -17,22 +17,22 @@ powerUp =
     }
 
 -- "ICW1 is port 0 with bit 4 set; then ICW2 and ICW4 at port 1, then ready."
-abbrev pub awaitsIcw2 : Controller → Bool
-awaitsIcw2 c = eqb (c .setup .stage) 1
+abbrev pub awaitsIcw2 : Setup → Bool
+awaitsIcw2 s = eqb (s .stage) 1
 
-abbrev pub awaitsIcw4 : Controller → Bool
-awaitsIcw4 c = eqb (c .setup .stage) 2
+abbrev pub awaitsIcw4 : Setup → Bool
+awaitsIcw4 s = eqb (s .stage) 2
 
-abbrev pub ready : Controller → Bool
-ready c = eqb (c .setup .stage) 3
+abbrev pub ready : Setup → Bool
+ready s = eqb (s .stage) 3
 
 -- "then ICW2 and ICW4": the stage after ICW2
 abbrev pub afterIcw2 : ℕ
 afterIcw2 = 2
 
--- "before any accepted ICW1": not so
-abbrev pub begun : Controller → Bool
-begun c = awaitsIcw2 c || awaitsIcw4 c || ready c
+-- "before any accepted ICW1" is what this is not
+abbrev pub begun : Setup → Bool
+begun s = awaitsIcw2 s || awaitsIcw4 s || ready s
 
 -- one part anew
 abbrev pub withLines : Controller → Lines → Controller
@@ -44,22 +44,14 @@ withSetup c s = record { lines = c .lines; setup = s; operation = c .operation }
 abbrev pub withOperation : Controller → Operation → Controller
 withOperation c o = record { lines = c .lines; setup = c .setup; operation = o }
 
-abbrev pub withMask : Controller → ℕ → Controller
-withMask c m =
-    let o = c .operation in
-    withOperation c (record { mask = m; service = o .service; first = o .first; rotation = o .rotation; special = o .special; selected = o .selected })
+abbrev pub withMask : Operation → ℕ → Operation
+withMask o m = record { mask = m; service = o .service; first = o .first; rotation = o .rotation; special = o .special; selected = o .selected }
 
-abbrev pub withService : Controller → ℕ → Controller
-withService c s =
-    let o = c .operation in
-    withOperation c (record { mask = o .mask; service = s; first = o .first; rotation = o .rotation; special = o .special; selected = o .selected })
+abbrev pub withService : Operation → ℕ → Operation
+withService o s = record { mask = o .mask; service = s; first = o .first; rotation = o .rotation; special = o .special; selected = o .selected }
 
-abbrev pub withFirst : Controller → ℕ → Controller
-withFirst c n =
-    let o = c .operation in
-    withOperation c (record { mask = o .mask; service = o .service; first = n; rotation = o .rotation; special = o .special; selected = o .selected })
+abbrev pub withFirst : Operation → ℕ → Operation
+withFirst o n = record { mask = o .mask; service = o .service; first = n; rotation = o .rotation; special = o .special; selected = o .selected }
 
-abbrev pub withRotation : Controller → Bool → Controller
-withRotation c b =
-    let o = c .operation in
-    withOperation c (record { mask = o .mask; service = o .service; first = o .first; rotation = b; special = o .special; selected = o .selected })
+abbrev pub withRotation : Operation → Bool → Operation
+withRotation o b = record { mask = o .mask; service = o .service; first = o .first; rotation = b; special = o .special; selected = o .selected }

@@ -21,7 +21,8 @@ effect c acknowledge = acknowledged c
 
 -- "The answer of every refusal is FFF and nothing changes."
 unfoldable pub step : Controller → Signal → Stepped
-step c s = pick (eqb (refusal c s) 0) (effect c s) (record { controller = c; answer = Refused (refusal c s) })
+step c signal =
+    pick (eqb (refusal (c .setup) signal) 0) (effect c signal) (record { controller = c; answer = Refused (refusal (c .setup) signal) })
 
 -- "a line's place in turn (the number of lines ranked above it; line above 7 gives refusal 1)"
 unfoldable pub placed : Controller → ℕ → Answer

@@ -12,6 +12,7 @@ use Rattle.rank.specs.RankLaws.{first-agree, some-found}
 use Rattle.rank.specs.AboveLaws.{first-above}
 use Rattle.controller.specs.Turns.{requests, asks, hinders, asking, hindering, grantable, grantablePlace}
 use Rattle.controller.specs.declared.Controller.{Controller}
+use Rattle.controller.specs.declared.Operation.{Operation}
 
 pub has-asking : (c : Controller) (n : ℕ) → has (asking c) n ≡ asks c n
 unfolding asking asks
@@ -27,27 +28,27 @@ unmasked false service mask n = sym (both-true (has service n))
     both-true true = refl
     both-true false = refl
 
-pub has-hindering : (c : Controller) (n : ℕ) → has (hindering c) n ≡ hinders c n
+pub has-hindering : (o : Operation) (n : ℕ) → has (hindering o) n ≡ hinders o n
 unfolding hindering hinders
-has-hindering c n = unmasked (c .operation .special) (c .operation .service) (c .operation .mask) n
+has-hindering o n = unmasked (o .special) (o .service) (o .mask) n
 
 -- the place of the first-ranked grantable line, as the code finds it
 pub grantable-place : (c : Controller)
     → firstPlace (c .operation .first) (grantable c)
-    ≡ pick (ltb (firstPlace (c .operation .first) (has (asking c))) (firstPlace (c .operation .first) (has (hindering c))))
+    ≡ pick (ltb (firstPlace (c .operation .first) (has (asking c))) (firstPlace (c .operation .first) (has (hindering (c .operation)))))
     (firstPlace (c .operation .first) (has (asking c))) 8
 unfolding grantable
 grantable-place c =
     let f = c .operation .first in
-    first-above f (asks c) (hinders c)
+    let o = c .operation in
+    first-above f (asks c) (hinders o)
     ∙ ap₂ (λ (a h : ℕ). pick (ltb a h) a 8)
     (sym (first-agree f (has (asking c)) (asks c) (λ n small. has-asking c n)))
-    (sym (first-agree f (has (hindering c)) (hinders c) (λ n small. has-hindering c n)))
+    (sym (first-agree f (has (hindering o)) (hinders o) (λ n small. has-hindering o n)))
 
 pub some-grantable : (c : Controller) → some (grantable c) ≡ ltb (firstPlace (c .operation .first) (grantable c)) 8
 some-grantable c = some-found (c .operation .first) (grantable c)
 
 -- the place of the line that a plain end takes
-pub served-place : (c : Controller)
-    → firstPlace (c .operation .first) (hinders c) ≡ firstPlace (c .operation .first) (has (hindering c))
-served-place c = sym (first-agree (c .operation .first) (has (hindering c)) (hinders c) (λ n small. has-hindering c n))
+pub served-place : (o : Operation) → firstPlace (o .first) (hinders o) ≡ firstPlace (o .first) (has (hindering o))
+served-place o = sym (first-agree (o .first) (has (hindering o)) (hinders o) (λ n small. has-hindering o n))

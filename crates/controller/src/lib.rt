@@ -51,7 +51,7 @@ pub enum Turn {
     Nobody,
 }
 
-impl Controller {
+impl Setup {
     // The stages of the initialisation.
     pub const UNBEGUN: u8 = 0;
 
@@ -60,7 +60,9 @@ impl Controller {
     pub const AWAITS_ICW4: u8 = 2;
 
     pub const READY: u8 = 3;
+}
 
+impl Controller {
     pub const PORT_0: u8 = 0;
 
     pub const PORT_1: u8 = 1;
@@ -74,7 +76,7 @@ impl Controller {
                 latches: 0,
             },
             setup: Setup {
-                stage: Controller::UNBEGUN,
+                stage: Setup::UNBEGUN,
                 level: false,
                 base: 0,
                 automatic: false,
@@ -104,15 +106,17 @@ impl Controller {
     pub fn output(self) -> bool
         ensures { λ r. ⌜ r ≡ outputOf self ⌝ }
     {
-        let up = self.ready();
-        let some = self.some_grantable();
-        up & some
+        let setup = self.setup;
+        let up = setup.ready();
+        let place = self.grantable_place();
+        up & (place < rank::LINES)
     }
 
     pub fn read(self, port: u8) -> base::Answer
         ensures { λ r. ⌜ r ≡ step self (read port) .answer ⌝ }
     {
-        let number = self.read_refusal(port);
+        let setup = self.setup;
+        let number = setup.read_refusal(port);
         if number == 0 {
             return base::Answer::Byte(self.shown(port));
         }
@@ -122,7 +126,8 @@ impl Controller {
     pub fn write(self, port: u8, byte: u8) -> Stepped
         ensures { λ r. ⌜ r ≡ step self (write port byte) ⌝ }
     {
-        let number = self.write_refusal(port, byte);
+        let setup = self.setup;
+        let number = setup.write_refusal(port, byte);
         if number == 0 {
             return Stepped {
                 controller: self.written(port, byte),
@@ -138,7 +143,8 @@ impl Controller {
     pub fn acknowledge(self) -> Stepped
         ensures { λ r. ⌜ r ≡ step self acknowledge ⌝ }
     {
-        let number = self.acknowledge_refusal();
+        let setup = self.setup;
+        let number = setup.acknowledge_refusal();
         if number == 0 {
             return self.acknowledged();
         }
@@ -152,7 +158,7 @@ impl Controller {
     pub fn place(self, line: u8) -> base::Answer
         ensures { λ r. ⌜ r ≡ placed self line ⌝ }
     {
-        let number = Controller::place_refusal(line);
+        let number = Setup::place_refusal(line);
         if number == 0 {
             return base::Answer::Place(rank::place(self.operation.first, line));
         }

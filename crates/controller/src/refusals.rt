@@ -4,8 +4,9 @@ ghost use Rattle.controller.specs.Signals.{read, write, acknowledge};
 ghost use Rattle.controller.specs.State.{ready, begun};
 ghost use Rattle.controller.specs.Refusals.{notReady, notServed, refusal, placeRefusal};
 use crate::Controller;
+use crate::Setup;
 
-impl Controller {
+impl Setup {
     const LINE_ABOVE: u8 = 1;
 
     const PORT_ABOVE: u8 = 2;
@@ -17,26 +18,25 @@ impl Controller {
     pub(crate) fn ready(self) -> bool
         ensures { λ r. ⌜ r ≡ ready self ⌝ }
     {
-        self.setup.stage == Controller::READY
+        self.stage == Setup::READY
     }
 
     fn begun(self) -> bool
         ensures { λ r. ⌜ r ≡ begun self ⌝ }
     {
-        let stage = self.setup.stage;
-        (stage == Controller::AWAITS_ICW2)
-            | (stage == Controller::AWAITS_ICW4)
-            | (stage == Controller::READY)
+        (self.stage == Setup::AWAITS_ICW2)
+            | (self.stage == Setup::AWAITS_ICW4)
+            | (self.stage == Setup::READY)
     }
 
-    // Not ready for a write to a port of 0 or 1.
+    // Not ready for a write to port 0 or 1.
     fn not_ready(self, port: u8, byte: u8) -> bool
         ensures { λ r. ⌜ r ≡ notReady self (write port byte) ⌝ }
     {
         let up = self.ready();
         let begun = self.begun();
-        let icw1 = base::bit(4, byte);
-        !up & ((port == Controller::PORT_0) & !icw1 | (port == Controller::PORT_1) & !begun)
+        let bit4 = base::bit(4, byte);
+        !up & ((port == Controller::PORT_0) & !bit4 | (port == Controller::PORT_1) & !begun)
     }
 
     // A word that is not served here.
@@ -48,7 +48,7 @@ impl Controller {
         let bit2 = base::bit(2, byte);
         let bit3 = base::bit(3, byte);
         let bit4 = base::bit(4, byte);
-        let icw4 = self.setup.stage == Controller::AWAITS_ICW4;
+        let icw4 = self.stage == Setup::AWAITS_ICW4;
         (port == Controller::PORT_0) & bit4 & !(bit0 & bit1)
             | (port == Controller::PORT_1) & icw4 & !bit0
             | (port == Controller::PORT_0) & (!bit4 & bit3) & bit2
@@ -58,10 +58,10 @@ impl Controller {
         ensures { λ r. ⌜ r ≡ refusal self (read port) ⌝ }
     {
         if Controller::PORT_1 < port {
-            return Controller::PORT_ABOVE;
+            return Setup::PORT_ABOVE;
         }
         if !self.ready() {
-            return Controller::NOT_READY;
+            return Setup::NOT_READY;
         }
         0
     }
@@ -70,13 +70,13 @@ impl Controller {
         ensures { λ r. ⌜ r ≡ refusal self (write port byte) ⌝ }
     {
         if Controller::PORT_1 < port {
-            return Controller::PORT_ABOVE;
+            return Setup::PORT_ABOVE;
         }
         if self.not_ready(port, byte) {
-            return Controller::NOT_READY;
+            return Setup::NOT_READY;
         }
         if self.not_served(port, byte) {
-            return Controller::NOT_SERVED;
+            return Setup::NOT_SERVED;
         }
         0
     }
@@ -85,7 +85,7 @@ impl Controller {
         ensures { λ r. ⌜ r ≡ refusal self acknowledge ⌝ }
     {
         if !self.ready() {
-            return Controller::NOT_READY;
+            return Setup::NOT_READY;
         }
         0
     }
@@ -96,6 +96,6 @@ impl Controller {
         if line < rank::LINES {
             return 0;
         }
-        Controller::LINE_ABOVE
+        Setup::LINE_ABOVE
     }
 }

@@ -1,14 +1,31 @@
 // What the initialisation and operation words do, and what the ports show.
 ghost use mathlib.Core.Path.{_≡_};
-ghost use Rattle.controller.specs.Words.{icw1, icw2, icw4, ended, madeLast, served, plainEnd, rotatingEnd, command, ocw2, ocw3, written0, written1, written, shown};
-ghost use Rattle.controller.specs.State.{withMask, withRotation};
+ghost use Rattle.controller.specs.Words.{icw1, icw2, icw4, ended, madeLast, served, plainEnd, rotatingEnd, command, ocw2, ocw3, operated, written0, written1, written, shown};
 use crate::Controller;
 use crate::Lines;
 use crate::Operation;
 use crate::Setup;
 use crate::Turn;
 
-impl Controller {
+impl Setup {
+    fn icw2(mut self, byte: u8) -> Setup
+        ensures { λ r. ⌜ r ≡ icw2 self byte ⌝ }
+    {
+        self.base = byte / 8 * 8;
+        self.stage = Setup::AWAITS_ICW4;
+        self
+    }
+
+    fn icw4(mut self, byte: u8) -> Setup
+        ensures { λ r. ⌜ r ≡ icw4 self byte ⌝ }
+    {
+        self.automatic = base::bit(1, byte);
+        self.stage = Setup::READY;
+        self
+    }
+}
+
+impl Operation {
     // The commands of OCW2, bits 7-5.
     const END: u8 = 0b001;
 
@@ -24,6 +41,103 @@ impl Controller {
 
     const ROTATION_OFF: u8 = 0b000;
 
+    fn ended(mut self, n: u8) -> Operation
+        ensures { λ r. ⌜ r ≡ ended self n ⌝ }
+    {
+        self.service = rank::without(self.service, rank::only(n));
+        self
+    }
+
+    fn made_last(mut self, n: u8) -> Operation
+        ensures { λ r. ⌜ r ≡ madeLast self n ⌝ }
+    {
+        self.first = rank::next(n);
+        self
+    }
+
+    // The line that a plain end takes.
+    fn served(self) -> Turn
+        ensures { λ r. ⌜ r ≡ served self ⌝ }
+    {
+        Operation::found(self.first, rank::first_place(self.first, self.hindering()))
+    }
+
+    fn plain_end(self) -> Operation
+        ensures { λ r. ⌜ r ≡ plainEnd self ⌝ }
+    {
+        let turn = self.served();
+        match turn {
+            Turn::Line(n) => self.ended(n),
+            Turn::Nobody => self,
+        }
+    }
+
+    fn rotating_end(self) -> Operation
+        ensures { λ r. ⌜ r ≡ rotatingEnd self ⌝ }
+    {
+        let turn = self.served();
+        match turn {
+            Turn::Line(n) => self.ended(n).made_last(n),
+            Turn::Nobody => self,
+        }
+    }
+
+    fn command(mut self, k: u8, n: u8) -> Operation
+        ensures { λ r. ⌜ r ≡ command self k n ⌝ }
+    {
+        if k == Operation::END {
+            return self.plain_end();
+        }
+        if k == Operation::END_ROTATING {
+            return self.rotating_end();
+        }
+        if k == Operation::END_LINE {
+            return self.ended(n);
+        }
+        if k == Operation::END_LINE_ROTATING {
+            return self.ended(n).made_last(n);
+        }
+        if k == Operation::MAKE_LAST {
+            return self.made_last(n);
+        }
+        if k == Operation::ROTATION_ON {
+            self.rotation = true;
+            return self;
+        }
+        if k == Operation::ROTATION_OFF {
+            self.rotation = false;
+            return self;
+        }
+        self
+    }
+
+    fn ocw2(self, byte: u8) -> Operation
+        ensures { λ r. ⌜ r ≡ ocw2 self byte ⌝ }
+    {
+        self.command(byte / 32 % 8, byte % rank::LINES)
+    }
+
+    fn ocw3(mut self, byte: u8) -> Operation
+        ensures { λ r. ⌜ r ≡ ocw3 self byte ⌝ }
+    {
+        self.special = base::pick_flag(base::bit(6, byte), base::bit(5, byte), self.special);
+        self.selected = base::pick_flag(base::bit(1, byte), base::bit(0, byte), self.selected);
+        self
+    }
+
+    fn operated(self, byte: u8) -> Operation
+        ensures { λ r. ⌜ r ≡ operated self byte ⌝ }
+    {
+        let bit4 = base::bit(4, byte);
+        let bit3 = base::bit(3, byte);
+        if !bit4 & bit3 {
+            return self.ocw3(byte);
+        }
+        self.ocw2(byte)
+    }
+}
+
+impl Controller {
     fn icw1(self, byte: u8) -> Controller
         ensures { λ r. ⌜ r ≡ icw1 self byte ⌝ }
     {
@@ -34,7 +148,7 @@ impl Controller {
                 latches: 0,
             },
             setup: Setup {
-                stage: Controller::AWAITS_ICW2,
+                stage: Setup::AWAITS_ICW2,
                 level,
                 base: self.setup.base,
                 automatic: false,
@@ -50,151 +164,31 @@ impl Controller {
         }
     }
 
-    fn icw2(mut self, byte: u8) -> Controller
-        ensures { λ r. ⌜ r ≡ icw2 self byte ⌝ }
-    {
-        let base = byte / 8 * 8;
-        self.setup.base = base;
-        self.setup.stage = Controller::AWAITS_ICW4;
-        self
-    }
-
-    fn icw4(mut self, byte: u8) -> Controller
-        ensures { λ r. ⌜ r ≡ icw4 self byte ⌝ }
-    {
-        let automatic = base::bit(1, byte);
-        self.setup.automatic = automatic;
-        self.setup.stage = Controller::READY;
-        self
-    }
-
-    fn masked(mut self, byte: u8) -> Controller
-        ensures { λ r. ⌜ r ≡ withMask self byte ⌝ }
-    {
-        self.operation.mask = byte;
-        self
-    }
-
-    fn ended(mut self, n: u8) -> Controller
-        ensures { λ r. ⌜ r ≡ ended self n ⌝ }
-    {
-        let own = rank::only(n);
-        let service = rank::without(self.operation.service, own);
-        self.operation.service = service;
-        self
-    }
-
-    fn made_last(mut self, n: u8) -> Controller
-        ensures { λ r. ⌜ r ≡ madeLast self n ⌝ }
-    {
-        let first = rank::next(n);
-        self.operation.first = first;
-        self
-    }
-
-    fn rotating(mut self, on: bool) -> Controller
-        ensures { λ r. ⌜ r ≡ withRotation self on ⌝ }
-    {
-        self.operation.rotation = on;
-        self
-    }
-
-    // The line that a plain end takes.
-    fn served(self) -> Turn
-        ensures { λ r. ⌜ r ≡ served self ⌝ }
-    {
-        self.found(rank::first_place(self.operation.first, self.hindering()))
-    }
-
-    fn plain_end(self) -> Controller
-        ensures { λ r. ⌜ r ≡ plainEnd self ⌝ }
-    {
-        let turn = self.served();
-        match turn {
-            Turn::Line(n) => self.ended(n),
-            Turn::Nobody => self,
-        }
-    }
-
-    fn rotating_end(self) -> Controller
-        ensures { λ r. ⌜ r ≡ rotatingEnd self ⌝ }
-    {
-        let turn = self.served();
-        match turn {
-            Turn::Line(n) => self.ended(n).made_last(n),
-            Turn::Nobody => self,
-        }
-    }
-
-    fn command(self, k: u8, n: u8) -> Controller
-        ensures { λ r. ⌜ r ≡ command self k n ⌝ }
-    {
-        if k == Controller::END {
-            return self.plain_end();
-        }
-        if k == Controller::END_ROTATING {
-            return self.rotating_end();
-        }
-        if k == Controller::END_LINE {
-            return self.ended(n);
-        }
-        if k == Controller::END_LINE_ROTATING {
-            return self.ended(n).made_last(n);
-        }
-        if k == Controller::MAKE_LAST {
-            return self.made_last(n);
-        }
-        if k == Controller::ROTATION_ON {
-            return self.rotating(true);
-        }
-        if k == Controller::ROTATION_OFF {
-            return self.rotating(false);
-        }
-        self
-    }
-
-    fn ocw2(self, byte: u8) -> Controller
-        ensures { λ r. ⌜ r ≡ ocw2 self byte ⌝ }
-    {
-        self.command(byte / 32 % 8, byte % rank::LINES)
-    }
-
-    fn ocw3(mut self, byte: u8) -> Controller
-        ensures { λ r. ⌜ r ≡ ocw3 self byte ⌝ }
-    {
-        let o = self.operation;
-        let special = base::pick_flag(base::bit(6, byte), base::bit(5, byte), o.special);
-        let selected = base::pick_flag(base::bit(1, byte), base::bit(0, byte), o.selected);
-        self.operation.special = special;
-        self.operation.selected = selected;
-        self
-    }
-
-    fn written0(self, byte: u8) -> Controller
+    fn written0(mut self, byte: u8) -> Controller
         ensures { λ r. ⌜ r ≡ written0 self byte ⌝ }
     {
-        let icw1 = base::bit(4, byte);
-        let ocw3 = base::bit(3, byte);
-        if icw1 {
+        let o = self.operation;
+        if base::bit(4, byte) {
             return self.icw1(byte);
         }
-        if ocw3 {
-            return self.ocw3(byte);
-        }
-        self.ocw2(byte)
+        self.operation = o.operated(byte);
+        self
     }
 
-    fn written1(self, byte: u8) -> Controller
+    fn written1(mut self, byte: u8) -> Controller
         ensures { λ r. ⌜ r ≡ written1 self byte ⌝ }
     {
-        let stage = self.setup.stage;
-        if stage == Controller::AWAITS_ICW2 {
-            return self.icw2(byte);
+        let setup = self.setup;
+        if setup.stage == Setup::AWAITS_ICW2 {
+            self.setup = setup.icw2(byte);
+            return self;
         }
-        if stage == Controller::AWAITS_ICW4 {
-            return self.icw4(byte);
+        if setup.stage == Setup::AWAITS_ICW4 {
+            self.setup = setup.icw4(byte);
+            return self;
         }
-        self.masked(byte)
+        self.operation.mask = byte;
+        self
     }
 
     pub(crate) fn written(self, port: u8, byte: u8) -> Controller
@@ -209,10 +203,13 @@ impl Controller {
     pub(crate) fn shown(self, port: u8) -> u8
         ensures { λ r. ⌜ r ≡ shown self port ⌝ }
     {
-        let o = self.operation;
         if port == Controller::PORT_1 {
-            return o.mask;
+            return self.operation.mask;
         }
-        base::pick_byte(o.selected, o.service, self.requests())
+        base::pick_byte(
+            self.operation.selected,
+            self.operation.service,
+            self.requests(),
+        )
     }
 }

@@ -17,15 +17,11 @@ icw4-requires c κs = search needs
 
 returns-2 : tie.Need-returns-2
 unfolding written1
-returns-2 c = simp (← c .icw4 .ensures, eq-eqb _ _ (c .before .if2 .taken), ne-eqb _ _ (c .before .before .if1 .left), pick-true, pick-false)
-
-masked-requires : tie.Need-masked-requires
-masked-requires c κs = search needs
+returns-2 c = simp (← c .icw4 .ensures, eq-eqb _ _ (c .before .if2 .taken), ne-eqb _ _ (c .before .before .before .if1 .left), pick-true, pick-false)
 
 returns-3 : tie.Need-returns-3
 unfolding written1
-returns-3 c = simp (← c .masked .ensures, ne-eqb _ _ (c .before .if2 .left), ne-eqb _ _ (c .before .before .if1 .left), pick-true, pick-false)
+returns-3 c = simp (ne-eqb _ _ (c .before .if2 .left), ne-eqb _ _ (c .before .before .before .if1 .left), pick-true, pick-false)
 
 pub written1-spec : {M : Type 1} → statement M
-written1-spec =
-    tie.close (tie.spec icw2-requires returns icw4-requires returns-2 masked-requires returns-3)
+written1-spec = tie.close (tie.spec icw2-requires returns icw4-requires returns-2 returns-3)
