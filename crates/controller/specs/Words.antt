@@ -104,14 +104,12 @@ ocw3 o b =
       selected = pick (bit 1 b) (bit 0 b) (o .selected);
     }
 
-unfoldable pub operated : Operation → ℕ → Operation
-operated o b = pick (isOcw3 b) (ocw3 o b) (ocw2 o b)
-
 -- ---- the two ports
 
 -- "port 0 with bit 4 set"
 unfoldable pub written0 : Controller → ℕ → Controller
-written0 c b = pick (isIcw1 b) (icw1 c b) (withOperation c (operated (c .operation) b))
+written0 c b =
+    pick (isIcw1 b) (icw1 c b) (pick (isOcw3 b) (withOperation c (ocw3 (c .operation) b)) (withOperation c (ocw2 (c .operation) b)))
 
 -- "then ICW2 and ICW4 at port 1, then ready"; "Ready: port 1 is the mask, both ways."
 unfoldable pub written1 : Controller → ℕ → Controller

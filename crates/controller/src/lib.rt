@@ -106,21 +106,20 @@ impl Controller {
     pub fn output(self) -> bool
         ensures { λ r. ⌜ r ≡ outputOf self ⌝ }
     {
-        let setup = self.setup;
-        let up = setup.ready();
         let place = self.grantable_place();
-        up & (place < rank::LINES)
+        (self.setup.stage == Setup::READY) & (place < rank::LINES)
     }
 
     pub fn read(self, port: u8) -> base::Answer
         ensures { λ r. ⌜ r ≡ step self (read port) .answer ⌝ }
     {
-        let setup = self.setup;
-        let number = setup.read_refusal(port);
-        if number == 0 {
+        if Controller::PORT_1 < port {
+            return base::Answer::Refused(Setup::PORT_ABOVE);
+        }
+        if self.setup.stage == Setup::READY {
             return base::Answer::Byte(self.shown(port));
         }
-        base::Answer::Refused(number)
+        base::Answer::Refused(Setup::NOT_READY)
     }
 
     pub fn write(self, port: u8, byte: u8) -> Stepped
@@ -143,14 +142,12 @@ impl Controller {
     pub fn acknowledge(self) -> Stepped
         ensures { λ r. ⌜ r ≡ step self acknowledge ⌝ }
     {
-        let setup = self.setup;
-        let number = setup.acknowledge_refusal();
-        if number == 0 {
+        if self.setup.stage == Setup::READY {
             return self.acknowledged();
         }
         Stepped {
             controller: self,
-            answer: base::Answer::Refused(number),
+            answer: base::Answer::Refused(Setup::NOT_READY),
         }
     }
 
@@ -158,10 +155,9 @@ impl Controller {
     pub fn place(self, line: u8) -> base::Answer
         ensures { λ r. ⌜ r ≡ placed self line ⌝ }
     {
-        let number = Setup::place_refusal(line);
-        if number == 0 {
-            return base::Answer::Place(rank::place(self.operation.first, line));
+        if 7 < line {
+            return base::Answer::Refused(Setup::LINE_ABOVE);
         }
-        base::Answer::Refused(number)
+        base::Answer::Place(rank::place(self.operation.first, line))
     }
 }

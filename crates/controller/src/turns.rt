@@ -1,19 +1,10 @@
 // Who asks, who hinders, who is next; and what a grant does.
 ghost use mathlib.Core.Path.{_≡_};
-ghost use Rattle.controller.specs.Turns.{requests, asking, hindering, grantablePlace, granted, found, vector, taken, grant, acknowledged};
+ghost use Rattle.controller.specs.Turns.{requests, hindering, grantablePlace, found, grant, acknowledged};
 use crate::Controller;
 use crate::Operation;
-use crate::Setup;
 use crate::Stepped;
 use crate::Turn;
-
-impl Setup {
-    fn vector(self, n: u8) -> u8
-        ensures { λ r. ⌜ r ≡ vector self n ⌝ }
-    {
-        self.base / 8 * 8 + n % rank::LINES
-    }
-}
 
 impl Operation {
     pub(crate) fn hindering(self) -> u8
@@ -35,17 +26,6 @@ impl Operation {
         }
         Turn::Nobody
     }
-
-    // What is taken down of a grant.
-    fn taken(mut self, automatic: bool, n: u8) -> Operation
-        ensures { λ r. ⌜ r ≡ taken automatic self n ⌝ }
-    {
-        let own = rank::only(n);
-        let next = rank::next(n);
-        self.service = base::pick_byte(automatic, self.service, self.service | own);
-        self.first = base::pick_byte(automatic & self.rotation, next, self.first);
-        self
-    }
 }
 
 impl Controller {
@@ -55,18 +35,12 @@ impl Controller {
         base::pick_byte(self.setup.level, self.lines.levels, self.lines.latches)
     }
 
-    fn asking(self) -> u8
-        ensures { λ r. ⌜ r ≡ asking self ⌝ }
-    {
-        rank::without(self.requests(), self.operation.mask)
-    }
-
     // The place of the first-ranked grantable line, and 8 where there is none: the first-ranked that asks is grantable, or none is.
     pub(crate) fn grantable_place(self) -> u8
         ensures { λ r. ⌜ r ≡ grantablePlace self ⌝ }
     {
         let o = self.operation;
-        let asks = rank::first_place(o.first, self.asking());
+        let asks = rank::first_place(o.first, rank::without(self.requests(), o.mask));
         let hinders = rank::first_place(o.first, o.hindering());
         if asks < hinders {
             return asks;
@@ -74,36 +48,34 @@ impl Controller {
         rank::LINES
     }
 
-    fn granted(self) -> Turn
-        ensures { λ r. ⌜ r ≡ granted self ⌝ }
-    {
-        Operation::found(self.operation.first, self.grantable_place())
-    }
-
     fn grant(mut self, n: u8) -> Controller
         ensures { λ r. ⌜ r ≡ grant self n ⌝ }
     {
+        let own = rank::only(n);
         let o = self.operation;
-        let latches = rank::without(self.lines.latches, rank::only(n));
-        let operation = o.taken(self.setup.automatic, n);
+        let automatic = self.setup.automatic;
+        let latches = rank::without(self.lines.latches, own);
+        let service = base::pick_byte(automatic, o.service, o.service | own);
+        let first = base::pick_byte(automatic & o.rotation, rank::next(n), o.first);
         self.lines.latches = latches;
-        self.operation = operation;
+        self.operation.service = service;
+        self.operation.first = first;
         self
     }
 
     pub(crate) fn acknowledged(self) -> Stepped
         ensures { λ r. ⌜ r ≡ acknowledged self ⌝ }
     {
-        let setup = self.setup;
-        let turn = self.granted();
+        let turn = Operation::found(self.operation.first, self.grantable_place());
+        let base = self.setup.base / 8 * 8;
         match turn {
             Turn::Line(n) => Stepped {
                 controller: self.grant(n),
-                answer: base::Answer::Vector(setup.vector(n)),
+                answer: base::Answer::Vector(base + n % rank::LINES),
             },
             Turn::Nobody => Stepped {
                 controller: self,
-                answer: base::Answer::Spurious(setup.vector(7)),
+                answer: base::Answer::Spurious(base + 7),
             },
         }
     }

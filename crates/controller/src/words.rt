@@ -1,29 +1,11 @@
 // What the initialisation and operation words do, and what the ports show.
 ghost use mathlib.Core.Path.{_≡_};
-ghost use Rattle.controller.specs.Words.{icw1, icw2, icw4, ended, madeLast, served, plainEnd, rotatingEnd, command, ocw2, ocw3, operated, written0, written1, written, shown};
+ghost use Rattle.controller.specs.Words.{icw1, ended, madeLast, served, plainEnd, rotatingEnd, ocw2, ocw3, written0, written1, written, shown};
 use crate::Controller;
 use crate::Lines;
 use crate::Operation;
 use crate::Setup;
 use crate::Turn;
-
-impl Setup {
-    fn icw2(mut self, byte: u8) -> Setup
-        ensures { λ r. ⌜ r ≡ icw2 self byte ⌝ }
-    {
-        self.base = byte / 8 * 8;
-        self.stage = Setup::AWAITS_ICW4;
-        self
-    }
-
-    fn icw4(mut self, byte: u8) -> Setup
-        ensures { λ r. ⌜ r ≡ icw4 self byte ⌝ }
-    {
-        self.automatic = base::bit(1, byte);
-        self.stage = Setup::READY;
-        self
-    }
-}
 
 impl Operation {
     // The commands of OCW2, bits 7-5.
@@ -82,9 +64,11 @@ impl Operation {
         }
     }
 
-    fn command(mut self, k: u8, n: u8) -> Operation
-        ensures { λ r. ⌜ r ≡ command self k n ⌝ }
+    fn ocw2(mut self, byte: u8) -> Operation
+        ensures { λ r. ⌜ r ≡ ocw2 self byte ⌝ }
     {
+        let k = byte / 32 % 8;
+        let n = byte % rank::LINES;
         if k == Operation::END {
             return self.plain_end();
         }
@@ -111,29 +95,12 @@ impl Operation {
         self
     }
 
-    fn ocw2(self, byte: u8) -> Operation
-        ensures { λ r. ⌜ r ≡ ocw2 self byte ⌝ }
-    {
-        self.command(byte / 32 % 8, byte % rank::LINES)
-    }
-
     fn ocw3(mut self, byte: u8) -> Operation
         ensures { λ r. ⌜ r ≡ ocw3 self byte ⌝ }
     {
         self.special = base::pick_flag(base::bit(6, byte), base::bit(5, byte), self.special);
         self.selected = base::pick_flag(base::bit(1, byte), base::bit(0, byte), self.selected);
         self
-    }
-
-    fn operated(self, byte: u8) -> Operation
-        ensures { λ r. ⌜ r ≡ operated self byte ⌝ }
-    {
-        let bit4 = base::bit(4, byte);
-        let bit3 = base::bit(3, byte);
-        if !bit4 & bit3 {
-            return self.ocw3(byte);
-        }
-        self.ocw2(byte)
     }
 }
 
@@ -171,20 +138,27 @@ impl Controller {
         if base::bit(4, byte) {
             return self.icw1(byte);
         }
-        self.operation = o.operated(byte);
+        if base::bit(3, byte) {
+            self.operation = o.ocw3(byte);
+            return self;
+        }
+        self.operation = o.ocw2(byte);
         self
     }
 
     fn written1(mut self, byte: u8) -> Controller
         ensures { λ r. ⌜ r ≡ written1 self byte ⌝ }
     {
-        let setup = self.setup;
-        if setup.stage == Setup::AWAITS_ICW2 {
-            self.setup = setup.icw2(byte);
+        let base = byte / 8 * 8;
+        let automatic = base::bit(1, byte);
+        if self.setup.stage == Setup::AWAITS_ICW2 {
+            self.setup.base = base;
+            self.setup.stage = Setup::AWAITS_ICW4;
             return self;
         }
-        if setup.stage == Setup::AWAITS_ICW4 {
-            self.setup = setup.icw4(byte);
+        if self.setup.stage == Setup::AWAITS_ICW4 {
+            self.setup.automatic = automatic;
+            self.setup.stage = Setup::READY;
             return self;
         }
         self.operation.mask = byte;

@@ -5,15 +5,12 @@ use borrow.Author.Needs.{needs}
 use Rattle.controller.proofs.Controller.output.Statement.{statement}
 use Rattle.controller.proofs.Controller.output.Tie as tie
 
-ready-requires : tie.Need-ready-requires
-ready-requires c κs = search needs
-
 grantable-place-requires : tie.Need-grantable-place-requires
 grantable-place-requires c κs = search needs
 
 returns : tie.Need-returns
 unfolding outputOf
-returns c = simp (some-grantable, ← c .grantable-place .ensures, ← c .before .ready .ensures, pick-true, pick-false)
+returns c = simp (some-grantable, ← c .before .grantable-place .ensures, pick-true, pick-false)
 
 pub output-spec : {M : Type 1} → statement M
-output-spec = tie.close (tie.spec ready-requires grantable-place-requires returns)
+output-spec = tie.close (tie.spec grantable-place-requires returns)

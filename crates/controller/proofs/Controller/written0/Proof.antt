@@ -14,12 +14,32 @@ returns : tie.Need-returns
 unfolding written0
 returns c = simp (← c .icw1 .ensures, ← c .before .before .bit .ensures, c .before .if1 .taken, pick-true, pick-false)
 
-operated-requires : tie.Need-operated-requires
-operated-requires c κs = search needs
+bit-requires-2 : tie.Need-bit-requires-2
+bit-requires-2 c κs = search needs
+
+ocw3-requires : tie.Need-ocw3-requires
+ocw3-requires c κs = search needs
 
 returns-2 : tie.Need-returns-2
 unfolding written0
-returns-2 c = simp (← c .operated .ensures, ← c .before .before .bit .ensures, c .before .if1 .left, pick-true, pick-false)
+returns-2 c = simp (← c .ocw3 .ensures, ← c .before .before .bit2 .ensures, ← c .before .before .before .before .bit .ensures, c .before .if2 .taken, c .before .before .before .if1 .left, pick-true, pick-false)
+
+ocw2-requires : tie.Need-ocw2-requires
+ocw2-requires c κs = search needs
+
+returns-3 : tie.Need-returns-3
+unfolding written0
+returns-3 c = simp (← c .ocw2 .ensures, ← c .before .before .bit2 .ensures, ← c .before .before .before .before .bit .ensures, c .before .if2 .left, c .before .before .before .if1 .left, pick-true, pick-false)
 
 pub written0-spec : {M : Type 1} → statement M
-written0-spec = tie.close (tie.spec bit-requires icw1-requires returns operated-requires returns-2)
+written0-spec =
+    tie.close
+    (tie.spec
+    bit-requires
+    icw1-requires
+    returns
+    bit-requires-2
+    ocw3-requires
+    returns-2
+    ocw2-requires
+    returns-3)
