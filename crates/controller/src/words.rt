@@ -1,6 +1,6 @@
 // What the initialisation and operation words do, and what the ports show.
 ghost use mathlib.Core.Path.{_≡_};
-ghost use Rattle.controller.specs.Words.{icw1, ended, madeLast, served, plainEnd, rotatingEnd, ocw2, ocw3, written0, written1, written, shown};
+ghost use Rattle.controller.specs.Words.{icw1, ended, madeLast, served, plainEnd, rotatingEnd, command, ocw2, ocw3, written0, written1, written, shown};
 use crate::Controller;
 use crate::Lines;
 use crate::Operation;
@@ -64,11 +64,9 @@ impl Operation {
         }
     }
 
-    fn ocw2(mut self, byte: u8) -> Operation
-        ensures { λ r. ⌜ r ≡ ocw2 self byte ⌝ }
+    fn command(mut self, k: u8, n: u8) -> Operation
+        ensures { λ r. ⌜ r ≡ command self k n ⌝ }
     {
-        let k = byte / 32 % 8;
-        let n = byte % rank::LINES;
         if k == Operation::END {
             return self.plain_end();
         }
@@ -93,6 +91,12 @@ impl Operation {
             return self;
         }
         self
+    }
+
+    fn ocw2(self, byte: u8) -> Operation
+        ensures { λ r. ⌜ r ≡ ocw2 self byte ⌝ }
+    {
+        self.command(byte / 32 % 8, byte % rank::LINES)
     }
 
     fn ocw3(mut self, byte: u8) -> Operation
