@@ -1,0 +1,56 @@
+-- What a controller refuses: each number with its own condition, and the first of the list that holds.
+use Prim.Native.Nat.{ℕ}
+use mathlib.Core.Bool.{Bool, true, false, not, _&&_, _||_}
+use mathlib.Core.List.{List, [], _∷_}
+use lib.Dec.{eqb, ltb}
+use Rattle.base.specs.Pick.{pick}
+use Rattle.base.specs.Bits.{bit}
+use Rattle.controller.specs.State.{ready, begun, awaitsIcw4}
+use Rattle.controller.specs.Signals.{Signal, levels, read, write, acknowledge}
+use Rattle.controller.specs.Words.{isIcw1, isOcw3}
+use Rattle.controller.specs.declared.Setup.{Setup}
+
+-- "The order is": the first number whose condition holds, "0 for none"
+unfoldable pub firstHolding : List (ℕ × Bool) → ℕ
+firstHolding [] = 0
+firstHolding (row ∷ rows) = pick (row .1) (row .0) (firstHolding rows)
+
+-- 1: "seat (or line) above 7"
+abbrev pub lineAbove : ℕ → Bool
+lineAbove n = ltb 7 n
+
+-- 2: "port above 1"
+abbrev pub portAbove : Signal → Bool
+portAbove (levels high) = false
+portAbove (read port) = ltb 1 port
+portAbove (write port b) = ltb 1 port
+portAbove acknowledge = false
+
+-- 8: "controller not ready: any read, an acknowledge, a port 0 write without bit 4, or a port 1 write before any accepted ICW1"
+abbrev pub notReady : Setup → Signal → Bool
+notReady s (levels high) = false
+notReady s (read port) = not (ready s)
+notReady s (write port b) = not (ready s) && (eqb port 0 && not (bit 4 b) || eqb port 1 && not (begun s))
+notReady s acknowledge = not (ready s)
+
+-- "ICW1 with bit 0 or bit 1 clear": the test of ICW1
+abbrev pub icw1Served : ℕ → Bool
+icw1Served b = bit 0 b && bit 1 b
+
+-- 9: "not served: ICW1 with bit 0 or bit 1 clear; ICW4 with bit 0 clear; OCW3 with bit 2 set"
+abbrev pub notServed : Setup → Signal → Bool
+notServed s (levels high) = false
+notServed s (read port) = false
+notServed s (write port b) =
+    eqb port 0 && isIcw1 b && not (icw1Served b)
+    || eqb port 1 && awaitsIcw4 s && not (bit 0 b)
+    || eqb port 0 && isOcw3 b && bit 2 b
+notServed s acknowledge = false
+
+-- "The order is 4, 3, 1, 2, then 5, 6, 7, 8, 9.": of these, those that a controller can give
+unfoldable pub refusal : Setup → Signal → ℕ
+refusal s signal = firstHolding ((2, portAbove signal) ∷ (8, notReady s signal) ∷ (9, notServed s signal) ∷ [])
+
+-- "line above 7 gives refusal 1"
+unfoldable pub placeRefusal : ℕ → ℕ
+placeRefusal n = firstHolding ((1, lineAbove n) ∷ [])

@@ -1,0 +1,82 @@
+// Who asks, who hinders, who is next; and what a grant does.
+ghost use mathlib.Core.Path.{_≡_};
+ghost use Rattle.controller.specs.Turns.{requests, hindering, grantablePlace, found, grant, acknowledged};
+use crate::Controller;
+use crate::Operation;
+use crate::Stepped;
+use crate::Turn;
+
+impl Operation {
+    pub(crate) fn hindering(self) -> u8
+        ensures { λ r. ⌜ r ≡ hindering self ⌝ }
+    {
+        base::pick_byte(
+            self.special,
+            rank::without(self.service, self.mask),
+            self.service,
+        )
+    }
+
+    // The line at a place that a search found.
+    pub(crate) fn found(first: u8, place: u8) -> Turn
+        ensures { λ r. ⌜ r ≡ found first place ⌝ }
+    {
+        if place < rank::LINES {
+            return Turn::Line(rank::line_at(first, place));
+        }
+        Turn::Nobody
+    }
+}
+
+impl Controller {
+    pub(crate) fn requests(self) -> u8
+        ensures { λ r. ⌜ r ≡ requests self ⌝ }
+    {
+        base::pick_byte(self.setup.level, self.lines.levels, self.lines.latches)
+    }
+
+    // The place of the first-ranked grantable line, and 8 where there is none: the first-ranked that asks is grantable, or none is.
+    pub(crate) fn grantable_place(self) -> u8
+        ensures { λ r. ⌜ r ≡ grantablePlace self ⌝ }
+    {
+        let o = self.operation;
+        let asks = rank::first_place(o.first, rank::without(self.requests(), o.mask));
+        let hinders = rank::first_place(o.first, o.hindering());
+        if asks < hinders {
+            return asks;
+        }
+        rank::LINES
+    }
+
+    fn grant(mut self, n: u8) -> Controller
+        ensures { λ r. ⌜ r ≡ grant self n ⌝ }
+    {
+        let own = rank::only(n);
+        let o = self.operation;
+        let automatic = self.setup.automatic;
+        let latches = rank::without(self.lines.latches, own);
+        let service = base::pick_byte(automatic, o.service, o.service | own);
+        let first = base::pick_byte(automatic & o.rotation, rank::next(n), o.first);
+        self.lines.latches = latches;
+        self.operation.service = service;
+        self.operation.first = first;
+        self
+    }
+
+    pub(crate) fn acknowledged(self) -> Stepped
+        ensures { λ r. ⌜ r ≡ acknowledged self ⌝ }
+    {
+        let turn = Operation::found(self.operation.first, self.grantable_place());
+        let base = self.setup.base / 8 * 8;
+        match turn {
+            Turn::Line(n) => Stepped {
+                controller: self.grant(n),
+                answer: base::Answer::Vector(base + n % rank::LINES),
+            },
+            Turn::Nobody => Stepped {
+                controller: self,
+                answer: base::Answer::Spurious(base + 7),
+            },
+        }
+    }
+}

@@ -1,0 +1,193 @@
+// What the initialisation and operation words do, and what the ports show.
+ghost use mathlib.Core.Path.{_≡_};
+ghost use Rattle.controller.specs.Words.{icw1, ended, madeLast, served, plainEnd, rotatingEnd, command, ocw2, ocw3, written0, written1, written, shown};
+use crate::Controller;
+use crate::Lines;
+use crate::Operation;
+use crate::Setup;
+use crate::Turn;
+
+impl Operation {
+    // The commands of OCW2, bits 7-5.
+    const END: u8 = 0b001;
+
+    const END_ROTATING: u8 = 0b101;
+
+    const END_LINE: u8 = 0b011;
+
+    const END_LINE_ROTATING: u8 = 0b111;
+
+    const MAKE_LAST: u8 = 0b110;
+
+    const ROTATION_ON: u8 = 0b100;
+
+    const ROTATION_OFF: u8 = 0b000;
+
+    fn ended(mut self, n: u8) -> Operation
+        ensures { λ r. ⌜ r ≡ ended self n ⌝ }
+    {
+        self.service = rank::without(self.service, rank::only(n));
+        self
+    }
+
+    fn made_last(mut self, n: u8) -> Operation
+        ensures { λ r. ⌜ r ≡ madeLast self n ⌝ }
+    {
+        self.first = rank::next(n);
+        self
+    }
+
+    // The line that a plain end takes.
+    fn served(self) -> Turn
+        ensures { λ r. ⌜ r ≡ served self ⌝ }
+    {
+        Operation::found(self.first, rank::first_place(self.first, self.hindering()))
+    }
+
+    fn plain_end(self) -> Operation
+        ensures { λ r. ⌜ r ≡ plainEnd self ⌝ }
+    {
+        let turn = self.served();
+        match turn {
+            Turn::Line(n) => self.ended(n),
+            Turn::Nobody => self,
+        }
+    }
+
+    fn rotating_end(self) -> Operation
+        ensures { λ r. ⌜ r ≡ rotatingEnd self ⌝ }
+    {
+        let turn = self.served();
+        match turn {
+            Turn::Line(n) => self.ended(n).made_last(n),
+            Turn::Nobody => self,
+        }
+    }
+
+    fn command(mut self, k: u8, n: u8) -> Operation
+        ensures { λ r. ⌜ r ≡ command self k n ⌝ }
+    {
+        if k == Operation::END {
+            return self.plain_end();
+        }
+        if k == Operation::END_ROTATING {
+            return self.rotating_end();
+        }
+        if k == Operation::END_LINE {
+            return self.ended(n);
+        }
+        if k == Operation::END_LINE_ROTATING {
+            return self.ended(n).made_last(n);
+        }
+        if k == Operation::MAKE_LAST {
+            return self.made_last(n);
+        }
+        if k == Operation::ROTATION_ON {
+            self.rotation = true;
+            return self;
+        }
+        if k == Operation::ROTATION_OFF {
+            self.rotation = false;
+            return self;
+        }
+        self
+    }
+
+    fn ocw2(self, byte: u8) -> Operation
+        ensures { λ r. ⌜ r ≡ ocw2 self byte ⌝ }
+    {
+        self.command(byte / 32 % 8, byte % rank::LINES)
+    }
+
+    fn ocw3(mut self, byte: u8) -> Operation
+        ensures { λ r. ⌜ r ≡ ocw3 self byte ⌝ }
+    {
+        self.special = base::pick_flag(base::bit(6, byte), base::bit(5, byte), self.special);
+        self.selected = base::pick_flag(base::bit(1, byte), base::bit(0, byte), self.selected);
+        self
+    }
+}
+
+impl Controller {
+    fn icw1(self, byte: u8) -> Controller
+        ensures { λ r. ⌜ r ≡ icw1 self byte ⌝ }
+    {
+        let level = base::bit(3, byte);
+        Controller {
+            lines: Lines {
+                levels: self.lines.levels,
+                latches: 0,
+            },
+            setup: Setup {
+                stage: Setup::AWAITS_ICW2,
+                level,
+                base: self.setup.base,
+                automatic: false,
+            },
+            operation: Operation {
+                mask: 0,
+                service: 0,
+                first: 0,
+                rotation: false,
+                special: false,
+                selected: false,
+            },
+        }
+    }
+
+    fn written0(mut self, byte: u8) -> Controller
+        ensures { λ r. ⌜ r ≡ written0 self byte ⌝ }
+    {
+        let o = self.operation;
+        if base::bit(4, byte) {
+            return self.icw1(byte);
+        }
+        if base::bit(3, byte) {
+            self.operation = o.ocw3(byte);
+            return self;
+        }
+        self.operation = o.ocw2(byte);
+        self
+    }
+
+    fn written1(mut self, byte: u8) -> Controller
+        ensures { λ r. ⌜ r ≡ written1 self byte ⌝ }
+    {
+        let base = byte / 8 * 8;
+        let automatic = base::bit(1, byte);
+        if self.setup.stage == Setup::AWAITS_ICW2 {
+            self.setup.base = base;
+            self.setup.stage = Setup::AWAITS_ICW4;
+            return self;
+        }
+        if self.setup.stage == Setup::AWAITS_ICW4 {
+            self.setup.automatic = automatic;
+            self.setup.stage = Setup::READY;
+            return self;
+        }
+        self.operation.mask = byte;
+        self
+    }
+
+    pub(crate) fn written(self, port: u8, byte: u8) -> Controller
+        ensures { λ r. ⌜ r ≡ written self port byte ⌝ }
+    {
+        if port == Controller::PORT_0 {
+            return self.written0(byte);
+        }
+        self.written1(byte)
+    }
+
+    pub(crate) fn shown(self, port: u8) -> u8
+        ensures { λ r. ⌜ r ≡ shown self port ⌝ }
+    {
+        if port == Controller::PORT_1 {
+            return self.operation.mask;
+        }
+        base::pick_byte(
+            self.operation.selected,
+            self.operation.service,
+            self.requests(),
+        )
+    }
+}
