@@ -34,15 +34,17 @@ pick-through f true x y = refl
 pick-through f false x y = refl
 
 -- no test both holds and fails
+pub not-both : {b : Bool} → b ≡ true → b ≡ false → ⊥
+not-both holds fails = let z : _≡_ {A = ℕ} 0 1 = cc in omega arith
+
 pub never : false ≡ true → ⊥
-never e = let z : _≡_ {A = ℕ} 0 1 = cc in omega arith
+never e = not-both e refl
 
 -- a test holds or fails
 pub either-way : (b : Bool) → (b ≡ true) ⊎ (b ≡ false)
 either-way true = inl refl
 either-way false = inr refl
 
-<<<<<<< HEAD
 -- both of two tests hold
 pub both-hold : (a b : Bool) → (a && b) ≡ true → (a ≡ true) × (b ≡ true)
 both-hold true b e = (refl, e)
@@ -52,16 +54,6 @@ both-hold false b e = (e, absurd (never e))
 pub and-false : (a : Bool) → (a && false) ≡ false
 and-false true = refl
 and-false false = refl
-=======
--- and never both
-pub not-both : {b : Bool} → b ≡ true → b ≡ false → ⊥
-not-both holds fails = let z : _≡_ {A = ℕ} 0 1 = cc in omega arith
-
--- both parts of a test that holds
-pub both-hold : (a b : Bool) → (a && b) ≡ true → (a ≡ true) × (b ≡ true)
-both-hold true b e = (refl, e)
-both-hold false b e = absurd (not-both e refl)
->>>>>>> h-ctrl
 
 -- the rules for `search` at the end of a branch
 pub ruleset tests = (pick-true, pick-false, lt-ltb, le-ltb, le-leb, lt-leb, eq-eqb, ne-eqb, needs)

@@ -1,0 +1,72 @@
+-- A record of four bytes, and the event that it stands for.
+use Prim.Native.Nat.{ℕ}
+use mathlib.Core.Bool.{Bool, true, false, _&&_}
+use mathlib.Core.List.{List, [], _∷_}
+use lib.Dec.{ltb, eqb}
+use Rattle.base.specs.Pick.{pick}
+use Rattle.base.specs.Refusals.{Ground, firstHeld}
+use Rattle.channel.specs.declared.SeatEvent.{SeatEvent}
+use Rattle.channel.specs.declared.SeatEvent.the-variants.{Read, Write, Arrival, Levels, Time}
+use Rattle.bench.specs.declared.Event.{Event}
+use Rattle.bench.specs.declared.Event.the-variants.{OfSeat, MasterReset, ReadController, WriteController, Acknowledge}
+use Rattle.bench.specs.declared.Decoded.{Decoded}
+use Rattle.bench.specs.declared.Decoded.the-variants.{Taken, Refused}
+
+-- "An event is a four-byte record: kind, seat, number, value."; or a "record of 1 to 3 bytes at the end of input"
+pub data Record : Type 0 where
+  whole : ℕ → ℕ → ℕ → ℕ → Record
+  short : Record
+
+-- "record of 1 to 3 bytes at the end of input"
+abbrev pub isShort : Record → Bool
+isShort (whole kind seat number value) = false
+isShort short = true
+
+-- "kind above 8"
+abbrev pub kindAbove : Record → Bool
+kindAbove (whole kind seat number value) = ltb 8 kind
+kindAbove short = false
+
+-- the kinds that use the seat: "read register", "write register", "character arrives", "modem inputs", "one character time passes"
+abbrev pub usesSeat : ℕ → Bool
+usesSeat kind = ltb kind 5
+
+-- "seat (or line) above 7"
+abbrev pub seatAbove : Record → Bool
+seatAbove (whole kind seat number value) = usesSeat kind && ltb 7 seat
+seatAbove short = false
+
+-- what the bench refuses by the record alone: "The order is 4, 3, 1, 2"
+unfoldable pub early : Record → ℕ
+early r =
+    firstHeld
+    (record { number = 4; holds = isShort r }
+    ∷ record { number = 3; holds = kindAbove r }
+    ∷ record { number = 1; holds = seatAbove r }
+    ∷ [])
+
+-- "0 read register seat, register, - the byte"; "1 write register seat, register, byte 000";
+-- "2 character arrives seat, marks (1 parity, 2 framing, 4 break), data 000";
+-- "3 modem inputs seat, -, levels (1 CTS, 2 DSR, 4 RI, 8 DCD; set = active) 000";
+-- "4 one character time passes seat the byte sent; 100 idle; 200 break"; "5 master reset of all eight seats none 000";
+-- "6 read controller -, port the byte"; "7 write controller -, port, byte 000"; "8 acknowledge none the vector; 100 + vector if spurious"
+unfoldable pub eventOf : ℕ → ℕ → ℕ → ℕ → Event
+eventOf kind seat number value =
+    pick (eqb kind 0) (OfSeat seat (Read number))
+    (pick (eqb kind 1) (OfSeat seat (Write number value))
+    (pick (eqb kind 2) (OfSeat seat (Arrival number value))
+    (pick (eqb kind 3) (OfSeat seat (Levels value))
+    (pick (eqb kind 4) (OfSeat seat Time)
+    (pick (eqb kind 5) MasterReset
+    (pick (eqb kind 6) (ReadController number)
+    (pick (eqb kind 7) (WriteController number value)
+    Acknowledge)))))))
+
+-- the event of a record; of a short one there is none, and the one named here is never asked for
+abbrev pub event : Record → Event
+event (whole kind seat number value) = eventOf kind seat number value
+event short = Acknowledge
+
+-- a record decoded: refused by itself, or taken as its event
+unfoldable pub decoded : Record → Decoded
+decoded r = pick (eqb (early r) 0) (Taken (event r)) (Refused (early r))
