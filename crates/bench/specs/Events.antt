@@ -70,3 +70,8 @@ event short = Acknowledge
 -- a record decoded: refused by itself, or taken as its event
 unfoldable pub decoded : Record → Decoded
 decoded r = pick (eqb (early r) 0) (Taken (event r)) (Refused (early r))
+
+-- the number of the refusal, "0 for none"
+unfoldable pub refusedNumber : Decoded → ℕ
+refusedNumber (Taken e) = 0
+refusedNumber (Refused n) = n

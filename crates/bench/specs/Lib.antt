@@ -1,3 +1,4 @@
 pub mod Events
 pub mod Seats
 pub mod Steps
+pub mod MeetLaws

@@ -1,5 +1,5 @@
 -- Eight seats and the controller: power-up, the doors to a seat, and the lines.
-use Prim.Native.Nat.{ℕ}
+use Prim.Native.Nat.{ℕ, _%_}
 use mathlib.Core.Bool.{Bool, true, false}
 use mathlib.Core.List.{List, [], _∷_, map}
 use lib.ListN.{getD, set, replicate}
@@ -23,25 +23,29 @@ abbrev pub noSeat : Seat
 noSeat =
     record {
       channel =
-        record {
-          settings = record { ier = 0; fcr = 0; lcr = 0; mcr = 0; scratch = 0; dll = 0; dlm = 0 };
-          receiver = record { queue = record { slots = []; count = 0 }; overrun = false; kept = 0; timeout = 0; last = 0 };
-          transmitter = record { queue = record { slots = []; count = 0 }; busy = false; shift = 0; flag = false };
-          modem = record { levels = 0; changes = 0 }
-        }
+          record {
+            settings = record { ier = 0; fcr = 0; lcr = 0; mcr = 0; scratch = 0; dll = 0; dlm = 0 };
+            receiver = record { queue = record { slots = []; count = 0 }; overrun = false; kept = 0; timeout = 0; last = 0 };
+            transmitter = record { queue = record { slots = []; count = 0 }; busy = false; shift = 0; flag = false };
+            modem = record { levels = 0; changes = 0 };
+          };
     }
 
 -- "Power-up": every seat at power-up, and the controller
 abbrev pub powerUp : Bench
 powerUp = record { seats = replicate seatCount (record { channel = channel.powerUp }); controller = controller.powerUp }
 
+-- a number of a seat, read round the eight, so that both doors stand on any number; the bench refuses seats above 7 before it comes here
+abbrev pub chair : ℕ → ℕ
+chair n = n % seatCount
+
 -- the one door in: seat n
 unfoldable pub seat : Bench → ℕ → Seat
-seat b n = getD (b .seats) n noSeat
+seat b n = getD (b .seats) (chair n) noSeat
 
 -- and the one door back: the bench with another seat n
 unfoldable pub withSeat : Bench → ℕ → Seat → Bench
-withSeat b n s = record { seats = set (b .seats) n s; controller = b .controller }
+withSeat b n s = record { seats = set (b .seats) (chair n) s; controller = b .controller }
 
 -- the bench with another controller
 abbrev pub withController : Bench → Controller → Bench

@@ -6,7 +6,7 @@ use lib.Dec.{eqb}
 use Rattle.base.specs.Pick.{pick}
 use Rattle.base.specs.Refusals.{Ground, firstHeld}
 use Rattle.base.specs.declared.Answer.{Answer}
-use Rattle.base.specs.declared.Answer.the-variants.{Done} 
+use Rattle.base.specs.declared.Answer.the-variants.{Done}
 use Rattle.base.specs.declared.Answer.the-variants as answer
 use Rattle.channel.specs.declared.SeatEvent.{SeatEvent}
 use Rattle.channel.specs.Status.{line}
@@ -15,11 +15,86 @@ use Rattle.controller.specs.declared.Controller.{Controller}
 use Rattle.controller.specs.Signals.{read, write, acknowledge}
 use Rattle.controller.specs.Turns.{settled, outputOf}
 use Rattle.controller.specs.Steps as controller
-use Rattle.controller.specs.Refusals as controller
+use Rattle.controller.specs.Refusals as refusing
 use Rattle.bench.specs.declared.Seat.{Seat}
 use Rattle.bench.specs.declared.Bench.{Bench}
 use Rattle.bench.specs.declared.Outcome.{Outcome}
+use Rattle.bench.specs.declared.Touched.{Touched}
 use Rattle.bench.specs.declared.Event.{Event}
 use Rattle.bench.specs.declared.Event.the-variants.{OfSeat, MasterReset, ReadController, WriteController, Acknowledge}
+use Rattle.bench.specs.declared.Decoded.{Decoded}
+use Rattle.bench.specs.declared.Decoded.the-variants.{Taken, Refused}
 use Rattle.bench.specs.Events.{Record, early, event}
 use Rattle.bench.specs.Seats.{seat, withSeat, withController, lines, withLine, seatReset}
+
+-- what the room that an event goes to refuses: a seat event its seat, a controller event the controller
+unfoldable pub roomRefusal : Bench → Event → ℕ
+roomRefusal b (OfSeat n e) = channel.refusal (seat b n .channel) e
+roomRefusal b MasterReset = 0
+roomRefusal b (ReadController port) = refusing.refusal (b .controller .setup) (read port)
+roomRefusal b (WriteController port byte) = refusing.refusal (b .controller .setup) (write port byte)
+roomRefusal b Acknowledge = refusing.refusal (b .controller .setup) acknowledge
+
+-- "The order is 4, 3, 1, 2, then 5, 6, 7, 8, 9.": the bench's own, then the room's
+unfoldable pub refusal : Bench → Record → ℕ
+refusal b r =
+    firstHeld
+    (record { number = early r; holds = not (eqb (early r) 0) }
+    ∷ record { number = roomRefusal b (event r); holds = not (eqb (roomRefusal b (event r)) 0) }
+    ∷ [])
+
+-- "Each call touches the one seat it names, or the controller; a master reset touches all eight seats. Line changes reach the controller's
+-- latches in the same event."
+unfoldable pub after : Bench → Event → Bench
+after b (OfSeat n e) =
+    withController (withSeat b n (record { channel = channel.effect (seat b n .channel) e .channel }))
+    (settled (b .controller) (withLine (b .controller .lines .levels) n (line (channel.effect (seat b n .channel) e .channel))))
+after b MasterReset =
+    record { seats = map seatReset (b .seats); controller = settled (b .controller) (lines (map seatReset (b .seats))) }
+after b (ReadController port) = b
+after b (WriteController port byte) = withController b (controller.effect (b .controller) (write port byte) .controller)
+after b Acknowledge = withController b (controller.effect (b .controller) acknowledge .controller)
+
+-- what an accepted event is answered with
+unfoldable pub answerTo : Bench → Event → Answer
+answerTo b (OfSeat n e) = channel.effect (seat b n .channel) e .answer
+answerTo b MasterReset = Done
+answerTo b (ReadController port) = controller.effect (b .controller) (read port) .answer
+answerTo b (WriteController port byte) = controller.effect (b .controller) (write port byte) .answer
+answerTo b Acknowledge = controller.effect (b .controller) acknowledge .answer
+
+-- a bench with an answer, and "output after the event"
+abbrev pub shown : Bench → Answer → Outcome
+shown b a = record { bench = b; answer = a; output = outputOf (b .controller) }
+
+-- "The answer of every refusal is FFF and nothing changes."
+unfoldable pub outcome : Bench → Record → Outcome
+outcome b r =
+    pick (eqb (refusal b r) 0)
+    (shown (after b (event r)) (answerTo b (event r)))
+    (shown b (answer.Refused (refusal b r)))
+
+-- ---- the same on the parts that an event touches, which is how the code has it
+
+-- a decoded event: refused by its room, or done
+unfoldable pub met : Bench → Event → Outcome
+met b e =
+    pick (eqb (roomRefusal b e) 0)
+    (shown (after b e) (answerTo b e))
+    (shown b (answer.Refused (roomRefusal b e)))
+
+-- an event on the seat whose line is n, with the controller beside it
+unfoldable pub touched : Seat → Controller → ℕ → SeatEvent → Touched
+touched s c n e =
+    pick (eqb (channel.refusal (s .channel) e) 0)
+    (record {
+      seat = record { channel = channel.effect (s .channel) e .channel };
+      controller = settled c (withLine (c .lines .levels) n (line (channel.effect (s .channel) e .channel)));
+      answer = channel.effect (s .channel) e .answer;
+    })
+    (record { seat = s; controller = c; answer = answer.Refused (channel.refusal (s .channel) e) })
+
+-- a decoded record: its event is met, or its refusal shown
+unfoldable pub dealt : Bench → Decoded → Outcome
+dealt b (Taken e) = met b e
+dealt b (Refused n) = shown b (answer.Refused n)

@@ -4,3 +4,4 @@ pub mod Status
 pub mod Effects
 pub mod Steps
 pub mod StatusLaws
+pub mod StepLaws

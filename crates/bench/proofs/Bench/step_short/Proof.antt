@@ -1,0 +1,26 @@
+use mathlib.Core.Path.{_≡_, refl, ap, sym, _∙_}
+use Rattle.base.specs.Pick.{pick}
+use Rattle.base.specs.Refusals.{firstHeld}
+use Rattle.bench.specs.declared.Decoded.the-variants.{Refused}
+use Rattle.bench.specs.Events.{short, early, decoded}
+use Rattle.bench.specs.Steps.{dealt}
+use Rattle.bench.specs.MeetLaws.{outcome-dealt}
+use borrow.Author.Needs.{needs}
+use Rattle.bench.proofs.Bench.step_short.Statement.{statement}
+use Rattle.bench.proofs.Bench.step_short.Tie as tie
+
+show-requires : tie.Need-show-requires
+show-requires c κs = search needs
+
+decoded-short : decoded short ≡ Refused 4
+unfolding decoded early firstHeld pick
+decoded-short = refl
+
+returns : tie.Need-returns
+unfolding dealt
+returns c =
+    let b = c .before .args .self in
+    c .show .ensures ∙ sym (outcome-dealt b short ∙ ap (dealt b) decoded-short)
+
+pub step-short-spec : {M : Type 1} → statement M
+step-short-spec = tie.close (tie.spec show-requires returns)

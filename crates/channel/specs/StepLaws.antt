@@ -1,0 +1,53 @@
+-- A seat's step as its caller sees it: whether it was refused can be read off the answer.
+use Prim.Native.Nat.{ℕ}
+use mathlib.Core.Bool.{Bool, true, false}
+use mathlib.Core.Path.{_≡_, refl, ap, sym, _∙_}
+use mathlib.Core.Logic.{⊎-elim}
+use lib.Dec.{eqb}
+use borrow.Author.Tests.{eqb-true}
+use Rattle.base.specs.Pick.{pick}
+use Rattle.base.specs.PickLaws.{pick-true, pick-false, pick-same, pick-through, either-way}
+use Rattle.base.specs.Bits.{bit}
+use Rattle.base.specs.Answers.{refusalOf}
+use Rattle.base.specs.declared.Answer.the-variants.{Refused, Sent, Break, Idle}
+use Rattle.channel.specs.declared.Channel.{Channel}
+use Rattle.channel.specs.declared.Stepped.{Stepped}
+use Rattle.channel.specs.declared.SeatEvent.{SeatEvent}
+use Rattle.channel.specs.declared.SeatEvent.the-variants.{Read, Write, Arrival, Levels, Time}
+use Rattle.channel.specs.Effects.{timeAnswer}
+use Rattle.channel.specs.Parts.{cut}
+use Rattle.channel.specs.Steps.{refusal, effect, stepped}
+
+-- what is done is answered with no refusal
+time-taken : (c : Channel) → refusalOf (timeAnswer c) ≡ 0
+unfolding timeAnswer refusalOf
+time-taken c =
+    pick-through refusalOf (bit 6 (c .settings .lcr)) _ _
+    ∙ ap (pick (bit 6 (c .settings .lcr)) 0) (pick-through refusalOf (c .transmitter .busy) _ _ ∙ pick-same (c .transmitter .busy) 0)
+    ∙ pick-same (bit 6 (c .settings .lcr)) 0
+
+pub effect-taken : (c : Channel) (e : SeatEvent) → refusalOf (effect c e .answer) ≡ 0
+unfolding effect refusalOf
+effect-taken c (Read n) = refl
+effect-taken c (Write n byte) = refl
+effect-taken c (Arrival marks byte) = refl
+effect-taken c (Levels levels) = refl
+effect-taken c Time = time-taken c
+
+pub step-taken : (c : Channel) (e : SeatEvent) → eqb (refusal c e) 0 ≡ true → stepped c e ≡ effect c e
+unfolding stepped
+step-taken c e none = pick-true _ _ _ none
+
+pub step-refused : (c : Channel) (e : SeatEvent) → eqb (refusal c e) 0 ≡ false → stepped c e ≡ record { channel = c; answer = Refused (refusal c e) }
+unfolding stepped
+step-refused c e some = pick-false _ _ _ some
+
+-- the number in the answer is the refusal's
+pub step-number : (c : Channel) (e : SeatEvent) → refusalOf (stepped c e .answer) ≡ refusal c e
+unfolding refusalOf
+step-number c e =
+    ⊎-elim
+    (λ (none : eqb (refusal c e) 0 ≡ true).
+    ap (λ (s : Stepped). refusalOf (s .answer)) (step-taken c e none) ∙ effect-taken c e ∙ sym (eqb-true (refusal c e) 0 none))
+    (λ (some : eqb (refusal c e) 0 ≡ false). ap (λ (s : Stepped). refusalOf (s .answer)) (step-refused c e some))
+    (either-way (eqb (refusal c e) 0))
