@@ -3,3 +3,8 @@ pub mod Seats
 pub mod Refusals
 pub mod Steps
 pub mod MeetLaws
+pub mod Uses
+pub mod Runs
+pub mod UsesLaws
+pub mod FrameLaws
+pub mod RunLaws
