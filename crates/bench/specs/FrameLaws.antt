@@ -32,12 +32,12 @@ use Rattle.bench.specs.MeetLaws.{stored, seat-met}
 
 -- ---- lists of seats, of any length
 
-mapped-at : {A B : Type 0} (f : A → B) (l : List A) (n : ℕ) (d : A) (d' : B) → n < length l → getD (map f l) n d' ≡ f (getD l n d)
+pub mapped-at : {A B : Type 0} (f : A → B) (l : List A) (n : ℕ) (d : A) (d' : B) → n < length l → getD (map f l) n d' ≡ f (getD l n d)
 mapped-at f [] n d d' h = absurd (not-suc-le-zero h)
 mapped-at f (x ∷ l) zero d d' h = refl
 mapped-at f (x ∷ l) (suc n) d d' h = mapped-at f l n d d' (le-of-suc-le-suc h)
 
-mapped-length : {A B : Type 0} (f : A → B) (l : List A) → length (map f l) ≡ length l
+pub mapped-length : {A B : Type 0} (f : A → B) (l : List A) → length (map f l) ≡ length l
 mapped-length f [] = refl
 mapped-length f (x ∷ l) = ap suc (mapped-length f l)
 

@@ -8,3 +8,5 @@ pub mod Runs
 pub mod UsesLaws
 pub mod FrameLaws
 pub mod RunLaws
+pub mod LevelLaws
+pub mod OutcomeLaws
