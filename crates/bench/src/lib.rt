@@ -12,10 +12,12 @@ ghost use mathlib.Core.Path.{_≡_};
 ghost use Rattle.bench.specs.Seats.{powerUp};
 
 // What stands at a seat. The doors `seat` and `with_seat` of a bench are the only way to it.
+#[repr(C)]
 pub struct Seat {
     pub channel: Channel,
 }
 
+#[repr(C)]
 pub struct Bench {
     pub seats: [Seat; 8],
     pub controller: Controller,

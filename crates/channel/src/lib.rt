@@ -14,6 +14,7 @@ ghost use mathlib.Core.Path.{_≡_};
 ghost use Rattle.channel.specs.Parts.{powerUp, masterReset};
 ghost use Rattle.channel.specs.Steps.{stepped};
 
+#[repr(C)]
 pub struct Settings {
     pub ier: u8,
     pub fcr: u8,
@@ -25,11 +26,13 @@ pub struct Settings {
 }
 
 // `levels` are the inputs last given, `changes` the bits 0 to 3 of the MSR.
+#[repr(C)]
 pub struct Modem {
     pub levels: u8,
     pub changes: u8,
 }
 
+#[repr(C)]
 pub struct Channel {
     pub settings: Settings,
     pub receiver: Receiver,

@@ -10,12 +10,14 @@ mod turns;
 mod words;
 
 // The lines as they were last shown, and the edge latches.
+#[repr(C)]
 pub struct Lines {
     pub levels: u8,
     pub latches: u8,
 }
 
 // What the initialisation words settle.
+#[repr(C)]
 pub struct Setup {
     pub stage: u8,
     pub level: bool,
@@ -24,6 +26,7 @@ pub struct Setup {
 }
 
 // What the operation words and the grants move. `first` is the first-ranked line; `selected` has port 0 read in-service.
+#[repr(C)]
 pub struct Operation {
     pub mask: u8,
     pub service: u8,
@@ -33,6 +36,7 @@ pub struct Operation {
     pub selected: bool,
 }
 
+#[repr(C)]
 pub struct Controller {
     pub lines: Lines,
     pub setup: Setup,

@@ -5,11 +5,13 @@ ghost use Rattle.queue.specs.Queue.{emptyQueue, room, entered, replaced,
 ghost use lib.ListN.{take};
 
 // A received or waiting character; marks are 1 parity, 2 framing, 4 break.
+#[repr(C)]
 pub struct Character {
     pub data: u8,
     pub marks: u8,
 }
 
+#[repr(C)]
 pub struct Queue {
     pub slots: [Character; 16],
     pub count: u8,

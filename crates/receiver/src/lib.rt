@@ -5,6 +5,7 @@ use queue::Queue;
 ghost use mathlib.Core.Path.{_≡_};
 ghost use Rattle.receiver.specs.Receiver.{quiet, noneQueued, received, got, shownMarks, someMarked, looked, waited, cleared, turned, restarted, dataStands, timeoutStands};
 
+#[repr(C)]
 pub struct Receiver {
     pub queue: Queue,
     pub overrun: bool,

@@ -5,6 +5,7 @@ use queue::Queue;
 ghost use mathlib.Core.Path.{_≡_};
 ghost use Rattle.transmitter.specs.Transmitter.{still, noneWaiting, allSent, flagSetIf, flagCleared, written, emptied, next, shifted, enabled, loaded};
 
+#[repr(C)]
 pub struct Transmitter {
     pub queue: Queue,
     pub busy: bool,
