@@ -1,0 +1,36 @@
+-- One word for C: the answer in its low four hexadecimal digits, the refusal in the two above them, the output in the digit above these.
+use Prim.Native.Nat.{ℕ, _+_, _*_, _/_, _%_}
+use mathlib.Core.Bool.{Bool}
+use mathlib.Core.Path.{_≡_}
+use Rattle.base.specs.Bits.{bit, digit}
+use Rattle.base.specs.Answers.{refusalOf, valueOf}
+use Rattle.base.specs.declared.Answer.{Answer}
+use Rattle.bench.specs.declared.Outcome.{Outcome}
+
+-- "refusal number (0 for none), answer in three hex capitals, output after the event", as one number
+unfoldable pub wordOf : Answer → Bool → ℕ
+wordOf a high = valueOf a + 0x10000 * refusalOf a + 0x1000000 * digit high
+
+-- how each is read back from a word
+abbrev pub answerIn : ℕ → ℕ
+answerIn w = w % 0x10000
+
+abbrev pub refusalIn : ℕ → ℕ
+refusalIn w = w / 0x10000 % 0x100
+
+abbrev pub outputIn : ℕ → Bool
+outputIn w = bit 24 w
+
+-- this answer and this output are read back from a word
+pub record Reads (w : ℕ) (a : Answer) (high : Bool) : Type 0 where
+  pub refusal : refusalIn w ≡ refusalOf a
+  pub answer : answerIn w ≡ valueOf a
+  pub output : outputIn w ≡ high
+
+-- a word is the one of this answer and this output, and both can be read back from it
+abbrev pub Tells : ℕ → Answer → Bool → Type 0
+Tells w a high = (w ≡ wordOf a high) × Reads w a high
+
+-- the same of what a record came to
+abbrev pub Told : ℕ → Outcome → Type 0
+Told w o = Tells w (o .answer) (o .output)
