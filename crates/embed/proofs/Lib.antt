@@ -1,2 +1,3 @@
 -- What the walks share.
+mod InMemory
 mod Leaving
