@@ -1,0 +1,66 @@
+/* Each number of document 01's list of refusals at its edges, and their order. */
+#include "edges.h"
+
+#include <string.h>
+
+#define REFUSED_ANSWER 0xFFFU
+
+/* From power-up: divisor 1 with five bits and no parity, with eight bits, with
+   eight bits and parity; a controller after ICW2, and one that is ready. */
+#define FIVE_BITS {{1, 0, 3, 0x80}, {1, 0, 0, 1}, {1, 0, 3, 0x00}}, 3
+#define EIGHT_BITS {{1, 0, 3, 0x80}, {1, 0, 0, 1}, {1, 0, 3, 0x03}}, 3
+#define PARITY {{1, 0, 3, 0x80}, {1, 0, 0, 1}, {1, 0, 3, 0x0B}}, 3
+#define AWAITS_ICW4 {{7, 0, 0, 0x13}, {7, 0, 1, 0x40}}, 2
+#define READY {{7, 0, 0, 0x13}, {7, 0, 1, 0x40}, {7, 0, 1, 0x01}}, 3
+#define POWER_UP {{0}}, 0
+
+const struct edge edge_list[] = {
+    {"read: seat 7, 8", POWER_UP, {0, 7, 5, 0}, {0, 8, 5, 0}, 1},
+    {"write: seat 7, 255", POWER_UP, {1, 7, 7, 1}, {1, 255, 7, 1}, 1},
+    {"modem inputs: seat 7, 8", POWER_UP, {3, 7, 0, 1}, {3, 8, 0, 1}, 1},
+    {"arrival: seat 0, 8", FIVE_BITS, {2, 0, 0, 1}, {2, 8, 0, 1}, 1},
+    {"character time: seat 0, 8", FIVE_BITS, {4, 0, 0, 0}, {4, 8, 0, 0}, 1},
+    {"read: register 7, 8", POWER_UP, {0, 0, 7, 0}, {0, 0, 8, 0}, 2},
+    {"write: register 7, 8", POWER_UP, {1, 0, 7, 0xFF}, {1, 0, 8, 0xFF}, 2},
+    {"read controller: port 1, 2", READY, {6, 0, 1, 0}, {6, 0, 2, 0}, 2},
+    {"write controller: port 1, 2", READY, {7, 0, 1, 0xFF}, {7, 0, 2, 0xFF}, 2},
+    {"kind 8, 9", READY, {8, 0, 0, 0}, {9, 0, 0, 0}, 3},
+    {"kind 5, 255", POWER_UP, {5, 255, 255, 255}, {255, 0, 0, 0}, 3},
+    {"arrival: divisor 1 and 0", FIVE_BITS, {2, 0, 0, 1}, {2, 1, 0, 1}, 5},
+    {"character time: divisor 1 and 0", FIVE_BITS, {4, 0, 0, 0}, {4, 1, 0, 0}, 5},
+    {"arrival: marks 7, 8", PARITY, {2, 0, 7, 0}, {2, 0, 8, 0}, 6},
+    {"arrival: 1F, 20 at five bits", FIVE_BITS, {2, 0, 0, 0x1F}, {2, 0, 0, 0x20}, 6},
+    {"arrival: framing mark, parity mark with parity off", EIGHT_BITS, {2, 0, 2, 0xFF}, {2, 0, 1, 0xFF}, 6},
+    {"arrival: break with data 0, 1", EIGHT_BITS, {2, 0, 4, 0}, {2, 0, 4, 1}, 6},
+    {"modem levels 15, 16", POWER_UP, {3, 0, 0, 15}, {3, 0, 0, 16}, 7},
+    {"ICW4 and a read, not ready", AWAITS_ICW4, {7, 0, 1, 0x01}, {6, 0, 0, 0}, 8},
+    {"ICW4 and an acknowledge, not ready", AWAITS_ICW4, {7, 0, 1, 0x01}, {8, 0, 0, 0}, 8},
+    {"port 0 write with, without bit 4, not ready", POWER_UP, {7, 0, 0, 0x13}, {7, 0, 0, 0x20}, 8},
+    {"ICW1, and a port 1 write before it", POWER_UP, {7, 0, 0, 0x13}, {7, 0, 1, 0x40}, 8},
+    {"ICW1 with bit 0, without", POWER_UP, {7, 0, 0, 0x13}, {7, 0, 0, 0x12}, 9},
+    {"ICW1 with bit 1, without", POWER_UP, {7, 0, 0, 0x13}, {7, 0, 0, 0x11}, 9},
+    {"ICW4 with bit 0, without", AWAITS_ICW4, {7, 0, 1, 0x03}, {7, 0, 1, 0x02}, 9},
+    {"OCW3 without bit 2, with", READY, {7, 0, 0, 0x0A}, {7, 0, 0, 0x0E}, 9},
+    {"MCR 0F, 10", POWER_UP, {1, 0, 4, 0x0F}, {1, 0, 4, 0x10}, 9},
+    {"order: kind before seat and register", POWER_UP, {5, 8, 8, 0}, {9, 8, 8, 0}, 3},
+    {"order: seat before register", POWER_UP, {1, 7, 7, 0x10}, {1, 8, 8, 0x10}, 1},
+    {"order: divisor before marks", FIVE_BITS, {2, 0, 0, 0}, {2, 1, 8, 0xFF}, 5},
+};
+const size_t edge_count = sizeof edge_list / sizeof edge_list[0];
+
+static uint32_t play(struct hailstoat_bench *bench, struct step step)
+{
+    return hailstoat_event(bench, step.kind, step.seat, step.number, step.value);
+}
+
+int edge_holds(const struct edge *edge)
+{
+    struct hailstoat_bench bench = {0};
+    for (size_t i = 0; i < edge->count; i += 1)
+        if (hailstoat_word_refusal(play(&bench, edge->steps[i])) != 0)
+            return 0;
+    struct hailstoat_bench before = bench;
+    uint32_t word = play(&bench, edge->past);
+    return hailstoat_word_refusal(word) == edge->refusal && hailstoat_word_answer(word) == REFUSED_ANSWER
+        && memcmp(&before, &bench, sizeof bench) == 0 && hailstoat_word_refusal(play(&bench, edge->within)) == 0;
+}
