@@ -7,6 +7,7 @@
 #include <string.h>
 
 #include "edges.h"
+#include "fields.h"
 #include "hailstoat.h"
 
 #include "bench.h"
@@ -85,6 +86,8 @@ static unsigned one_event(struct hailstoat_bench *lent, struct bench *second, ui
         differs(seed, at, "a refused event changed the bench", e);
     if (!same_places(lent, second))
         differs(seed, at, "the place of a line differs", e);
+    if (fields_differ(lent, second) != NULL)
+        differs(seed, at, fields_differ(lent, second), e);
     return outcome.refusal != REFUSAL_NONE;
 }
 
@@ -98,7 +101,7 @@ static void streams(void)
         for (unsigned long at = 0; at < EVENTS_EACH; at += 1)
             refused += one_event(&lent, &second, seeds[i], at, stream_next(&stream));
     }
-    printf("events: %lu, of which %lu refused; answers, outputs and places as the second program's\n",
+    printf("events: %lu, of which %lu refused; answers, outputs, places and fields as the second program's\n",
            SEEDS * EVENTS_EACH, refused);
 }
 
