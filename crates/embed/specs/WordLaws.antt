@@ -20,9 +20,12 @@ undone a false small byte =
     record { refusal = omega (arith, small, byte); answer = omega (arith, small, byte); output = rw e }
 
 -- the word put together from its three parts
-pub put-together : (a : Answer) (high : Bool) (v r d : ℕ) → v ≡ valueOf a → r ≡ refusalOf a → d ≡ pick high 1 0 → v < 0x10000 → r < 0x100
+pub put-together : (a : Answer) (high : Bool) (v r d : ℕ) → v ≡ valueOf a → r ≡ refusalOf a → d ≡ pick high 1 0
+    → v < 0x10000 → r < 0x100
     → Tells (v + 0x10000 * r + 0x1000000 * d) a high
 unfolding wordOf digit
 put-together a high v r d ev er ed small byte =
     let e : v + 0x10000 * r + 0x1000000 * d ≡ wordOf a high = rw (ev, er, ed) in
-    (e, subst (λ (w : ℕ). Reads w a high) (sym e) (undone a high (subst (λ (n : ℕ). n < 0x10000) ev small) (subst (λ (n : ℕ). n < 0x100) er byte)))
+    let small-value : valueOf a < 0x10000 = subst (λ (n : ℕ). n < 0x10000) ev small in
+    let byte-refusal : refusalOf a < 0x100 = subst (λ (n : ℕ). n < 0x100) er byte in
+    (e, subst (λ (w : ℕ). Reads w a high) (sym e) (undone a high small-value byte-refusal))

@@ -27,7 +27,11 @@ use Rattle.controller.specs.declared.Controller.{Controller}
 use Rattle.bench.specs.declared.Seat.{Seat}
 use Rattle.bench.specs.declared.Bench.{Bench}
 use Rattle.bench.specs.Seats.{powerUp}
-use Rattle.embed.specs.Zeroed.{allHold, nought, eachOf, characterTests, zeroCharacter, queueTests, zeroQueue, settingsTests, zeroSettings, receiverTests, zeroReceiver, transmitterTests, zeroTransmitter, modemTests, zeroModem, channelTests, zeroChannel, linesTests, zeroLines, setupTests, zeroSetup, operationTests, zeroOperation, controllerTests, zeroController, seatTests, zeroSeat, benchTests, zeroed}
+use Rattle.embed.specs.Zeroed.{allHold, nought, eachOf}
+use Rattle.embed.specs.Zeroed.{characterTests, queueTests, settingsTests, receiverTests, transmitterTests, modemTests, channelTests}
+use Rattle.embed.specs.Zeroed.{linesTests, setupTests, operationTests, controllerTests, seatTests, benchTests}
+use Rattle.embed.specs.Zeroed.{zeroCharacter, zeroQueue, zeroSettings, zeroReceiver, zeroTransmitter, zeroModem, zeroChannel, zeroLines}
+use Rattle.embed.specs.Zeroed.{zeroSetup, zeroOperation, zeroController, zeroSeat, zeroed}
 
 pub power-up-zeroed : zeroed powerUp ≡ true
 power-up-zeroed = refl
@@ -40,7 +44,7 @@ AllHold (b ∷ bs) = (b ≡ true) × AllHold bs
 
 held : (bs : List Bool) → allHold bs ≡ true → AllHold bs
 held [] e = tt
-held (b ∷ bs) e = let p : (b ≡ true) × (allHold bs ≡ true) = both-hold b (allHold bs) e in (p .0, held bs (p .1))
+held (b ∷ bs) e = let p : _ = both-hold b (allHold bs) e in (p .0, held bs (p .1))
 
 is-0 : (n : ℕ) → nought n ≡ true → n ≡ 0
 is-0 n e = eqb-true n 0 e
@@ -50,15 +54,18 @@ is-no true e = absurd (never e)
 is-no false e = refl
 
 -- n things that can only be x are n times x
-all-are : {A : Type 0} (test : A → Bool) (x : A) → ((y : A) → test y ≡ true → y ≡ x) → (n : ℕ) (l : List A) → length l ≡ n → AllHold (map test l) → l ≡ replicate n x
+all-are : {A : Type 0} (test : A → Bool) (x : A) → ((y : A) → test y ≡ true → y ≡ x)
+    → (n : ℕ) (l : List A) → length l ≡ n → AllHold (map test l) → l ≡ replicate n x
 all-are test x is zero [] e t = refl
 all-are test x is zero (y ∷ l) e t = absurd (omega arith)
 all-are test x is (suc n) [] e t = absurd (omega arith)
 all-are test x is (suc n) (y ∷ l) e t = ap₂ _∷_ (is y (t .0)) (all-are test x is n l (omega arith) (t .1))
 
-each-is : {A : Type 0} (n : ℕ) (test : A → Bool) (x : A) → ((y : A) → test y ≡ true → y ≡ x) → (l : List A) → eachOf n test l ≡ true → l ≡ replicate n x
+each-is : {A : Type 0} (n : ℕ) (test : A → Bool) (x : A) → ((y : A) → test y ≡ true → y ≡ x)
+    → (l : List A) → eachOf n test l ≡ true → l ≡ replicate n x
 each-is n test x is l e =
-    let p : (eqb (length l) n ≡ true) × (allHold (map test l) ≡ true) = both-hold (eqb (length l) n) (allHold (map test l)) e in all-are test x is n l (eqb-true (length l) n (p .0)) (held (map test l) (p .1))
+    let p : (eqb (length l) n ≡ true) × (allHold (map test l) ≡ true) = both-hold (eqb (length l) n) (allHold (map test l)) e in
+    all-are test x is n l (eqb-true (length l) n (p .0)) (held (map test l) (p .1))
 
 abbrev seatUp : Seat
 seatUp = record { channel = channel.powerUp }
