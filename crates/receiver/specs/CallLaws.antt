@@ -1,12 +1,12 @@
 -- What each call does, in terms of the list of characters that the queue holds, the oldest first.
-use Prim.Native.Nat.{ℕ, suc, _<_}
+use Prim.Native.Nat.{ℕ, suc, _<_, _≤_}
 use mathlib.Core.Bool.{Bool, true, false, not, _||_}
 use mathlib.Core.List.{List, [], _∷_, _++_}
 use mathlib.Core.Path.{_≡_, refl, ap, sym, _∙_}
 use native.Mathlib.Omega.{arith}
 use lib.Dec.{ltb, leb}
 use lib.ListN.{length}
-use borrow.Author.Tests.{lt-ltb, eq-eqb, ne-eqb}
+use borrow.Author.Tests.{lt-ltb, le-leb, lt-leb, eq-eqb, ne-eqb}
 use Rattle.base.specs.Pick.{pick}
 use Rattle.base.specs.Bits.{bit}
 use Rattle.base.specs.PickLaws.{pick-true, pick-false}
@@ -17,7 +17,7 @@ use Rattle.queue.specs.declared.Put.{Put}
 use Rattle.queue.specs.declared.Taken.{Taken}
 use Rattle.queue.specs.Queue.{capacity, accepted, taken, plain, oldest, unmarked, anyMarked, marked}
 use Rattle.queue.specs.QueueLaws.{holding, take-oldest, unmark-oldest, unmark-none, oldest-is, oldest-none, marked-is}
-use Rattle.queue.specs.AcceptLaws.{accept-room, accept-lost, accept-replaced}
+use Rattle.queue.specs.AcceptLaws.{accept-room, accept-lost, accept-replaced, accept-cases}
 use Rattle.receiver.specs.declared.Receiver.{Receiver}
 use Rattle.receiver.specs.declared.Got.{Got}
 use Rattle.receiver.specs.Receiver.{quiet, noneQueued, received, got, shownMarks, someMarked, looked, cleared, turned, restarted, dataStands}
@@ -100,6 +100,17 @@ arrive-16450-full r old ch held =
       count-zero = refl;
       last-stays = refl;
     }
+
+-- in both modes overrun is set by an arrival that finds the queue full, and by no other
+pub arrive-overrun : (fifo : Bool) (r : Receiver) (l : List Character) (ch : Character) → r .queue ≡ holding l → length l ≤ capacity fifo
+    → received fifo r ch .overrun ≡ (r .overrun || leb (capacity fifo) (length l))
+unfolding received
+arrive-overrun fifo r l ch held within =
+    ap (λ (q : Queue). r .overrun || accepted fifo q ch .full) held
+    ∙ accept-cases fifo l ch (λ (p : Put). (r .overrun || p .full) ≡ (r .overrun || leb (capacity fifo) (length l))) within
+    (λ less. ap (λ (b : Bool). r .overrun || b) (sym (lt-leb (capacity fifo) (length l) less)))
+    (λ more mode. ap (λ (b : Bool). r .overrun || b) (sym (le-leb (capacity fifo) (length l) more)))
+    (λ old more mode one. ap (λ (b : Bool). r .overrun || b) (sym (le-leb (capacity fifo) (length l) more)))
 
 -- ---- RBR read
 

@@ -234,3 +234,22 @@ pub ledger-from-power-up : (ms : List Moment)
 ledger-from-power-up ms =
     let l = ledger atPowerUp ms (power-up-sound false) in
     (l .in-order, omega (arith, l .balanced))
+
+-- ---- a run and then another are one run
+
+pub after-both : (s : Side) (ms ns : List Moment) → afterAll s (ms ++ ns) ≡ afterAll (afterAll s ms) ns
+unfolding afterAll
+after-both s [] ns = refl
+after-both s (m ∷ ms) ns = after-both (after s m) ms ns
+
+pub arrived-both : (ms ns : List Moment) → arrivedIn (ms ++ ns) ≡ arrivedIn ms ++ arrivedIn ns
+unfolding arrivedIn
+arrived-both [] ns = refl
+arrived-both (m ∷ ms) ns = ap (λ (l : List ℕ). arriving m ++ l) (arrived-both ms ns) ∙ sym (append-assoc (arriving m) (arrivedIn ms) (arrivedIn ns))
+
+pub read-both : (s : Side) (ms ns : List Moment) → readIn s (ms ++ ns) ≡ readIn s ms ++ readIn (afterAll s ms) ns
+unfolding readIn afterAll
+read-both s [] ns = refl
+read-both s (m ∷ ms) ns =
+    ap (λ (l : List ℕ). reading s m ++ l) (read-both (after s m) ms ns)
+    ∙ sym (append-assoc (reading s m) (readIn (after s m) ms) (readIn (afterAll (after s m) ms) ns))
