@@ -120,12 +120,16 @@ module _ (c : Controller) where
   pub latch-moves : (signal : Signal) → LatchMoves c signal (step c signal .controller .lines .latches)
   latch-moves signal = latch-after signal (step c signal .controller) (outcome c signal)
 
-  -- line by line: a latch is set after new levels exactly if its line is high, and was set before or low before
-  pub latch-lines : (high n : ℕ)
-      → has (settled c high .lines .latches) n ≡ (has high n && (has (c .lines .latches) n || (has high n && not (has (c .lines .levels) n))))
+  -- line by line: a latch is set after new levels exactly if its line is high, and was latched before or low before
+  high-twice : (h x y : Bool) → (h && (x || (h && y))) ≡ (h && (x || y))
+  high-twice true x y = refl
+  high-twice false x y = refl
+
+  pub latch-lines : (high n : ℕ) → has (settled c high .lines .latches) n ≡ (has high n && (has (c .lines .latches) n || not (has (c .lines .levels) n)))
   unfolding settled
   latch-lines high n =
       has-meet high (join (c .lines .latches) (without high (c .lines .levels))) n
       ∙ ap (λ (x : Bool). has high n && x)
       (has-join (c .lines .latches) (without high (c .lines .levels)) n
       ∙ ap (λ (x : Bool). has (c .lines .latches) n || x) (has-without high (c .lines .levels) n))
+      ∙ high-twice (has high n) (has (c .lines .latches) n) (not (has (c .lines .levels) n))

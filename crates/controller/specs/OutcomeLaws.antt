@@ -14,8 +14,8 @@ use Rattle.controller.specs.State.{ready, begun, awaitsIcw2, awaitsIcw4,
 use Rattle.controller.specs.Signals.{Signal, levels, read, write, acknowledge}
 use Rattle.controller.specs.Turns.{settled, granted, grant, answered, acknowledged}
 use Rattle.controller.specs.Words.{isIcw1, isOcw3, icw1, icw2, icw4, ended, madeLast, served, endedTurn, rotatedTurn, plainEnd, rotatingEnd, command, ocw2, ocw3, written0, written1, written}
-use Rattle.controller.specs.Refusals.{portAbove, notReady, refusal}
-use Rattle.controller.specs.RefusalLaws.{Refuses, port, unready, unserved, none, refuses, step-keeps}
+use Rattle.controller.specs.Refusals.{portAbove, notReady, notServed, refusal}
+use Rattle.controller.specs.RefusalLaws.{served-parts, step-keeps}
 use Rattle.controller.specs.Steps.{effect, step}
 use Rattle.controller.specs.declared.Controller.{Controller}
 use Rattle.controller.specs.declared.Setup.{Setup}
@@ -78,15 +78,9 @@ ready-1 : (r i j : Bool) → i ≡ false → j ≡ false → (not r && (false ||
 ready-1 true i j e f g = refl
 ready-1 false i j e f g = absurd (not-both refl (rw (e, f) at g))
 
-served-signal : (s : Setup) (signal : Signal) (n : ℕ) → n ≡ 0 → Refuses s signal n → (portAbove signal ≡ false) × (notReady s signal ≡ false)
-served-signal s signal n e (port a) = absurd (omega arith)
-served-signal s signal n e (unready a b) = absurd (omega arith)
-served-signal s signal n e (unserved a b d) = absurd (omega arith)
-served-signal s signal n e (none a b d) = (a, b)
-
 module _ (c : Controller) (p b : ℕ) (free : refusal (c .setup) (write p b) ≡ 0) where
-  parts : (ltb 1 p ≡ false) × (notReady (c .setup) (write p b) ≡ false)
-  parts = served-signal (c .setup) (write p b) (refusal (c .setup) (write p b)) free (refuses (c .setup) (write p b))
+  parts : (ltb 1 p ≡ false) × (notReady (c .setup) (write p b) ≡ false) × (notServed (c .setup) (write p b) ≡ false)
+  parts = served-parts (c .setup) (write p b) free
 
   at-0 : p ≡ 0 → Outcome c (write p b) (written0 c b)
   unfolding written0

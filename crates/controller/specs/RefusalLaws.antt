@@ -3,10 +3,11 @@ use Prim.Native.Nat.{ℕ, suc}
 use mathlib.Core.Bool.{Bool, true, false, not, _&&_, _||_}
 use mathlib.Core.Path.{_≡_, refl, sym, ap, _∙_}
 use mathlib.Core.Logic.{_⊎_, inl, inr, ⊎-elim}
+use native.Mathlib.Omega.{arith}
 use borrow.Author.Tests.{eq-eqb, ne-eqb, eqb-true}
 use lib.Dec.{eqb, ltb}
 use Rattle.base.specs.Pick.{pick}
-use Rattle.base.specs.PickLaws.{pick-true, pick-false, pick-cases}
+use Rattle.base.specs.PickLaws.{pick-true, pick-false, pick-cases, not-both}
 use Rattle.base.specs.Bits.{bit}
 use Rattle.base.specs.declared.Answer.the-variants.{Refused}
 use Rattle.controller.specs.State.{ready, begun, awaitsIcw2, awaitsIcw4}
@@ -56,3 +57,25 @@ unfolding step
 step-keeps P c signal before after =
     pick-cases (λ (x : Stepped). P (x .controller)) (eqb (refusal (c .setup) signal) 0) (effect c signal) _
     (λ e. after (eqb-true (refusal (c .setup) signal) 0 e)) (λ e. before)
+
+-- where a condition holds the controller is equal after the signal
+served-signal : (s : Setup) (signal : Signal) (n : ℕ) → n ≡ 0 → Refuses s signal n
+    → (portAbove signal ≡ false) × (notReady s signal ≡ false) × (notServed s signal ≡ false)
+served-signal s signal n e (port a) = absurd (omega arith)
+served-signal s signal n e (unready a b) = absurd (omega arith)
+served-signal s signal n e (unserved a b d) = absurd (omega arith)
+served-signal s signal n e (none a b d) = (a, b, d)
+
+pub served-parts : (s : Setup) (signal : Signal) → refusal s signal ≡ 0
+    → (portAbove signal ≡ false) × (notReady s signal ≡ false) × (notServed s signal ≡ false)
+served-parts s signal free = served-signal s signal (refusal s signal) free (refuses s signal)
+
+module _ (c : Controller) (signal : Signal) where
+  pub port-keeps : portAbove signal ≡ true → step c signal .controller ≡ c
+  port-keeps e = step-keeps (λ d. d ≡ c) c signal refl (λ free. absurd (not-both e (served-parts (c .setup) signal free .0)))
+
+  pub unready-keeps : notReady (c .setup) signal ≡ true → step c signal .controller ≡ c
+  unready-keeps e = step-keeps (λ d. d ≡ c) c signal refl (λ free. absurd (not-both e (served-parts (c .setup) signal free .1)))
+
+  pub unserved-keeps : notServed (c .setup) signal ≡ true → step c signal .controller ≡ c
+  unserved-keeps e = step-keeps (λ d. d ≡ c) c signal refl (λ free. absurd (not-both e (served-parts (c .setup) signal free .2)))

@@ -30,7 +30,7 @@ unmasked false service mask n = sym (both-true (has service n))
 
 pub has-hindering : (o : Operation) (n : ℕ) → has (hindering o) n ≡ hinders o n
 unfolding hindering hinders
-has-hindering o n = unmasked (o .special) (o .service) (o .mask) n
+has-hindering o n = unmasked _ (o .service) (o .mask) n
 
 -- the place of the first-ranked grantable line, as the code finds it
 pub grantable-place : (c : Controller)
