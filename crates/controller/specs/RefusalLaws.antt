@@ -79,3 +79,11 @@ module _ (c : Controller) (signal : Signal) where
 
   pub unserved-keeps : notServed (c .setup) signal ≡ true → step c signal .controller ≡ c
   unserved-keeps e = step-keeps (λ d. d ≡ c) c signal refl (λ free. absurd (not-both e (served-parts (c .setup) signal free .2)))
+
+-- levels are never refused, and a read, refused or not, changes nothing
+pub step-levels : (c : Controller) (high : ℕ) → step c (levels high) ≡ effect c (levels high)
+unfolding refusal firstHolding pick
+step-levels c high = step-done c (levels high) refl
+
+pub read-keeps : (c : Controller) (p : ℕ) → step c (read p) .controller ≡ c
+read-keeps c p = step-keeps (λ d. d ≡ c) c (read p) refl (λ free. refl)

@@ -1,0 +1,4 @@
+pub mod Keeps
+pub mod Writes
+pub mod Rising
+pub mod InTurn

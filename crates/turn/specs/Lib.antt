@@ -1,0 +1,3 @@
+pub mod Runs
+pub mod Waiting
+pub mod Demand3
