@@ -2,3 +2,5 @@ pub mod Keeps
 pub mod Writes
 pub mod Rising
 pub mod InTurn
+pub mod Lift
+pub mod Closed
