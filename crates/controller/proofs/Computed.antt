@@ -1,11 +1,9 @@
 -- Runs that compute: what is told after each, from power-up, base 40, edge mode without automatic end.
-use Prim.Native.Nat.{ℕ}
-use mathlib.Core.Bool.{Bool, true, false}
+use mathlib.Core.Bool.{true, false}
 use mathlib.Core.List.{List, [], _∷_}
 use mathlib.Core.Path.{_≡_, refl}
 use Rattle.base.specs.Pick.{pick}
 use Rattle.base.specs.Bits.{bit}
-use Rattle.base.specs.declared.Answer.{Answer}
 use Rattle.base.specs.declared.Answer.the-variants.{Byte, Vector, Spurious, Place}
 use Rattle.rank.specs.Rank.{aboveEvery, find, firstPlace}
 use Rattle.controller.specs.State.{powerUp}

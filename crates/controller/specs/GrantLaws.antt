@@ -1,14 +1,14 @@
 -- The line that is granted is the first-ranked of the grantable ones, and the line that a plain end takes the first-ranked of those in service.
-use Prim.Native.Nat.{ℕ, _%_, _<_, _≤_}
+use Prim.Native.Nat.{ℕ, _<_, _≤_}
 use mathlib.Core.Bool.{Bool, true, false, not, _&&_, _||_}
 use mathlib.Core.Path.{_≡_, refl, sym, ap, ap₂, _∙_, subst}
-use mathlib.Core.Logic.{_⊎_, inl, inr, ⊎-elim}
-use native.Mathlib.Nat.{not-le-of-lt, eq-or-lt-of-le}
+use mathlib.Core.Logic.{⊎-elim}
+use native.Mathlib.Nat.{not-le-of-lt}
 use native.Mathlib.Omega.{arith}
-use borrow.Author.Tests.{lt-ltb, le-ltb, eq-eqb, eqb-true, ltb-true, ltb-false}
-use lib.Dec.{eqb, ltb}
+use borrow.Author.Tests.{eq-eqb, ltb-true, ltb-false}
+use lib.Dec.{ltb}
 use Rattle.base.specs.Pick.{pick}
-use Rattle.base.specs.PickLaws.{pick-true, pick-false, pick-cases, either-way, not-both, both-hold}
+use Rattle.base.specs.PickLaws.{pick-false, pick-cases, either-way, both-hold}
 use Rattle.rank.specs.Sets.{line, has, only, join, without}
 use Rattle.rank.specs.SetLaws.{has-join, has-without, has-only}
 use Rattle.rank.specs.Rank.{place, lineAt, aboveEvery, firstPlace}

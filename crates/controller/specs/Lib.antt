@@ -14,3 +14,5 @@ pub mod OutputLaws
 pub mod Valid
 pub mod ValidLaws
 pub mod LineLaws
+pub mod TableLaws
+pub mod FrameLaws

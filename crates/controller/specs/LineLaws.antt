@@ -1,9 +1,9 @@
 -- Line by line, in each mode by itself: which request stands, which line hinders, what a read shows, what place a line is told.
 use Prim.Native.Nat.{ℕ, _<_, _≤_}
 use mathlib.Core.Bool.{Bool, true, false, not, _&&_}
-use mathlib.Core.Path.{_≡_, refl, sym, ap, ap₂, _∙_}
+use mathlib.Core.Path.{_≡_, refl, ap, ap₂, _∙_}
 use native.Mathlib.Omega.{arith}
-use borrow.Author.Tests.{lt-ltb, le-ltb, eq-eqb, ne-eqb}
+use borrow.Author.Tests.{lt-ltb, le-ltb, eq-eqb}
 use lib.Dec.{eqb, ltb}
 use Rattle.base.specs.Pick.{pick}
 use Rattle.base.specs.PickLaws.{pick-true, pick-false}
@@ -14,7 +14,7 @@ use Rattle.rank.specs.RankLaws.{place-counted}
 use Rattle.controller.specs.Signals.{read}
 use Rattle.controller.specs.Turns.{requests, hinders}
 use Rattle.controller.specs.Words.{shown}
-use Rattle.controller.specs.Refusals.{firstHolding, lineAbove, placeRefusal}
+use Rattle.controller.specs.Refusals.{firstHolding, placeRefusal}
 use Rattle.controller.specs.WordLaws.{step-read}
 use Rattle.controller.specs.Steps.{step, placed}
 use Rattle.controller.specs.declared.Controller.{Controller}

@@ -1,17 +1,16 @@
 -- What moves the first-ranked line, what enters and leaves service, and what sets and clears a latch: nothing else does.
 use Prim.Native.Nat.{ℕ, _/_, _%_}
 use mathlib.Core.Bool.{Bool, true, false, not, _&&_, _||_}
-use mathlib.Core.Path.{_≡_, refl, sym, ap, ap₂, _∙_}
+use mathlib.Core.Path.{_≡_, refl, ap, _∙_}
 use mathlib.Core.Logic.{_⊎_, inl, inr}
-use Rattle.base.specs.Pick.{pick}
 use Rattle.base.specs.PickLaws.{pick-cases, both-hold}
-use Rattle.rank.specs.Sets.{line, has, only, join, meet, without}
+use Rattle.rank.specs.Sets.{line, has, only, join, without}
 use Rattle.rank.specs.SetLaws.{has-join, has-meet, has-without}
 use Rattle.rank.specs.Rank.{next}
-use Rattle.controller.specs.Signals.{Signal, levels, read, write, acknowledge}
+use Rattle.controller.specs.Signals.{Signal, levels, write, acknowledge}
 use Rattle.controller.specs.Turns.{settled, granted, taken, grant}
-use Rattle.controller.specs.Words.{isIcw1, icw1, icw2, icw4, ended, madeLast, served, ocw3}
-use Rattle.controller.specs.OutcomeLaws.{Operates, nothing, ends, ends-last, ends-line, ends-line-last, makes-last, rotates, selects, Outcome, unchanged, shows, begins, bases, readies, masks, operates, grants, outcome}
+use Rattle.controller.specs.Words.{isIcw1, icw1, ended, madeLast, served, ocw3}
+use Rattle.controller.specs.OutcomeLaws.{Operates, nothing, ends, ends-last, ends-line, ends-line-last, makes-last, rotates-on, rotates-off, selects, Outcome, unchanged, shows, begins, bases, readies, masks, operates, grants, outcome}
 use Rattle.controller.specs.Steps.{step}
 use Rattle.controller.specs.declared.Controller.{Controller}
 use Rattle.controller.specs.declared.Operation.{Operation}
@@ -36,7 +35,8 @@ module _ (c : Controller) where
   first-operated p b o z (ends-line k) = stays (write p b)
   first-operated p b o z (ends-line-last k) = by-ending-last p b z k
   first-operated p b o z (makes-last k) = by-making-last p b z k
-  first-operated p b o z (rotates on) = stays (write p b)
+  first-operated p b o z (rotates-on k) = stays (write p b)
+  first-operated p b o z (rotates-off k) = stays (write p b)
   first-operated p b o z (selects e) = stays (write p b)
 
   first-after : (signal : Signal) (d : Controller) → Outcome c signal d → FirstMoves c signal (d .operation .first)
@@ -78,7 +78,8 @@ module _ (c : Controller) where
   service-operated p b o z (ends-line k) = by-end p b (line b) z (named (inl k))
   service-operated p b o z (ends-line-last k) = by-end p b (line b) z (named (inr k))
   service-operated p b o z (makes-last k) = stays (write p b)
-  service-operated p b o z (rotates on) = stays (write p b)
+  service-operated p b o z (rotates-on k) = stays (write p b)
+  service-operated p b o z (rotates-off k) = stays (write p b)
   service-operated p b o z (selects e) = stays (write p b)
 
   service-after : (signal : Signal) (d : Controller) → Outcome c signal d → ServiceMoves c signal (d .operation .service)

@@ -1,24 +1,21 @@
 -- All that a signal can do to a controller, told apart. Whatever is not named here does not happen.
 use Prim.Native.Nat.{ℕ, _/_, _%_, _≤_}
 use mathlib.Core.Bool.{Bool, true, false, not, _&&_, _||_}
-use mathlib.Core.Path.{_≡_, refl, sym, ap, _∙_, subst}
-use mathlib.Core.Logic.{_⊎_, inl, inr, ⊎-elim}
+use mathlib.Core.Path.{_≡_, refl}
+use mathlib.Core.Logic.{⊎-elim}
 use native.Mathlib.Omega.{arith}
-use borrow.Author.Tests.{eq-eqb, ne-eqb, eqb-true, eqb-false, ltb-false}
+use borrow.Author.Tests.{eq-eqb, eqb-true, eqb-false, ltb-false}
 use lib.Dec.{eqb, ltb}
-use Rattle.base.specs.Pick.{pick}
 use Rattle.base.specs.PickLaws.{pick-cases, either-way, not-both}
-use Rattle.base.specs.Bits.{bit}
 use Rattle.rank.specs.Sets.{line}
 use Rattle.controller.specs.State.{ready, begun, awaitsIcw2, awaitsIcw4, withSetup, withOperation, withMask, withRotation}
 use Rattle.controller.specs.Signals.{Signal, levels, read, write, acknowledge}
 use Rattle.controller.specs.Turns.{settled, granted, grant, answered, acknowledged}
 use Rattle.controller.specs.Words.{isIcw1, isOcw3, icw1, icw2, icw4, ended, madeLast, served, endedTurn, rotatedTurn, plainEnd, rotatingEnd, command, ocw2, ocw3, written0, written1, written}
-use Rattle.controller.specs.Refusals.{portAbove, notReady, notServed, refusal}
+use Rattle.controller.specs.Refusals.{notReady, notServed, refusal}
 use Rattle.controller.specs.RefusalLaws.{served-parts, step-keeps}
 use Rattle.controller.specs.Steps.{effect, step}
 use Rattle.controller.specs.declared.Controller.{Controller}
-use Rattle.controller.specs.declared.Setup.{Setup}
 use Rattle.controller.specs.declared.Operation.{Operation}
 use Rattle.controller.specs.declared.Turn.{Turn}
 use Rattle.controller.specs.declared.Turn.the-variants.{Line, Nobody}
@@ -31,7 +28,8 @@ pub data Operates (o : Operation) (b : ℕ) : Operation → Type 0 where
   ends-line : b / 32 % 8 ≡ 0b011 → Operates o b (ended o (line b))
   ends-line-last : b / 32 % 8 ≡ 0b111 → Operates o b (madeLast (ended o (line b)) (line b))
   makes-last : b / 32 % 8 ≡ 0b110 → Operates o b (madeLast o (line b))
-  rotates : (on : Bool) → Operates o b (withRotation o on)
+  rotates-on : b / 32 % 8 ≡ 0b100 → Operates o b (withRotation o true)
+  rotates-off : b / 32 % 8 ≡ 0b000 → Operates o b (withRotation o false)
   selects : isOcw3 b ≡ true → Operates o b (ocw3 o b)
 
 -- what a signal does
@@ -65,8 +63,8 @@ module _ (o : Operation) (b : ℕ) where
       (λ _. pick-cases P (eqb k 0b011) _ _ (λ e. ends-line (eqb-true k 0b011 e))
       (λ _. pick-cases P (eqb k 0b111) _ _ (λ e. ends-line-last (eqb-true k 0b111 e))
       (λ _. pick-cases P (eqb k 0b110) _ _ (λ e. makes-last (eqb-true k 0b110 e))
-      (λ _. pick-cases P (eqb k 0b100) _ _ (λ e. rotates true)
-      (λ _. pick-cases P (eqb k 0b000) _ _ (λ e. rotates false) (λ _. nothing)))))))
+      (λ _. pick-cases P (eqb k 0b100) _ _ (λ e. rotates-on (eqb-true k 0b100 e))
+      (λ _. pick-cases P (eqb k 0b000) _ _ (λ e. rotates-off (eqb-true k 0b000 e)) (λ _. nothing)))))))
 
 -- ---- the ready controller, where a write is not refused
 

@@ -1,45 +1,30 @@
 -- The output tells the next acknowledge; and what an acknowledge that finds a line does.
-use Prim.Native.Nat.{ℕ, _+_, _*_, _/_, _<_}
+use Prim.Native.Nat.{ℕ, _+_, _%_, _<_}
 use mathlib.Core.Bool.{Bool, true, false, not, _&&_}
-use mathlib.Core.Path.{_≡_, refl, sym, ap, _∙_, subst}
-use mathlib.Core.Logic.{_⊎_, inl, inr, ⊎-elim}
+use mathlib.Core.Path.{_≡_, refl, sym, ap, _∙_}
 use native.Mathlib.Omega.{arith}
-use borrow.Author.Tests.{eq-eqb}
-use lib.Dec.{eqb}
-use Rattle.base.specs.Pick.{pick}
-use Rattle.base.specs.PickLaws.{pick-true, pick-false, not-both, both-hold}
+use Rattle.base.specs.PickLaws.{pick-false, not-both, both-hold}
 use Rattle.base.specs.Answers.{valueOf}
-use Rattle.base.specs.declared.Answer.the-variants.{Vector, Spurious, Refused}
+use Rattle.base.specs.declared.Answer.the-variants.{Vector, Spurious}
 use Rattle.rank.specs.Sets.{line, has, some}
-use Rattle.rank.specs.SetLaws.{some-none, none-some, one-some, line-lt}
+use Rattle.rank.specs.SetLaws.{some-none, none-some, line-lt}
 use Rattle.controller.specs.State.{ready}
 use Rattle.controller.specs.Signals.{acknowledge}
 use Rattle.controller.specs.Turns.{requests, asks, grantable, outputOf, granted, vector, grant, answered, acknowledged}
-use Rattle.controller.specs.GrantLaws.{Foremost, Finds, foremost, nobody, granted-first, grantable-parts}
+use Rattle.controller.specs.GrantLaws.{Finds, foremost, nobody, granted-first, grantable-parts}
 use Rattle.controller.specs.Refusals.{firstHolding, refusal}
-use Rattle.controller.specs.RefusalLaws.{step-done, step-refused}
+use Rattle.controller.specs.RefusalLaws.{step-done}
 use Rattle.controller.specs.Steps.{step}
 use Rattle.controller.specs.declared.Controller.{Controller}
 use Rattle.controller.specs.declared.Setup.{Setup}
-use Rattle.controller.specs.declared.Stepped.{Stepped}
 use Rattle.controller.specs.declared.Turn.{Turn}
-use Rattle.controller.specs.declared.Turn.the-variants.{Line, Nobody}
+use Rattle.controller.specs.declared.Turn.the-variants.{Nobody}
 
 module _ (c : Controller) where
   -- an acknowledge of a ready controller is not refused
   pub step-acknowledge : ready (c .setup) ≡ true → step c acknowledge ≡ answered c (granted c)
   unfolding refusal firstHolding acknowledged
   step-acknowledge up = step-done c acknowledge (pick-false false 2 _ refl ∙ pick-false (not (ready (c .setup))) 8 _ (ap not up) ∙ pick-false false 9 0 refl)
-
-  -- one that is not ready refuses it by 8
-  pub step-unready : ready (c .setup) ≡ false → step c acknowledge ≡ record { controller = c; answer = Refused 8 }
-  unfolding refusal firstHolding
-  step-unready down =
-      let e : refusal (c .setup) acknowledge ≡ 8 = pick-false false 2 _ refl ∙ pick-true (not (ready (c .setup))) 8 _ (ap not down) in
-      step-refused c acknowledge (λ z. eight (sym e ∙ z)) ∙ ap (λ (n : ℕ). record { controller = c; answer = Refused n }) e
-    where
-      eight : _≡_ {A = ℕ} 8 0 → ⊥
-      eight e = omega arith
 
 -- ---- the output
 
@@ -90,6 +75,10 @@ output-low c up e =
 pub output-unready : (c : Controller) → ready (c .setup) ≡ false → outputOf c ≡ false
 unfolding outputOf
 output-unready c down = ap (λ (x : Bool). x && some (grantable c)) down
+
+-- base + line, for a base that is a multiple of eight
+pub vector-sum : (s : Setup) (n : ℕ) → s .base % 8 ≡ 0 → n < 8 → vector s n ≡ s .base + n
+vector-sum s n eights small = omega arith
 
 -- the values tell the two apart: two digits and three
 pub vector-value : (s : Setup) (n : ℕ) → s .base < 0x100 → (valueOf (Vector (vector s n)) < 0x100) × (0x100 < valueOf (Spurious (vector s 7)))

@@ -1,17 +1,14 @@
 -- Each refusal exactly where its condition holds and none before it does; a refused signal changes nothing.
-use Prim.Native.Nat.{ℕ, suc}
-use mathlib.Core.Bool.{Bool, true, false, not, _&&_, _||_}
-use mathlib.Core.Path.{_≡_, refl, sym, ap, _∙_}
-use mathlib.Core.Logic.{_⊎_, inl, inr, ⊎-elim}
+use Prim.Native.Nat.{ℕ}
+use mathlib.Core.Bool.{Bool, true, false}
+use mathlib.Core.Path.{_≡_, refl}
 use native.Mathlib.Omega.{arith}
 use borrow.Author.Tests.{eq-eqb, ne-eqb, eqb-true}
-use lib.Dec.{eqb, ltb}
+use lib.Dec.{eqb}
 use Rattle.base.specs.Pick.{pick}
 use Rattle.base.specs.PickLaws.{pick-true, pick-false, pick-cases, not-both}
-use Rattle.base.specs.Bits.{bit}
 use Rattle.base.specs.declared.Answer.the-variants.{Refused}
-use Rattle.controller.specs.State.{ready, begun, awaitsIcw2, awaitsIcw4}
-use Rattle.controller.specs.Signals.{Signal, levels, read, write, acknowledge}
+use Rattle.controller.specs.Signals.{Signal, levels, read}
 use Rattle.controller.specs.Refusals.{firstHolding, portAbove, notReady, notServed, refusal}
 use Rattle.controller.specs.Steps.{effect, step}
 use Rattle.controller.specs.declared.Controller.{Controller}

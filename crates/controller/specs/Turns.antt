@@ -1,6 +1,6 @@
 -- Who asks, who hinders, who is next; and what a grant does.
 use Prim.Native.Nat.{ℕ, _+_, _*_, _/_}
-use mathlib.Core.Bool.{Bool, true, false, not, _&&_}
+use mathlib.Core.Bool.{Bool, not, _&&_}
 use lib.Dec.{ltb}
 use Rattle.base.specs.Pick.{pick}
 use Rattle.base.specs.declared.Answer.the-variants.{Vector, Spurious}

@@ -1,22 +1,21 @@
 -- Power-up is valid, and every signal, refused or not, keeps a valid controller valid.
 use Prim.Native.Nat.{ℕ, _+_, _*_, _/_, _%_, _<_, _≤_}
 use mathlib.Core.Bool.{Bool, true, false, not, _&&_, _||_}
-use mathlib.Core.Path.{_≡_, refl, sym, ap, ap₂, _∙_, subst}
+use mathlib.Core.Path.{_≡_, refl, sym, ap₂, _∙_}
 use native.Mathlib.Omega.{arith}
 use borrow.Author.Tests.{eq-eqb, lt-ltb, le-leb, eqb-true, ltb-true, leb-true}
 use lib.Dec.{eqb, ltb, leb}
-use Rattle.base.specs.Pick.{pick}
 use Rattle.base.specs.PickLaws.{pick-cases, both-hold, not-both}
 use Rattle.base.specs.Bits.{bit}
 use Rattle.base.specs.EveryLaws.{every-each, every-from}
-use Rattle.rank.specs.Sets.{line, has, only, join, meet, without}
+use Rattle.rank.specs.Sets.{line, has, only, join, without}
 use Rattle.rank.specs.SetLaws.{line-lt, has-meet, has-without, has-none}
 use Rattle.rank.specs.Rank.{next}
 use Rattle.controller.specs.State.{powerUp}
 use Rattle.controller.specs.Signals.{Signal}
 use Rattle.controller.specs.Turns.{settled, taken, grant}
 use Rattle.controller.specs.Words.{icw1, icw2, icw4, ended, madeLast, ocw3}
-use Rattle.controller.specs.OutcomeLaws.{Operates, nothing, ends, ends-last, ends-line, ends-line-last, makes-last, rotates, selects, Outcome, unchanged, shows, begins, bases, readies, masks, operates, grants, outcome}
+use Rattle.controller.specs.OutcomeLaws.{Operates, nothing, ends, ends-last, ends-line, ends-line-last, makes-last, rotates-on, rotates-off, selects, Outcome, unchanged, shows, begins, bases, readies, masks, operates, grants, outcome}
 use Rattle.controller.specs.Steps.{step}
 use Rattle.controller.specs.Valid.{latchesHigh, valid}
 use Rattle.controller.specs.declared.Controller.{Controller}
@@ -87,7 +86,8 @@ module _ (c : Controller) (s : SoundC c) where
   ranks b o (ends-line k) = s .ranked
   ranks b o (ends-line-last k) = next-lt (line b)
   ranks b o (makes-last k) = next-lt (line b)
-  ranks b o (rotates on) = s .ranked
+  ranks b o (rotates-on k) = s .ranked
+  ranks b o (rotates-off k) = s .ranked
   ranks b o (selects e) = s .ranked
 
   sound-after : (signal : Signal) (d : Controller) → Outcome c signal d → SoundC d

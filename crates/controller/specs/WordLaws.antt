@@ -1,9 +1,8 @@
 -- The words by their bytes: initialisation from any state, the table of OCW2, OCW3, and the mask both ways.
-use Prim.Native.Nat.{ℕ, _+_, _*_, _/_, _%_, _<_}
+use Prim.Native.Nat.{ℕ, _*_, _/_, _%_}
 use mathlib.Core.Bool.{Bool, true, false, not, _&&_, _||_}
-use mathlib.Core.Path.{_≡_, refl, sym, ap, ap₂, _∙_}
-use native.Mathlib.Omega.{arith}
-use borrow.Author.Tests.{eq-eqb, ne-eqb}
+use mathlib.Core.Path.{_≡_, refl, ap, _∙_}
+use borrow.Author.Tests.{eq-eqb}
 use lib.Dec.{eqb, ltb}
 use Rattle.base.specs.Pick.{pick}
 use Rattle.base.specs.PickLaws.{pick-true, pick-false}
@@ -11,11 +10,11 @@ use Rattle.base.specs.Bits.{bit}
 use Rattle.base.specs.declared.Answer.the-variants.{Byte, Done}
 use Rattle.rank.specs.Sets.{line}
 use Rattle.controller.specs.State.{powerUp, ready, begun, awaitsIcw2, awaitsIcw4, withSetup, withOperation, withMask, withRotation}
-use Rattle.controller.specs.Signals.{Signal, levels, read, write, acknowledge}
+use Rattle.controller.specs.Signals.{Signal, levels, read, write}
 use Rattle.controller.specs.Words.{icw1, icw2, icw4, ended, madeLast, plainEnd, rotatingEnd, command, ocw2, ocw3, written0, written1, written, shown}
 use Rattle.controller.specs.Refusals.{firstHolding, portAbove, notReady, notServed, refusal}
 use Rattle.controller.specs.RefusalLaws.{step-done}
-use Rattle.controller.specs.Steps.{effect, step}
+use Rattle.controller.specs.Steps.{step}
 use Rattle.controller.specs.declared.Controller.{Controller}
 use Rattle.controller.specs.declared.Setup.{Setup}
 use Rattle.controller.specs.declared.Operation.{Operation}
@@ -155,13 +154,17 @@ commands o n =
       no-command = refl;
     }
 
--- OCW3 by its bytes: 68 and 48 for special mask, 0B and 0A for the selection; each leaves the rest
+-- OCW3 by its bytes: 68 and 48 for special mask, 0B and 0A for the selection; each leaves the rest, and both halves act in one word
 pub record Selections (o : Operation) : Type 0 where
   pub special-on : ocw3 o 0x68 ≡ record { mask = o .mask; service = o .service; first = o .first; rotation = o .rotation; special = true; selected = o .selected }
   pub special-off : ocw3 o 0x48 ≡ record { mask = o .mask; service = o .service; first = o .first; rotation = o .rotation; special = false; selected = o .selected }
   pub in-service : ocw3 o 0x0B ≡ record { mask = o .mask; service = o .service; first = o .first; rotation = o .rotation; special = o .special; selected = true }
+  pub neither : ocw3 o 0x08 ≡ o
+  pub half-words : ocw3 o 0x29 ≡ o
+  pub both : ocw3 o 0x6B ≡ record { mask = o .mask; service = o .service; first = o .first; rotation = o .rotation; special = true; selected = true }
+  pub bit-7 : ocw3 o 0xCA ≡ record { mask = o .mask; service = o .service; first = o .first; rotation = o .rotation; special = false; selected = false }
   pub requested : ocw3 o 0x0A ≡ record { mask = o .mask; service = o .service; first = o .first; rotation = o .rotation; special = o .special; selected = false }
 
 pub selections : (o : Operation) → Selections o
 unfolding ocw3 pick bit
-selections o = record { special-on = refl; special-off = refl; in-service = refl; requested = refl }
+selections o = record { special-on = refl; special-off = refl; in-service = refl; requested = refl; neither = refl; half-words = refl; both = refl; bit-7 = refl }

@@ -1,18 +1,17 @@
 -- Demand 3, proved: one recursion over what reaches the controller.
-use Prim.Native.Nat.{ℕ, _+_, _*_, _/_, _<_, _≤_, zero-le}
+use Prim.Native.Nat.{ℕ, _+_, _<_, _≤_, zero-le}
 use mathlib.Core.Bool.{Bool, true, false, not}
 use mathlib.Core.List.{List, [], _∷_}
 use mathlib.Core.Path.{_≡_, refl, sym, ap, _∙_, subst}
-use mathlib.Core.Logic.{_⊎_, inl, inr, ⊎-elim}
+use mathlib.Core.Logic.{_⊎_, ⊎-elim}
 use native.Mathlib.Nat.{eq-or-lt-of-le}
 use native.Mathlib.Omega.{arith}
 use borrow.Author.Tests.{eqb-true, eqb-false}
 use lib.Dec.{eqb}
-use lib.ListN.{length, take}
+use lib.ListN.{length}
 use Rattle.base.specs.PickLaws.{either-way}
-use Rattle.base.specs.declared.Answer.{Answer}
-use Rattle.base.specs.declared.Answer.the-variants.{Done, Vector}
-use Rattle.rank.specs.Sets.{line, has}
+use Rattle.base.specs.declared.Answer.the-variants.{Vector}
+use Rattle.rank.specs.Sets.{line}
 use Rattle.rank.specs.Rank.{next, place}
 use Rattle.rank.specs.RankLaws.{place-lt, place-apart}
 use Rattle.controller.specs.State.{ready}
@@ -26,11 +25,11 @@ use Rattle.controller.specs.declared.Setup.{Setup}
 use Rattle.controller.specs.declared.Stepped.{Stepped}
 use Rattle.controller.specs.declared.Turn.the-variants.{Line}
 use Rattle.turn.specs.Runs.{after, answers}
-use Rattle.turn.specs.Waiting.{Start, word, paid, owes, Names, Waits}
-use Rattle.turn.specs.Demand3.{Grants, waiting, its-turn, InTurn, Demand3}
-use Rattle.turn.proofs.Keeps.{Kept, Held, Granting, Granted, settled-kept, granting, granted-other}
-use Rattle.turn.proofs.Writes.{Written, writing}
-use Rattle.turn.proofs.Rising.{Rising, Run, onward, all-ahead, none-twice, few, named-by}
+use Rattle.turn.specs.Waiting.{Start, word, paid, Names, Waits}
+use Rattle.turn.specs.Demand3.{waiting, its-turn, InTurn, Demand3}
+use Rattle.turn.proofs.Keeps.{Kept, Held, Granting, settled-kept, granting, granted-other}
+use Rattle.turn.proofs.Writes.{writing}
+use Rattle.turn.proofs.Rising.{Run, onward, all-ahead, none-twice, few, named-by}
 
 below : {x y : ℕ} → x ≤ y → (x ≡ y → ⊥) → x < y
 below l n = ⊎-elim (λ e. absurd (n e)) (λ m. m) (eq-or-lt-of-le l)

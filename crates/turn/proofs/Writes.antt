@@ -1,24 +1,22 @@
 -- What a write that may come does while line t waits.
-use Prim.Native.Nat.{ℕ, _/_, _%_, _<_, _≤_}
+use Prim.Native.Nat.{ℕ, _/_, _%_, _<_}
 use mathlib.Core.Bool.{Bool, true, false, not, _&&_, _||_}
-use mathlib.Core.Path.{_≡_, refl, sym, ap, ap₂, _∙_, subst}
-use mathlib.Core.Logic.{_⊎_, inl, inr, ⊎-elim}
+use mathlib.Core.Path.{_≡_, refl, sym, ap, _∙_, subst}
+use mathlib.Core.Logic.{⊎-elim}
 use native.Mathlib.Omega.{arith}
-use borrow.Author.Tests.{eq-eqb, ne-eqb, eqb-true, eqb-false, lt-ltb}
-use lib.Dec.{eqb, ltb}
+use borrow.Author.Tests.{eq-eqb, eqb-true, eqb-false, lt-ltb}
+use lib.Dec.{eqb}
 use Rattle.base.specs.Pick.{pick}
 use Rattle.base.specs.PickLaws.{pick-true, pick-false, either-way, not-both}
 use Rattle.base.specs.Bits.{bit}
 use Rattle.rank.specs.Sets.{line, has, only, without}
 use Rattle.rank.specs.SetLaws.{has-only, has-none, only-without}
-use Rattle.rank.specs.Rank.{next, firstPlace}
-use Rattle.rank.specs.RankLaws.{first-only}
-use Rattle.controller.specs.State.{ready, withOperation, withMask}
-use Rattle.controller.specs.Signals.{Signal, write}
+use Rattle.controller.specs.State.{withOperation}
+use Rattle.controller.specs.Signals.{write}
 use Rattle.controller.specs.Turns.{requests, hinders}
-use Rattle.controller.specs.GrantLaws.{Foremost, Finds, foremost, nobody, served-first}
+use Rattle.controller.specs.GrantLaws.{Finds, foremost, nobody, served-first}
 use Rattle.controller.specs.LineLaws.{hinders-plain}
-use Rattle.controller.specs.Words.{isIcw1, isOcw3, ended, madeLast, served, rotatedTurn, rotatingEnd, command, ocw3}
+use Rattle.controller.specs.Words.{isOcw3, ended, madeLast, served, rotatedTurn, rotatingEnd, command, ocw3}
 use Rattle.controller.specs.WordLaws.{step-mask, step-ocw2, step-ocw3, commands}
 use Rattle.controller.specs.Refusals.{icw1Served}
 use Rattle.controller.specs.RefusalLaws.{port-keeps, unserved-keeps}
@@ -27,9 +25,8 @@ use Rattle.controller.specs.declared.Controller.{Controller}
 use Rattle.controller.specs.declared.Setup.{Setup}
 use Rattle.controller.specs.declared.Operation.{Operation}
 use Rattle.controller.specs.declared.Turn.{Turn}
-use Rattle.controller.specs.declared.Turn.the-variants.{Line, Nobody}
 use Rattle.turn.specs.Waiting.{Word, mask, rotating, barred, harmless, word0, word, MayWrite, paid}
-use Rattle.turn.proofs.Keeps.{Stays, Kept, Owed, Held}
+use Rattle.turn.proofs.Keeps.{Kept, Held}
 
 pub record Written (t v : ℕ) (s : Setup) (owed : Bool) (d : Controller) : Type 0 where
   pub kept : Kept t s d
