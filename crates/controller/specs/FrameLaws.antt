@@ -1,7 +1,7 @@
 -- What moves the mask, the modes, the levels and the setup: nothing else does.
 use Prim.Native.Nat.{ℕ, _*_, _/_, _%_}
 use mathlib.Core.Bool.{Bool, true, false}
-use mathlib.Core.Path.{_≡_}
+use mathlib.Core.Path.{_≡_, refl}
 use Rattle.base.specs.Pick.{pick}
 use Rattle.base.specs.Bits.{bit}
 use Rattle.controller.specs.State.{ready, awaitsIcw2, awaitsIcw4}
@@ -13,6 +13,12 @@ use Rattle.controller.specs.Steps.{step}
 use Rattle.controller.specs.declared.Controller.{Controller}
 use Rattle.controller.specs.declared.Setup.{Setup}
 use Rattle.controller.specs.declared.Operation.{Operation}
+
+-- new levels are kept as they are shown, and touch nothing but the lines
+pub settled-levels : (c : Controller) (high : ℕ)
+    → (settled c high .lines .levels ≡ high) × (settled c high .setup ≡ c .setup) × (settled c high .operation ≡ c .operation)
+unfolding settled
+settled-levels c high = (refl, refl, refl)
 
 -- ---- the mask
 

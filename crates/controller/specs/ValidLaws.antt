@@ -12,7 +12,7 @@ use Rattle.rank.specs.Sets.{line, has, only, join, without}
 use Rattle.rank.specs.SetLaws.{line-lt, has-meet, has-without, has-none}
 use Rattle.rank.specs.Rank.{next}
 use Rattle.controller.specs.State.{powerUp}
-use Rattle.controller.specs.Signals.{Signal}
+use Rattle.controller.specs.Signals.{Signal, levels}
 use Rattle.controller.specs.Turns.{settled, taken, grant}
 use Rattle.controller.specs.Words.{icw1, icw2, icw4, ended, madeLast, ocw3}
 use Rattle.controller.specs.OutcomeLaws.{Operates, nothing, ends, ends-last, ends-line, ends-line-last, makes-last, rotates-on, rotates-off, selects, Outcome, unchanged, shows, begins, bases, readies, masks, operates, grants, outcome}
@@ -117,3 +117,6 @@ module _ (c : Controller) (s : SoundC c) where
 pub valid-kept : (c : Controller) (signal : Signal) → valid c ≡ true → valid (step c signal .controller) ≡ true
 valid-kept c signal e =
     sound-valid (step c signal .controller) (sound-after c (valid-sound c e) signal (step c signal .controller) (outcome c signal))
+
+pub valid-settled : (c : Controller) (high : ℕ) → valid c ≡ true → valid (settled c high) ≡ true
+valid-settled c high e = sound-valid (settled c high) (sound-after c (valid-sound c e) (levels high) (settled c high) (shows high))
