@@ -33,6 +33,12 @@ unfolding pick
 pick-through f true x y = refl
 pick-through f false x y = refl
 
+-- what holds of both choices, where each is made, holds of the choice
+pub pick-cases : {A : Type 0} (P : A → Type 0) (b : Bool) (x y : A) → (b ≡ true → P x) → (b ≡ false → P y) → P (pick b x y)
+unfolding pick
+pick-cases P true x y first second = first refl
+pick-cases P false x y first second = second refl
+
 -- no test both holds and fails
 pub not-both : {b : Bool} → b ≡ true → b ≡ false → ⊥
 not-both holds fails = let z : _≡_ {A = ℕ} 0 1 = cc in omega arith
