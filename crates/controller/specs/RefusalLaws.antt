@@ -9,7 +9,8 @@ use Rattle.base.specs.Pick.{pick}
 use Rattle.base.specs.PickLaws.{pick-true, pick-false, pick-cases, not-both}
 use Rattle.base.specs.declared.Answer.the-variants.{Refused}
 use Rattle.controller.specs.Signals.{Signal, levels, read}
-use Rattle.controller.specs.Refusals.{firstHolding, portAbove, notReady, notServed, refusal}
+use Rattle.controller.specs.Refusals.{portAbove, notReady, notServed, refusal}
+use Rattle.base.specs.Refusals.{firstHeld}
 use Rattle.controller.specs.Steps.{effect, step}
 use Rattle.controller.specs.declared.Controller.{Controller}
 use Rattle.controller.specs.declared.Setup.{Setup}
@@ -32,7 +33,7 @@ told s signal false false true e f g = unserved e f g
 told s signal false false false e f g = none e f g
 
 pub refuses : (s : Setup) (signal : Signal) → Refuses s signal (refusal s signal)
-unfolding refusal firstHolding
+unfolding refusal firstHeld
 refuses s signal = told s signal (portAbove signal) (notReady s signal) (notServed s signal) refl refl refl
 
 -- ---- what a step is
@@ -79,7 +80,7 @@ module _ (c : Controller) (signal : Signal) where
 
 -- levels are never refused, and a read, refused or not, changes nothing
 pub step-levels : (c : Controller) (high : ℕ) → step c (levels high) ≡ effect c (levels high)
-unfolding refusal firstHolding pick
+unfolding refusal firstHeld pick
 step-levels c high = step-done c (levels high) refl
 
 pub read-keeps : (c : Controller) (p : ℕ) → step c (read p) .controller ≡ c
