@@ -10,3 +10,4 @@ pub mod FrameLaws
 pub mod RunLaws
 pub mod LevelLaws
 pub mod OutcomeLaws
+pub mod WiredLaws
