@@ -11,3 +11,4 @@ pub mod RunLaws
 pub mod LevelLaws
 pub mod OutcomeLaws
 pub mod WiredLaws
+pub mod EdgeLaws
