@@ -1,21 +1,44 @@
 -- Bits, one by one: of a number made of its bits, of a small number, and of a sum bit by bit.
-use Prim.Native.Nat.{ℕ, zero, suc, _+_, _*_, _/_, _%_, _^_, _<_, _≤_}
+use Prim.Native.Nat.{ℕ, zero, suc, _+_, _-_, _*_, _/_, _%_, _^_, _<_, _≤_}
 use mathlib.Core.Bool.{Bool, true, false, not, _&&_, _||_}
 use mathlib.Core.List.{List, [], _∷_}
 use mathlib.Core.Path.{_≡_, refl, ap, sym, _∙_}
+use mathlib.Core.Logic.{⊎-elim}
 use native.Mathlib.Nat.{mod-lt, zero-lt-suc, le-of-suc-le-suc, not-suc-le-zero, div-eq-of-lt, div-one, pow-succ', div-div-eq-div-mul}
 use native.Mathlib.Omega.{arith}
-use lib.Dec.{eqb}
-use lib.ListN.{getD}
-use lib.Pow.{pow-pos}
+use native.Mathlib.Numerals.{add-one}
+use lib.Dec.{eqb, ltb}
+use lib.ListN.{getD, length}
+use lib.Pow.{pow-pos, pow-mono, field, mod-mod-pow}
 use lib.Bits.{bitAnd, bitOr, bitXor, and-shr, or-shr, xor-shr, and-mod, or-mod, xor-mod}
+use borrow.Author.Tests.{ltb-true, ltb-false}
 use Rattle.base.specs.Pick.{pick}
+use Rattle.base.specs.PickLaws.{either-way}
 use Rattle.base.specs.Bits.{bit, digit, bits}
 
 -- a number has no bit past its size
 pub bit-past : (k n : ℕ) → n < 2 ^ k → bit k n ≡ false
 unfolding bit
 bit-past k n small = ap (λ (q : ℕ). eqb (q % 2) 1) (div-eq-of-lt small)
+
+-- cut to its lowest m bits a number keeps these, and no other
+pub bit-cut : (k m n : ℕ) → bit k (n % 2 ^ m) ≡ (ltb k m && bit k n)
+unfolding bit
+bit-cut k m n =
+    ⊎-elim
+    (λ (e : ltb k m ≡ true).
+    let less : k < m = ltb-true k m e in
+    let j = m - suc k in
+    let sum : m ≡ suc j + k = omega arith in
+    let kept : n % 2 ^ m / 2 ^ k % 2 ≡ n / 2 ^ k % 2
+    = ap (λ (i : ℕ). n % 2 ^ i / 2 ^ k % 2) sum ∙ ap (λ (q : ℕ). q % 2) (field n (suc j) k)
+    ∙ ap (λ (i : ℕ). n / 2 ^ k % 2 ^ i % 2) (sym (add-one j)) ∙ mod-mod-pow (n / 2 ^ k) j 1 in
+    rw (kept, e))
+    (λ (e : ltb k m ≡ false).
+    let more : m ≤ k = ltb-false k m e in
+    let small : n % 2 ^ m < 2 ^ k = omega (arith, mod-lt n (pow-pos m), pow-mono more) in
+    bit-past k (n % 2 ^ m) small ∙ rw e)
+    (either-way (ltb k m))
 
 -- ---- the number made of its bits
 
@@ -47,6 +70,12 @@ unfolding bits
 bit-bits k [] = bit-zero k
 bit-bits zero (b ∷ l) = bit-lowest b (bits l)
 bit-bits (suc k) (b ∷ l) = bit-higher k b (bits l) ∙ bit-bits k l
+
+-- and it is no larger than they allow
+pub bits-small : (l : List Bool) → bits l < 2 ^ length l
+unfolding bits
+bits-small [] = omega arith
+bits-small (b ∷ l) = omega (arith, digit-le b, bits-small l, pow-succ' 2 (length l))
 
 -- ---- or, and, exclusive or, bit by bit
 
