@@ -21,6 +21,12 @@ unfolding pick
 pick-same true x = refl
 pick-same false x = refl
 
+-- what holds of both choices holds of the choice
+pub pick-either : {A : Type 0} (P : A → Type 0) (b : Bool) (x y : A) → P x → P y → P (pick b x y)
+unfolding pick
+pick-either P true x y first second = first
+pick-either P false x y first second = second
+
 -- a bound of both choices bounds the choice
 pub pick-le : (b : Bool) (x y n : ℕ) → x ≤ n → y ≤ n → pick b x y ≤ n
 unfolding pick

@@ -4,3 +4,6 @@ pub mod Status
 pub mod Effects
 pub mod Steps
 pub mod StatusLaws
+pub mod CauseLaws
+pub mod AccessLaws
+pub mod RefusalLaws
