@@ -7,3 +7,9 @@ pub mod StatusLaws
 pub mod CauseLaws
 pub mod AccessLaws
 pub mod RefusalLaws
+pub mod ReadLaws
+pub mod BackLaws
+pub mod ResetLaws
+pub mod ChangeLaws
+pub mod ModeLaws
+pub mod TimeLaws

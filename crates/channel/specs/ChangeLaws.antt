@@ -1,0 +1,53 @@
+-- The change bits of the modem inputs, bit by bit.
+use Prim.Native.Nat.{ℕ, _^_, _<_}
+use mathlib.Core.Bool.{Bool, true, false, not, _&&_, _||_, xor}
+use mathlib.Core.Path.{_≡_, refl, ap, sym, _∙_}
+use lib.Dec.{eqb}
+use borrow.Author.Tests.{lt-ltb}
+use Rattle.base.specs.Bits.{bit}
+use Rattle.base.specs.BitLaws.{bit-bits, bits-small}
+use Rattle.base.specs.PickLaws.{never}
+use Rattle.base.specs.declared.Answer.the-variants.{Done}
+use Rattle.channel.specs.declared.Channel.{Channel}
+use Rattle.channel.specs.declared.SeatEvent.the-variants.{Levels}
+use Rattle.channel.specs.Parts.{withModem}
+use Rattle.channel.specs.Effects.{differ, changesAfter, afterLevels}
+use Rattle.channel.specs.Steps.{effect, stepped}
+use Rattle.channel.specs.StatusLaws.{below-four}
+use Rattle.channel.specs.RefusalLaws.{done}
+
+-- exactly one of the two
+pub differ-xor : (a b : Bool) → differ a b ≡ xor a b
+unfolding xor
+differ-xor true true = refl
+differ-xor true false = refl
+differ-xor false true = refl
+differ-xor false false = refl
+
+module _ (changes before after : ℕ) where
+  -- CTS, DSR and DCD, bits 0, 1 and 3: set exactly if it stood or the input changed
+  pub changed : (k : ℕ) → k < 4 → eqb k 2 ≡ false → bit k (changesAfter changes before after) ≡ (bit k changes || xor (bit k before) (bit k after))
+  unfolding changesAfter
+  changed =
+      below-four (λ k. eqb k 2 ≡ false → bit k (changesAfter changes before after) ≡ (bit k changes || xor (bit k before) (bit k after)))
+      (λ other. bit-bits 0 _ ∙ ap (λ (d : Bool). bit 0 changes || d) (differ-xor (bit 0 before) (bit 0 after)))
+      (λ other. bit-bits 1 _ ∙ ap (λ (d : Bool). bit 1 changes || d) (differ-xor (bit 1 before) (bit 1 after)))
+      (λ ring. absurd (never (sym ring)))
+      (λ other. bit-bits 3 _ ∙ ap (λ (d : Bool). bit 3 changes || d) (differ-xor (bit 3 before) (bit 3 after)))
+
+  -- RI, bit 2: set exactly if it stood or the input went from active to inactive
+  pub rung : bit 2 (changesAfter changes before after) ≡ (bit 2 changes || (bit 2 before && not (bit 2 after)))
+  unfolding changesAfter
+  rung = bit-bits 2 _
+
+  -- and there are no more than these four
+  pub changes-small : changesAfter changes before after < 2 ^ 4
+  unfolding changesAfter
+  changes-small = bits-small _
+
+-- levels below 16 are taken as they are, with the changes from the levels before; nothing else changes
+pub levels-taken : (c : Channel) (levels : ℕ) → levels < 16
+    → stepped c (Levels levels)
+    ≡ record { channel = withModem c (record { levels = levels; changes = changesAfter (c .modem .changes) (c .modem .levels) levels }); answer = Done }
+unfolding effect afterLevels
+levels-taken c levels small = done c (Levels levels) (lt-ltb levels 16 small)
