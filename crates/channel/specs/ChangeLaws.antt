@@ -3,18 +3,11 @@ use Prim.Native.Nat.{ℕ, _^_, _<_}
 use mathlib.Core.Bool.{Bool, true, false, not, _&&_, _||_, xor}
 use mathlib.Core.Path.{_≡_, refl, ap, sym, _∙_}
 use lib.Dec.{eqb}
-use borrow.Author.Tests.{lt-ltb}
 use Rattle.base.specs.Bits.{bit}
 use Rattle.base.specs.BitLaws.{bit-bits, bits-small}
 use Rattle.base.specs.PickLaws.{never}
-use Rattle.base.specs.declared.Answer.the-variants.{Done}
-use Rattle.channel.specs.declared.Channel.{Channel}
-use Rattle.channel.specs.declared.SeatEvent.the-variants.{Levels}
-use Rattle.channel.specs.Parts.{withModem}
-use Rattle.channel.specs.Effects.{differ, changesAfter, afterLevels}
-use Rattle.channel.specs.Steps.{effect, stepped}
+use Rattle.channel.specs.Effects.{differ, changesAfter}
 use Rattle.channel.specs.StatusLaws.{below-four}
-use Rattle.channel.specs.RefusalLaws.{done}
 
 -- exactly one of the two
 pub differ-xor : (a b : Bool) → differ a b ≡ xor a b
@@ -44,10 +37,3 @@ module _ (changes before after : ℕ) where
   pub changes-small : changesAfter changes before after < 2 ^ 4
   unfolding changesAfter
   changes-small = bits-small _
-
--- levels below 16 are taken as they are, with the changes from the levels before; nothing else changes
-pub levels-taken : (c : Channel) (levels : ℕ) → levels < 16
-    → stepped c (Levels levels)
-    ≡ record { channel = withModem c (record { levels = levels; changes = changesAfter (c .modem .changes) (c .modem .levels) levels }); answer = Done }
-unfolding effect afterLevels
-levels-taken c levels small = done c (Levels levels) (lt-ltb levels 16 small)

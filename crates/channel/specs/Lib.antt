@@ -3,13 +3,11 @@ pub mod Registers
 pub mod Status
 pub mod Effects
 pub mod Steps
+pub mod Sound
 pub mod StatusLaws
 pub mod CauseLaws
-pub mod AccessLaws
-pub mod RefusalLaws
-pub mod ReadLaws
-pub mod BackLaws
-pub mod ResetLaws
+pub mod RegisterLaws
+pub mod IirLaws
 pub mod ChangeLaws
 pub mod ModeLaws
-pub mod TimeLaws
+pub mod WordLaws

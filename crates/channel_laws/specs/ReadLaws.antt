@@ -1,6 +1,6 @@
 -- What a read of IIR, LSR or MSR clears: what a second read shows, and that nothing else changed.
 use Prim.Native.Nat.{ℕ, _+_, _<_}
-use mathlib.Core.Bool.{Bool, true, false, not, _&&_, and-true, and-false}
+use mathlib.Core.Bool.{true, false, not, _&&_}
 use mathlib.Core.List.{List, [], _∷_}
 use mathlib.Core.Path.{_≡_, refl, ap, sym, _∙_}
 use mathlib.Core.Logic.{⊎-elim}
@@ -17,20 +17,17 @@ use Rattle.queue.specs.declared.Queue.{Queue}
 use Rattle.queue.specs.Queue.{noCharacter, oldest, plain, unmarked, anyMarked, marked}
 use Rattle.queue.specs.QueueLaws.{holding, unmark-oldest, marked-is}
 use Rattle.receiver.specs.Receiver.{looked}
-use Rattle.transmitter.specs.declared.Transmitter.{Transmitter}
-use Rattle.transmitter.specs.Transmitter.{noneWaiting, allSent, flagCleared}
 use Rattle.channel.specs.declared.Channel.{Channel}
 use Rattle.channel.specs.declared.Register.{Register}
 use Rattle.channel.specs.declared.Register.the-variants.{IirFcr, Lsr, Msr}
 use Rattle.channel.specs.declared.SeatEvent.the-variants.{Read}
-use Rattle.channel.specs.Parts.{withTransmitter, divisorShown, fifo}
+use Rattle.channel.specs.Parts.{divisorShown, fifo}
 use Rattle.channel.specs.Registers.{plainRegister, registerAt}
-use Rattle.channel.specs.Status.{lsr, msr, lineTrouble, modemChanged, causes, firstCause, cause, iir}
+use Rattle.channel.specs.Status.{lsr, msr, iir}
 use Rattle.channel.specs.Effects.{iirRead, lsrRead, msrRead, byteAt, afterRead}
 use Rattle.channel.specs.Steps.{effect, stepped}
 use Rattle.channel.specs.StatusLaws.{lsr-data, lsr-overrun, lsr-kept, lsr-oldest, lsr-empty, lsr-idle, lsr-marked, msr-changes, msr-levels}
-use Rattle.channel.specs.CauseLaws.{moved}
-use Rattle.channel.specs.RefusalLaws.{done}
+use Rattle.channel_laws.specs.RefusalLaws.{done}
 
 module _ (c : Channel) where
   -- a register below 8 is read as LCR bit 7 has it
@@ -52,51 +49,6 @@ module _ (c : Channel) where
   pub read-msr : stepped c (Read 6) ≡ record { channel = msrRead c; answer = Byte (msr c) }
   unfolding registerAt plainRegister pick afterRead byteAt
   read-msr = read-at 6 Msr refl (pick-same (divisorShown c) Msr)
-
--- ---- IIR
-
--- the channel with another holding-empty flag
-abbrev pub flagged : Channel → Bool → Channel
-flagged c flag =
-    withTransmitter c
-    (record { queue = c .transmitter .queue; busy = c .transmitter .busy; shift = c .transmitter .shift; flag = flag })
-
-told : (b : Bool) (t : Transmitter)
-    → pick b (flagCleared t) t ≡ record { queue = t .queue; busy = t .busy; shift = t .shift; flag = t .flag && not b }
-unfolding pick
-told true t = λ i. record { queue = t .queue; busy = t .busy; shift = t .shift; flag = sym (and-false (t .flag)) i }
-told false t = λ i. record { queue = t .queue; busy = t .busy; shift = t .shift; flag = sym (and-true (t .flag)) i }
-
--- an IIR read changes nothing but the flag, and that only if 02 was named
-pub iir-clears : (c : Channel) → iirRead c ≡ flagged c (c .transmitter .flag && not (eqb (cause c) 0x02))
-unfolding iirRead
-iir-clears c = ap (withTransmitter c) (told (eqb (cause c) 0x02) (c .transmitter))
-
--- any other code leaves the whole channel as it is
-pub iir-leaves : (c : Channel) → eqb (cause c) 0x02 ≡ false → iirRead c ≡ c
-unfolding iirRead
-iir-leaves c other = ap (withTransmitter c) (pick-false _ _ _ other)
-
--- the five tests with the flag cleared where it was named
-abbrev code : Bool → Bool → Bool → Bool → Bool → ℕ
-code a b c d e = pick a 0x06 (pick b 0x04 (pick c 0x0C (pick d 0x02 (pick e 0x00 0x01))))
-
-then : (a b c i f e : Bool)
-    → code a b c (i && (f && not (eqb (code a b c (i && f) e) 0x02))) e ≡ pick (eqb (code a b c (i && f) e) 0x02) (pick e 0x00 0x01) (code a b c (i && f) e)
-unfolding pick
-then true b c i f e = refl
-then false true c i f e = refl
-then false false true i f e = refl
-then false false false true true e = refl
-then false false false true false true = refl
-then false false false true false false = refl
-then false false false false f true = refl
-then false false false false f false = refl
-
--- a second IIR read names what the first did; but after 02, the modem or nothing
-pub iir-again : (c : Channel) → cause (iirRead c) ≡ pick (eqb (cause c) 0x02) (pick (moved c) 0x00 0x01) (cause c)
-unfolding cause causes firstCause lineTrouble modemChanged lsr msr noneWaiting allSent
-iir-again c = ap cause (iir-clears c) ∙ then _ _ _ (bit 1 (c .settings .ier)) (c .transmitter .flag) (moved c)
 
 -- ---- LSR
 

@@ -1,24 +1,19 @@
--- What a character time is answered with.
-use Prim.Native.Nat.{ℕ, _+_, _%_}
-use mathlib.Core.Bool.{true, false, not, _&&_}
+-- The wire: what a character time is answered with, and what new modem levels leave.
+use Prim.Native.Nat.{ℕ, _<_}
+use mathlib.Core.Bool.{true, false, not}
 use mathlib.Core.Path.{_≡_, refl, ap, _∙_}
-use lib.Dec.{ltb, eqb}
+use lib.Dec.{eqb}
+use borrow.Author.Tests.{lt-ltb}
 use Rattle.base.specs.PickLaws.{pick-true, pick-false}
 use Rattle.base.specs.Bits.{bit}
-use Rattle.base.specs.BitLaws.{bit-cut}
-use Rattle.base.specs.declared.Answer.the-variants.{Sent, Idle, Break}
+use Rattle.base.specs.declared.Answer.the-variants.{Done, Sent, Idle, Break}
 use Rattle.channel.specs.declared.Channel.{Channel}
-use Rattle.channel.specs.declared.SeatEvent.the-variants.{Time}
-use Rattle.channel.specs.Parts.{withSettings, divisor, cut}
+use Rattle.channel.specs.declared.SeatEvent.the-variants.{Levels, Time}
+use Rattle.channel.specs.Parts.{withSettings, withModem, divisor, cut}
 use Rattle.channel.specs.Registers.{withLcr}
-use Rattle.channel.specs.Effects.{afterTime, timeAnswer}
+use Rattle.channel.specs.Effects.{changesAfter, afterLevels, afterTime, timeAnswer}
 use Rattle.channel.specs.Steps.{effect, stepped}
-use Rattle.channel.specs.RefusalLaws.{done}
-
--- "cut to the word length", of 5 to 8 bits: the lower bits are the byte's, the others clear
-pub cut-bit : (lcr byte k : ℕ) → bit k (cut lcr byte) ≡ (ltb k (5 + lcr % 4) && bit k byte)
-unfolding cut
-cut-bit lcr byte k = bit-cut k (5 + lcr % 4) byte
+use Rattle.channel_laws.specs.RefusalLaws.{done}
 
 module _ (c : Channel) (going : eqb (divisor c) 0 ≡ false) where
   answered : stepped c Time .answer ≡ timeAnswer c
@@ -44,3 +39,10 @@ module _ (c : Channel) (going : eqb (divisor c) 0 ≡ false) where
 pub goes-on : (c : Channel) (lcr : ℕ) → afterTime (withSettings c (withLcr (c .settings) lcr)) ≡ withSettings (afterTime c) (withLcr (c .settings) lcr)
 unfolding afterTime
 goes-on c lcr = refl
+
+-- levels below 16 are taken as they are, with the changes from the levels before; nothing else changes
+pub levels-taken : (c : Channel) (levels : ℕ) → levels < 16
+    → stepped c (Levels levels)
+    ≡ record { channel = withModem c (record { levels = levels; changes = changesAfter (c .modem .changes) (c .modem .levels) levels }); answer = Done }
+unfolding effect afterLevels
+levels-taken c levels small = done c (Levels levels) (lt-ltb levels 16 small)

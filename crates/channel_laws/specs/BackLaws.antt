@@ -8,17 +8,17 @@ use Rattle.base.specs.PickLaws.{pick-same, both-hold}
 use Rattle.base.specs.Bits.{bit}
 use Rattle.base.specs.declared.Answer.{Answer}
 use Rattle.base.specs.declared.Answer.the-variants.{Byte, Done}
 use Rattle.channel.specs.declared.Channel.{Channel}
 use Rattle.channel.specs.declared.Settings.{Settings}
 use Rattle.channel.specs.declared.Register.{Register}
 use Rattle.channel.specs.declared.Register.the-variants.{RbrThr, Ier, IirFcr, Lcr, Mcr, Lsr, Msr, Scratch, Dll, Dlm}
 use Rattle.channel.specs.declared.SeatEvent.the-variants.{Read, Write}
 use Rattle.channel.specs.Parts.{withSettings, divisorShown}
 use Rattle.channel.specs.Registers.{plainRegister, registerAt, fcrKept, withDll, withDlm}
 use Rattle.channel.specs.Effects.{ierWritten, fcrWritten, byteAt, afterRead, afterWrite}
 use Rattle.channel.specs.Steps.{effect, stepped}
-use Rattle.channel.specs.RefusalLaws.{accepts, done}
-use Rattle.channel.specs.ReadLaws.{read-at}
+use Rattle.channel_laws.specs.RefusalLaws.{accepts, done}
+use Rattle.channel_laws.specs.ReadLaws.{read-at}
 
 -- ---- the settings after a write: one register has a new byte, and each other keeps its own
 

@@ -1,0 +1,6 @@
+pub mod RefusalLaws
+pub mod AccessLaws
+pub mod ReadLaws
+pub mod BackLaws
+pub mod ResetLaws
+pub mod WireLaws
