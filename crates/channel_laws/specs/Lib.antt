@@ -4,3 +4,5 @@ pub mod ReadLaws
 pub mod BackLaws
 pub mod ResetLaws
 pub mod WireLaws
+pub mod SoundLaws
+pub mod SoundStepLaws
