@@ -97,7 +97,7 @@ module _ (c : Channel) (named : cause c ≡ 0x0C) where
       leb-false (trigger (c .settings .fcr)) (c .receiver .queue .count)
       (unreached _ _ (reached c) _ asked mode (both-hold (not (troubled c)) (not (ready c)) (two .0) .1))
 
--- "The seat's line is high exactly if a cause is named and MCR bit 3 is set."
+-- not none is some
 some : (a b c d e : Bool) → not (not a && not b && not c && not d && not e) ≡ (a || b || c || d || e)
 some true b c d e = refl
 some false true c d e = refl
@@ -106,6 +106,7 @@ some false false false true e = refl
 some false false false false true = refl
 some false false false false false = refl
 
+-- "The seat's line is high exactly if a cause is named and MCR bit 3 is set."
 pub line-high : (c : Channel) → line c ≡ ((troubled c || ready c || late c || drained c || moved c) && bit 3 (c .settings .mcr))
 unfolding line
 line-high c =
