@@ -5,6 +5,7 @@ use mathlib.Core.Path.{_≡_, ap, _∙_}
 use native.Mathlib.Nat.{le-of-suc-le-suc, not-suc-le-zero}
 use native.Mathlib.Omega.{arith}
 use lib.Dec.{eqb}
+use borrow.Author.Tests.{eq-eqb, ne-eqb}
 use Rattle.base.specs.Pick.{pick}
 use Rattle.base.specs.PickLaws.{pick-true, pick-false, pick-le}
 use Rattle.base.specs.Bits.{bit}
@@ -97,17 +98,33 @@ cause-small c =
     (pick-le _ _ _ _ (omega arith) (omega arith)))))
 
 -- C0 beside a code
-added : (mode : Bool) (n : ℕ) → n ≤ 12 → ((n + pick mode 0xC0 0x00) % 16 ≡ n) × ((n + pick mode 0xC0 0x00) / 16 ≡ pick mode 0xC 0x0)
+added : (mode : Bool) (n : ℕ) → n ≤ 12 → (n + pick mode 0xC0 0x00) % 16 ≡ n
 unfolding pick
-added true n small = (omega arith, omega arith)
-added false n small = (omega arith, omega arith)
+added true n small = omega arith
+added false n small = omega arith
 
 -- the low digit of the IIR is the code of the cause
 pub iir-cause : (c : Channel) → iir c % 16 ≡ cause c
 unfolding iir
-iir-cause c = added (fifo c) (cause c) (cause-small c) .0
+iir-cause c = added (fifo c) (cause c) (cause-small c)
 
--- and the high one tells the mode: bits 7 and 6 are set exactly in FIFO mode, bits 5 and 4 never
-pub iir-mode : (c : Channel) → iir c / 16 ≡ pick (fifo c) 0xC 0x0
+marked-as : (mode : Bool) (n : ℕ) → n ≤ 12
+    → let m = n + pick mode 0xC0 0x00 in (bit 7 m ≡ mode) × (bit 6 m ≡ mode) × (bit 5 m ≡ false) × (bit 4 m ≡ false)
+unfolding pick bit
+marked-as true n small = (
+  eq-eqb ((n + 0xC0) / 128 % 2) 1 (omega arith),
+  eq-eqb ((n + 0xC0) / 64 % 2) 1 (omega arith),
+  ne-eqb ((n + 0xC0) / 32 % 2) 1 (λ e. omega arith),
+  ne-eqb ((n + 0xC0) / 16 % 2) 1 (λ e. omega arith),
+)
+marked-as false n small = (
+  ne-eqb ((n + 0x00) / 128 % 2) 1 (λ e. omega arith),
+  ne-eqb ((n + 0x00) / 64 % 2) 1 (λ e. omega arith),
+  ne-eqb ((n + 0x00) / 32 % 2) 1 (λ e. omega arith),
+  ne-eqb ((n + 0x00) / 16 % 2) 1 (λ e. omega arith),
+)
+
+-- its bits 7 and 6 are set exactly in FIFO mode, bits 5 and 4 never
+pub iir-mode : (c : Channel) → (bit 7 (iir c) ≡ fifo c) × (bit 6 (iir c) ≡ fifo c) × (bit 5 (iir c) ≡ false) × (bit 4 (iir c) ≡ false)
 unfolding iir
-iir-mode c = added (fifo c) (cause c) (cause-small c) .1
+iir-mode c = marked-as (fifo c) (cause c) (cause-small c)

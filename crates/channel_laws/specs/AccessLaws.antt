@@ -1,7 +1,7 @@
 -- What an access may change: a table of accesses by part of the channel. Every other part stays equal.
 use Prim.Native.Nat.{ℕ}
 use mathlib.Core.Bool.{Bool, true, false}
-use mathlib.Core.Path.{_≡_, refl, sym}
+use mathlib.Core.Path.{_≡_, refl, ap, sym, _∙_}
 use lib.Dec.{eqb}
 use Rattle.base.specs.Pick.{pick}
 use Rattle.base.specs.PickLaws.{pick-same, pick-either}
@@ -27,7 +27,7 @@ pub record Touched : Type 0 where
 abbrev row : Bool → Bool → Bool → Bool → Touched
 row s r t m = record { settings = s; receiver = r; transmitter = t; modem = m }
 
-abbrev nothing : Touched
+abbrev pub nothing : Touched
 nothing = row false false false false
 
 abbrev pub byRead : Register → Touched
@@ -117,3 +117,8 @@ touches c e =
       transmitter = sym (pick-same (byEvent c e .transmitter) (c .transmitter)) i;
       modem = sym (pick-same (byEvent c e .modem) (c .modem)) i;
     })
+
+-- where nothing may be touched, the whole channel is as it was: every read but those of RBR, IIR, LSR and MSR, and every write to LSR or MSR
+pub untouched : (c : Channel) (e : SeatEvent) → byEvent c e ≡ nothing → stepped c e .channel ≡ c
+unfolding pick
+untouched c e none = touches c e ∙ ap (λ (t : Touched). mixed t (stepped c e .channel) c) none

@@ -1,4 +1,4 @@
--- What a read of IIR, LSR or MSR clears: what a second read shows, and that nothing else changed.
+-- What a read of LSR or MSR clears: what a second read shows, and that nothing else changed.
 use Prim.Native.Nat.{ℕ, _+_, _<_}
 use mathlib.Core.Bool.{true, false, not, _&&_}
 use mathlib.Core.List.{List, [], _∷_}
@@ -100,19 +100,25 @@ module _ (c : Channel) where
       ∙ (λ i. mode i && marked (pick-true (fifo c) (unmarked (c .receiver .queue)) (c .receiver .queue) mode i))
       ∙ ap (λ (q : Queue). marked (unmarked q)) held ∙ ap marked (unmark-oldest ch l) ∙ marked-is (plain ch ∷ l)
 
+  same-count : lsrRead c .receiver .queue .count ≡ c .receiver .queue .count
+  unfolding lsrRead looked
+  same-count =
+      pick-through (λ (q : Queue). q .count) (fifo c) _ _ ∙ (λ i. pick (fifo c) (unmarked-count (c .receiver .queue) i) (c .receiver .queue .count))
+      ∙ pick-same (fifo c) (c .receiver .queue .count)
+
   -- the queue, the transmit queue and the shift register show as before
   pub lsr-again-data : bit 0 (lsr (lsrRead c)) ≡ bit 0 (lsr c)
-  unfolding lsrRead looked
-  lsr-again-data =
-      lsr-data (lsrRead c)
-      ∙ ap (λ (n : ℕ). not (eqb n 0))
-      (pick-through (λ (q : Queue). q .count) (fifo c) _ _ ∙ (λ i. pick (fifo c) (unmarked-count (c .receiver .queue) i) (c .receiver .queue .count))
-      ∙ pick-same (fifo c) (c .receiver .queue .count))
-      ∙ sym (lsr-data c)
+  lsr-again-data = lsr-data (lsrRead c) ∙ ap (λ (n : ℕ). not (eqb n 0)) same-count ∙ sym (lsr-data c)
 
   pub lsr-again-sending : (bit 5 (lsr (lsrRead c)) ≡ bit 5 (lsr c)) × (bit 6 (lsr (lsrRead c)) ≡ bit 6 (lsr c))
   unfolding lsrRead
   lsr-again-sending = (lsr-empty (lsrRead c) ∙ sym (lsr-empty c), lsr-idle (lsrRead c) ∙ sym (lsr-idle c))
+      -- the count of the queue, the time-out count and the last byte read are kept
+
+  pub lsr-leaves : (lsrRead c .receiver .queue .count ≡ c .receiver .queue .count) × (lsrRead c .receiver .timeout ≡ c .receiver .timeout)
+      × (lsrRead c .receiver .last ≡ c .receiver .last)
+  unfolding lsrRead looked
+  lsr-leaves = (same-count, refl, refl)
 
   -- ---- MSR
 

@@ -64,10 +64,11 @@ whole c s =
 
 -- ---- power-up and reset
 
-pub power-up-sound : Sound powerUp
+pub power-up-sound : soundChannel powerUp ≡ true
 unfolding fcrKept bit pick
 power-up-sound =
-    record {
+    whole powerUp
+    (record {
       enables = omega arith;
       modes = refl;
       outputs = omega arith;
@@ -75,20 +76,21 @@ power-up-sound =
       changes = omega arith;
       receiver = heard.power-up-sound (fifo powerUp);
       transmitter = sending.power-up-sound (fifo powerUp);
-    }
+    })
 
-pub reset-sound : (c : Channel) → Sound c → Sound (masterReset c)
+pub reset-sound : (c : Channel) → soundChannel c ≡ true → soundChannel (masterReset c) ≡ true
 unfolding masterReset fcrKept bit pick
-reset-sound c s =
-    record {
+reset-sound c sound =
+    whole (masterReset c)
+    (record {
       enables = omega arith;
       modes = refl;
       outputs = omega arith;
-      levels = s .levels;
+      levels = parts c sound .levels;
       changes = omega arith;
       receiver = heard.restart-sound (fifo (masterReset c)) (c .receiver);
       transmitter = sending.power-up-sound (fifo (masterReset c));
-    }
+    })
 
 -- ---- one part changed
 

@@ -29,11 +29,12 @@ use Rattle.channel.specs.Registers.{plainRegister, registerAt, fcrKept}
 use Rattle.channel.specs.Status.{cause}
 use Rattle.channel.specs.Effects.{iirRead, lsrRead, msrRead, afterRead, ierWritten, modeChanged, fcrReceiver, fcrTransmitter, fcrWritten, afterWrite, afterArrival, afterLevels, afterTime}
 use Rattle.channel.specs.Steps.{effect, stepped}
+use Rattle.channel.specs.Sound.{soundChannel}
 use Rattle.channel.specs.CauseLaws.{late-at-four}
 use Rattle.channel.specs.ChangeLaws.{differ-xor, changes-small}
 use Rattle.channel.specs.ModeLaws.{fcr-off, mode-after}
 use Rattle.channel_laws.specs.RefusalLaws.{accepts, done, refused}
-use Rattle.channel_laws.specs.SoundLaws.{Sound, with-receiver, with-transmitter, with-modem, with-settings}
+use Rattle.channel_laws.specs.SoundLaws.{Sound, parts, whole, with-receiver, with-transmitter, with-modem, with-settings}
 
 -- ---- reads
 
@@ -220,14 +221,16 @@ effect-sound c Time fine s =
       transmitter = sending.shift-sound (fifo c) (c .transmitter) (s .transmitter);
     }
 
-pub step-sound : (c : Channel) (e : SeatEvent) → Sound c → Sound (stepped c e .channel)
-step-sound c e s =
+-- an accepted event by its effect, a refused one because nothing changes
+pub step-sound : (c : Channel) (e : SeatEvent) → soundChannel c ≡ true → soundChannel (stepped c e .channel) ≡ true
+step-sound c e sound =
     ⊎-elim
-    (λ (fine : accepts c e ≡ true). subst (λ (t : Stepped). Sound (t .channel)) (sym (done c e fine)) (effect-sound c e fine s))
-    (λ (wrong : accepts c e ≡ false). subst (λ (t : Stepped). Sound (t .channel)) (sym (refused c e wrong)) s)
+    (λ (fine : accepts c e ≡ true).
+    ap (λ (t : Stepped). soundChannel (t .channel)) (done c e fine) ∙ whole (effect c e .channel) (effect-sound c e fine (parts c sound)))
+    (λ (wrong : accepts c e ≡ false). ap (λ (t : Stepped). soundChannel (t .channel)) (refused c e wrong) ∙ sound)
     (either-way (accepts c e))
 
 -- of a sound channel, 0C is named only in FIFO mode with a character queued
-pub late-waits : (c : Channel) → Sound c → cause c ≡ 0x0C → (fifo c ≡ true) × (noneQueued (c .receiver) ≡ false)
+pub late-waits : (c : Channel) → soundChannel c ≡ true → cause c ≡ 0x0C → (fifo c ≡ true) × (noneQueued (c .receiver) ≡ false)
 unfolding timeoutStands
-late-waits c s named = heard.timeout-waits (fifo c) (c .receiver) (s .receiver) (eq-eqb _ _ (late-at-four c named))
+late-waits c sound named = heard.timeout-waits (fifo c) (c .receiver) (parts c sound .receiver) (eq-eqb _ _ (late-at-four c named))
