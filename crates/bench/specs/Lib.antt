@@ -3,6 +3,7 @@ pub mod Seats
 pub mod Refusals
 pub mod Steps
 pub mod MeetLaws
+pub mod Valid
 pub mod Uses
 pub mod Runs
 pub mod UsesLaws
@@ -12,3 +13,4 @@ pub mod LevelLaws
 pub mod OutcomeLaws
 pub mod WiredLaws
 pub mod EdgeLaws
+pub mod ValidLaws
