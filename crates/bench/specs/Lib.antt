@@ -14,3 +14,4 @@ pub mod OutcomeLaws
 pub mod WiredLaws
 pub mod EdgeLaws
 pub mod ValidLaws
+pub mod AcknowledgeLaws
