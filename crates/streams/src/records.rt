@@ -15,20 +15,20 @@ pub(crate) struct Spoil {
     pub most: u8,
 }
 
-// "Twelve entries, 0 to 11: which byte, base, most."
-const SPOILS: [[u8; 3]; 12] = [
-    [1, 7, 1],
-    [1, 0, 255],
-    [2, 7, 1],
-    [2, 1, 1],
-    [2, 0, 255],
-    [3, 15, 1],
-    [3, 31, 1],
-    [3, 0, 255],
-    [0, 8, 1],
-    [0, 0, 8],
-    [0, 0, 255],
-    [3, 0, 1],
+// "Twelve entries, 0 to 11: which byte, base, most." Each is one number, as a row is.
+const SPOILS: [u32; 12] = [
+    1_007_001,
+    1_000_255,
+    2_007_001,
+    2_001_001,
+    2_000_255,
+    3_015_001,
+    3_031_001,
+    3_000_255,
+    0_008_001,
+    0_000_008,
+    0_000_255,
+    3_000_001,
 ];
 
 // "If the row's kind is 16 or more, f % 8; else if it is 4 or less, the state's seat; else f."
@@ -58,11 +58,11 @@ pub(crate) fn asked(row: Row, seat: u8, f: u8, g: u8, h: u8) -> Record {
 }
 
 pub(crate) fn spoil_at(j: u8) -> Spoil {
-    let entry = SPOILS[(j % 12) as usize];
+    let packed = SPOILS[(j % 12) as usize];
     Spoil {
-        which: entry[0],
-        base: entry[1],
-        most: entry[2],
+        which: (packed / 1_000_000 % 256) as u8,
+        base: (packed / 1000 % 1000 % 256) as u8,
+        most: (packed % 1000 % 256) as u8,
     }
 }
 

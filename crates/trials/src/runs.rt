@@ -1,15 +1,9 @@
-// A stream over a bench from power-up, with the digest of what was seen so far.
+// A stream over a bench from power-up, and the digest of what is seen.
 use bench::Bench;
 use streams::Stream;
 
 // "for line 8 it is refusal 1 and answer FFF": one line more than there are.
 const LINES: u8 = 9;
-
-struct Run {
-    stream: Stream,
-    bench: Bench,
-    digest: u32,
-}
 
 // "For each line 0 to 8 in order, its place in turn after the event."
 fn add_places(digest: u32, bench: Bench) -> u32 {
@@ -20,38 +14,19 @@ fn add_places(digest: u32, bench: Bench) -> u32 {
     sum
 }
 
-impl Run {
-    fn start(seed: u32) -> Self {
-        Run {
-            stream: Stream::start(seed),
-            bench: Bench::power_up(),
-            digest: 0,
-        }
-    }
-
-    fn event(self) -> Self {
-        let stream = self.stream;
-        let made = stream.next();
-        let record = made.record;
-        let before = self.bench;
-        let outcome = before.step(record.kind, record.seat, record.number, record.value);
-        let bench = outcome.bench;
-        let answer = outcome.answer;
-        let mark = streams::outcome_mark(answer, outcome.output);
-        let digest = add_places(streams::add(self.digest, mark), bench);
-        let rest = made.stream;
-        Run {
-            stream: rest,
-            bench,
-            digest,
-        }
-    }
-}
-
 pub(crate) fn digest(seed: u32, count: u64) -> u32 {
-    let mut run = Run::start(seed);
+    let mut stream = Stream::start(seed);
+    let mut bench = Bench::power_up();
+    let mut sum: u32 = 0;
     for _ in 0..count {
-        run = run.event();
+        let made = stream.next();
+        stream = made.stream;
+        let record = made.record;
+        let outcome = bench.step(record.kind, record.seat, record.number, record.value);
+        bench = outcome.bench;
+        let answer = outcome.answer;
+        sum = streams::add(sum, streams::outcome_mark(answer, outcome.output));
+        sum = add_places(sum, bench);
     }
-    run.digest
+    sum
 }
