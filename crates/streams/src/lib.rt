@@ -10,6 +10,7 @@ mod steps;
 pub use digest::add;
 pub use digest::outcome_mark;
 pub use digest::place_mark;
+ghost use mathlib.Core.Path.{_≡_};
 
 pub struct Record {
     pub kind: u8,
@@ -33,7 +34,9 @@ pub struct Made {
 }
 
 impl Stream {
-    pub fn start(seed: u32) -> Self {
+    pub fn start(seed: u32) -> Self
+        ensures { λ r. ⌜ r ≡ record { x = seed; mood = 0; seat = 0; row = 0; stop = 0; left = 0 } ⌝ }
+    {
         Stream {
             x: seed,
             mood: 0,

@@ -18,7 +18,7 @@ cast-result : tie.Need-cast-result
 cast-result c = omega (arith, below (c .args .x) (c .args .most))
 
 returns : tie.Need-returns
-returns c = omega (arith, below (c .args .x) (c .args .most))
+returns c = (search needs, omega (arith, below (c .args .x) (c .args .most)))
 
 pub pick-spec : {M : Type 1} → statement M
 pick-spec = tie.close (tie.spec add-result rem-result cast-result returns)
