@@ -14,7 +14,7 @@ use Rattle.rank.specs.Sets.{join, without, only}
 use Rattle.channel.specs.declared.SeatEvent.{SeatEvent}
 use Rattle.channel.specs.Status.{line}
 use Rattle.channel.specs.Status as status
-use Rattle.channel.specs.Parts as parts
+use Rattle.registers.specs.Words as words
 use Rattle.receiver.specs.Receiver as heard
 use Rattle.transmitter.specs.Transmitter as sent
 use Rattle.queue.specs.Queue as queued
@@ -117,5 +117,5 @@ module _ (b : Bench) (w : Wired b) where
 
 -- at power-up every line is low
 pub wired-power-up : Wired powerUp
-unfolding lines bits digit pick bit status.lsr status.msr status.lineTrouble status.modemChanged status.causes status.firstCause status.cause status.line parts.trigger heard.noneQueued heard.shownMarks heard.someMarked heard.dataStands heard.timeoutStands sent.noneWaiting sent.allSent queued.oldest queued.anyMarked queued.marked
+unfolding lines bits digit pick bit status.lsr status.msr status.lineTrouble status.modemChanged status.causes status.firstCause status.cause status.line words.trigger heard.noneQueued heard.shownMarks heard.someMarked heard.dataStands heard.timeoutStands sent.noneWaiting sent.allSent queued.oldest queued.anyMarked queued.marked
 wired-power-up = record { eight = refl; levels = refl }

@@ -1,5 +1,4 @@
 pub mod Parts
-pub mod Registers
 pub mod Status
 pub mod Effects
 pub mod Steps
@@ -7,8 +6,6 @@ pub mod Sound
 pub mod StatusLaws
 pub mod StepLaws
 pub mod CauseLaws
-pub mod RegisterLaws
 pub mod IirLaws
 pub mod ChangeLaws
 pub mod ModeLaws
-pub mod WordLaws

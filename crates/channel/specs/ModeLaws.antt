@@ -17,8 +17,9 @@ use Rattle.receiver.specs.Receiver.{cleared, turned}
 use Rattle.transmitter.specs.declared.Transmitter.{Transmitter}
 use Rattle.transmitter.specs.Transmitter.{noneWaiting, flagSetIf, emptied, enabled}
 use Rattle.channel.specs.declared.Channel.{Channel}
-use Rattle.channel.specs.Parts.{fifo, trigger}
-use Rattle.channel.specs.Registers.{fcrKept}
+use Rattle.channel.specs.Parts.{fifo}
+use Rattle.registers.specs.Words.{trigger}
+use Rattle.registers.specs.Registers.{fcrKept}
 use Rattle.channel.specs.Effects.{ierWritten, modeChanged, fcrReceiver, fcrTransmitter, fcrWritten}
 use Rattle.channel.specs.ChangeLaws.{differ-xor}
 

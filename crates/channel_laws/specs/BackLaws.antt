@@ -9,12 +9,12 @@ use Rattle.base.specs.Bits.{bit}
 use Rattle.base.specs.declared.Answer.{Answer}
 use Rattle.base.specs.declared.Answer.the-variants.{Byte, Done}
 use Rattle.channel.specs.declared.Channel.{Channel}
-use Rattle.channel.specs.declared.Settings.{Settings}
-use Rattle.channel.specs.declared.Register.{Register}
-use Rattle.channel.specs.declared.Register.the-variants.{RbrThr, Ier, IirFcr, Lcr, Mcr, Lsr, Msr, Scratch, Dll, Dlm}
+use Rattle.registers.specs.declared.Settings.{Settings}
+use Rattle.registers.specs.declared.Register.{Register}
+use Rattle.registers.specs.declared.Register.the-variants.{RbrThr, Ier, IirFcr, Lcr, Mcr, Lsr, Msr, Scratch, Dll, Dlm}
 use Rattle.channel.specs.declared.SeatEvent.the-variants.{Read, Write}
 use Rattle.channel.specs.Parts.{withSettings, divisorShown}
-use Rattle.channel.specs.Registers.{plainRegister, registerAt, fcrKept, withDll, withDlm}
+use Rattle.registers.specs.Registers.{plainRegister, registerAt, fcrKept, withDll, withDlm}
 use Rattle.channel.specs.Effects.{ierWritten, fcrWritten, byteAt, afterRead, afterWrite}
 use Rattle.channel.specs.Steps.{effect, stepped}
 use Rattle.channel_laws.specs.RefusalLaws.{accepts, done}

@@ -18,11 +18,11 @@ use Rattle.queue.specs.Queue.{noCharacter, oldest, plain, unmarked, anyMarked, 
 use Rattle.queue.specs.QueueLaws.{holding, unmark-oldest, marked-is}
 use Rattle.receiver.specs.Receiver.{looked}
 use Rattle.channel.specs.declared.Channel.{Channel}
-use Rattle.channel.specs.declared.Register.{Register}
-use Rattle.channel.specs.declared.Register.the-variants.{IirFcr, Lsr, Msr}
+use Rattle.registers.specs.declared.Register.{Register}
+use Rattle.registers.specs.declared.Register.the-variants.{IirFcr, Lsr, Msr}
 use Rattle.channel.specs.declared.SeatEvent.the-variants.{Read}
 use Rattle.channel.specs.Parts.{divisorShown, fifo}
-use Rattle.channel.specs.Registers.{plainRegister, registerAt}
+use Rattle.registers.specs.Registers.{plainRegister, registerAt}
 use Rattle.channel.specs.Status.{lsr, msr, iir}
 use Rattle.channel.specs.Effects.{iirRead, lsrRead, msrRead, byteAt, afterRead}
 use Rattle.channel.specs.Steps.{effect, stepped}

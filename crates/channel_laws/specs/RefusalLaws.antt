@@ -14,8 +14,10 @@ use Rattle.base.specs.declared.Answer.the-variants.{Refused}
 use Rattle.channel.specs.declared.Channel.{Channel}
 use Rattle.channel.specs.declared.SeatEvent.{SeatEvent}
 use Rattle.channel.specs.declared.SeatEvent.the-variants.{Read, Write, Arrival, Levels, Time}
-use Rattle.channel.specs.Parts.{divisor, wordBits}
-use Rattle.channel.specs.Steps.{registerAbove, noDivisor, badArrival, arrivalWrong, levelsAbove, loopAsked, grounds, refusal, effect, stepped}
+use Rattle.channel.specs.Parts.{divisor}
+use Rattle.registers.specs.Words.{wordBits}
+use Rattle.channel.specs.Steps.{registerAbove, noDivisor, arrivalWrong, levelsAbove, loopAsked, grounds, refusal, effect, stepped}
+use Rattle.registers.specs.Words.{badArrival}
 
 -- "The order is 4, 3, 1, 2, then 5, 6, 7, 8, 9": of these a seat gives five, each behind the earlier ones
 pub record Given (c : Channel) (e : SeatEvent) : Type 0 where

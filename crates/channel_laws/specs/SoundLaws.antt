@@ -17,7 +17,7 @@ use Rattle.transmitter.specs.SoundLaws as sending
 use Rattle.channel.specs.declared.Channel.{Channel}
 use Rattle.channel.specs.declared.Modem.{Modem}
 use Rattle.channel.specs.Parts.{powerUp, masterReset, withSettings, withReceiver, withTransmitter, withModem, fifo}
-use Rattle.channel.specs.Registers.{fcrKept}
+use Rattle.registers.specs.Registers.{fcrKept}
 use Rattle.channel.specs.Sound.{soundChannel}
 
 -- the parts of soundness, each as a fact

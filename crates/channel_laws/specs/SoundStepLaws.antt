@@ -20,12 +20,12 @@ use Rattle.transmitter.specs.Sound.{soundTransmitter}
 use Rattle.transmitter.specs.SoundLaws as sending
 use Rattle.channel.specs.declared.Channel.{Channel}
 use Rattle.channel.specs.declared.Stepped.{Stepped}
-use Rattle.channel.specs.declared.Register.{Register}
-use Rattle.channel.specs.declared.Register.the-variants.{RbrThr, Ier, IirFcr, Lcr, Mcr, Lsr, Msr, Scratch, Dll, Dlm}
+use Rattle.registers.specs.declared.Register.{Register}
+use Rattle.registers.specs.declared.Register.the-variants.{RbrThr, Ier, IirFcr, Lcr, Mcr, Lsr, Msr, Scratch, Dll, Dlm}
 use Rattle.channel.specs.declared.SeatEvent.{SeatEvent}
 use Rattle.channel.specs.declared.SeatEvent.the-variants.{Read, Write, Arrival, Levels, Time}
 use Rattle.channel.specs.Parts.{divisorShown, divisor, fifo}
-use Rattle.channel.specs.Registers.{plainRegister, registerAt, fcrKept}
+use Rattle.registers.specs.Registers.{plainRegister, registerAt, fcrKept}
 use Rattle.channel.specs.Status.{cause}
 use Rattle.channel.specs.Effects.{iirRead, lsrRead, msrRead, afterRead, ierWritten, modeChanged, fcrReceiver, fcrTransmitter, fcrWritten, afterWrite, afterArrival, afterLevels, afterTime}
 use Rattle.channel.specs.Steps.{effect, stepped}

@@ -9,8 +9,9 @@ use Rattle.base.specs.Bits.{bit}
 use Rattle.base.specs.declared.Answer.the-variants.{Done, Sent, Idle, Break}
 use Rattle.channel.specs.declared.Channel.{Channel}
 use Rattle.channel.specs.declared.SeatEvent.the-variants.{Levels, Time}
-use Rattle.channel.specs.Parts.{withSettings, withModem, divisor, cut}
-use Rattle.channel.specs.Registers.{withLcr}
+use Rattle.channel.specs.Parts.{withSettings, withModem, divisor}
+use Rattle.registers.specs.Words.{cut}
+use Rattle.registers.specs.Registers.{withLcr}
 use Rattle.channel.specs.Effects.{changesAfter, afterLevels, afterTime, timeAnswer}
 use Rattle.channel.specs.Steps.{effect, stepped}
 use Rattle.channel_laws.specs.RefusalLaws.{done}

@@ -1,7 +1,7 @@
 use Rattle.base.specs.PickLaws.{tests, pick-true, pick-false}
-use Rattle.channel.specs.Registers.{plainRegister}
-use Rattle.channel.proofs.Settings.plain_register.Statement.{statement}
-use Rattle.channel.proofs.Settings.plain_register.Tie as tie
+use Rattle.registers.specs.Registers.{plainRegister}
+use Rattle.registers.proofs.Settings.plain_register.Statement.{statement}
+use Rattle.registers.proofs.Settings.plain_register.Tie as tie
 
 returns : tie.Need-returns
 unfolding plainRegister

@@ -5,9 +5,9 @@ use mathlib.Core.List.{[], _∷_}
 use lib.Dec.{eqb}
 use Rattle.base.specs.Pick.{pick}
 use Rattle.base.specs.Bits.{bit, bits}
-use Rattle.channel.specs.declared.Settings.{Settings}
-use Rattle.channel.specs.declared.Register.{Register}
-use Rattle.channel.specs.declared.Register.the-variants.{RbrThr, Ier, IirFcr, Lcr, Mcr, Lsr, Msr, Scratch, Dll, Dlm}
+use Rattle.registers.specs.declared.Settings.{Settings}
+use Rattle.registers.specs.declared.Register.{Register}
+use Rattle.registers.specs.declared.Register.the-variants.{RbrThr, Ier, IirFcr, Lcr, Mcr, Lsr, Msr, Scratch, Dll, Dlm}
 
 -- "Registers (document 003, Table 2): 0 RBR/THR, 1 IER, 2 IIR read and FCR write, 3 LCR, 4 MCR, 5 LSR, 6 MSR, 7 scratch."
 unfoldable pub plainRegister : ℕ → Register

@@ -1,13 +1,34 @@
-// The settings by name: registers, their bits, the mode, the trigger and the word length.
-use crate::Register;
-use crate::Settings;
+// The settings of a channel: its registers by name, the mode, the trigger, the divisor and the word length.
 ghost use mathlib.Core.Path.{_≡_};
 ghost use Prim.Native.Nat.{_+_, _*_};
 ghost use lib.Dec.{eqb};
 ghost use Rattle.base.specs.Bits.{bit};
-ghost use Rattle.channel.specs.Parts.{trigger, cut};
-ghost use Rattle.channel.specs.Registers.{plainRegister, registerAt, fcrKept};
-ghost use Rattle.channel.specs.Steps.{beyondWord};
+ghost use Rattle.registers.specs.Words.{trigger, cut};
+ghost use Rattle.registers.specs.Registers.{plainRegister, registerAt, fcrKept};
+ghost use Rattle.registers.specs.Words.{beyondWord, badArrival};
+
+pub struct Settings {
+    pub ier: u8,
+    pub fcr: u8,
+    pub lcr: u8,
+    pub mcr: u8,
+    pub scratch: u8,
+    pub dll: u8,
+    pub dlm: u8,
+}
+
+pub enum Register {
+    RbrThr,
+    Ier,
+    IirFcr,
+    Lcr,
+    Mcr,
+    Lsr,
+    Msr,
+    Scratch,
+    Dll,
+    Dlm,
+}
 
 impl Settings {
     pub const IER_DATA: u8 = 0;
@@ -50,13 +71,13 @@ impl Settings {
 
     pub const TRIGGER_14: u8 = 14;
 
-    pub(crate) fn is_fifo(self) -> bool
+    pub fn is_fifo(self) -> bool
         ensures { λ r. ⌜ r ≡ bit 0 (self .fcr) ⌝ }
     {
         base::bit(Settings::FCR_FIFO, self.fcr)
     }
 
-    pub(crate) fn trigger(self) -> u8
+    pub fn trigger(self) -> u8
         ensures { λ r. ⌜ r ≡ trigger (self .fcr) ⌝ }
     {
         let high = base::bit(Settings::FCR_TRIGGER_HIGH, self.fcr);
@@ -83,7 +104,7 @@ impl Settings {
         }
     }
 
-    pub(crate) fn register(self, number: u8) -> Register
+    pub fn register(self, number: u8) -> Register
         ensures { λ r. ⌜ r ≡ registerAt (bit 7 (self .lcr)) number ⌝ }
     {
         let shown = base::bit(Settings::LCR_DIVISOR, self.lcr);
@@ -99,7 +120,7 @@ impl Settings {
         Settings::plain_register(number)
     }
 
-    pub(crate) fn fcr_kept(byte: u8) -> u8
+    pub fn fcr_kept(byte: u8) -> u8
         ensures { λ r. ⌜ r ≡ fcrKept byte ⌝ }
     {
         let on = base::bit(Settings::FCR_FIFO, byte);
@@ -112,13 +133,13 @@ impl Settings {
         0
     }
 
-    pub(crate) fn no_divisor(self) -> bool
+    pub fn no_divisor(self) -> bool
         ensures { λ r. ⌜ r ≡ eqb (self .dll + 256 * self .dlm) 0 ⌝ }
     {
         self.dll as u16 + 256 * self.dlm as u16 == 0
     }
 
-    pub(crate) fn cut(self, byte: u8) -> u8
+    pub fn cut(self, byte: u8) -> u8
         ensures { λ r. ⌜ r ≡ cut (self .lcr) byte ⌝ }
     {
         let length = self.lcr % 4;
@@ -130,7 +151,7 @@ impl Settings {
         }
     }
 
-    pub(crate) fn is_beyond_word(self, byte: u8) -> bool
+    fn is_beyond_word(self, byte: u8) -> bool
         ensures { λ r. ⌜ r ≡ beyondWord (self .lcr) byte ⌝ }
     {
         let length = self.lcr % 4;
@@ -140,5 +161,15 @@ impl Settings {
             2 => 128 <= byte,
             _ => false,
         }
+    }
+
+    pub fn is_bad_arrival(self, marks: u8, byte: u8) -> bool
+        ensures { λ r. ⌜ r ≡ badArrival (self .lcr) marks byte ⌝ }
+    {
+        let beyond = self.is_beyond_word(byte);
+        let parity = base::bit(0, marks);
+        let asked = base::bit(Settings::LCR_PARITY, self.lcr);
+        let broken = base::bit(2, marks);
+        (7 < marks) | beyond | (parity & !asked) | (broken & !(byte == 0))
     }
 }

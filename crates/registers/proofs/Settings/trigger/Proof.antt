@@ -1,8 +1,8 @@
 use Rattle.base.specs.PickLaws.{pick-true, pick-false}
-use Rattle.channel.specs.Parts.{trigger}
+use Rattle.registers.specs.Words.{trigger}
 use borrow.Author.Needs.{needs}
-use Rattle.channel.proofs.Settings.trigger.Statement.{statement}
-use Rattle.channel.proofs.Settings.trigger.Tie as tie
+use Rattle.registers.proofs.Settings.trigger.Statement.{statement}
+use Rattle.registers.proofs.Settings.trigger.Tie as tie
 
 bit-requires : tie.Need-bit-requires
 bit-requires c κs = search needs

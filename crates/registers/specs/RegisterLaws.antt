@@ -4,8 +4,8 @@ use mathlib.Core.List.{[], _∷_}
 use mathlib.Core.Path.{_≡_, refl}
 use Rattle.base.specs.Pick.{pick}
 use Rattle.base.specs.ListLaws.{listed}
-use Rattle.channel.specs.declared.Register.the-variants.{RbrThr, Ier, IirFcr, Lcr, Mcr, Lsr, Msr, Scratch, Dll, Dlm}
-use Rattle.channel.specs.Registers.{plainRegister, registerAt}
+use Rattle.registers.specs.declared.Register.the-variants.{RbrThr, Ier, IirFcr, Lcr, Mcr, Lsr, Msr, Scratch, Dll, Dlm}
+use Rattle.registers.specs.Registers.{plainRegister, registerAt}
 
 -- "0 RBR/THR, 1 IER, 2 IIR read and FCR write, 3 LCR, 4 MCR, 5 LSR, 6 MSR, 7 scratch"
 pub plain-registers : listed 8 (registerAt false) ≡ RbrThr ∷ Ier ∷ IirFcr ∷ Lcr ∷ Mcr ∷ Lsr ∷ Msr ∷ Scratch ∷ []

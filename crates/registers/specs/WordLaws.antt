@@ -5,7 +5,7 @@ use mathlib.Core.Path.{_≡_}
 use lib.Dec.{ltb}
 use Rattle.base.specs.Bits.{bit}
 use Rattle.base.specs.BitLaws.{bit-cut}
-use Rattle.channel.specs.Parts.{cut}
+use Rattle.registers.specs.Words.{cut}
 
 -- "cut to the word length", of 5 to 8 bits: the lower bits are the byte's, the others clear
 pub cut-bit : (lcr byte k : ℕ) → bit k (cut lcr byte) ≡ (ltb k (5 + lcr % 4) && bit k byte)

@@ -1,8 +1,8 @@
 use Rattle.base.specs.PickLaws.{pick-true, pick-false}
-use Rattle.channel.specs.Steps.{badArrival}
+use Rattle.registers.specs.Words.{badArrival}
 use borrow.Author.Needs.{needs}
-use Rattle.channel.proofs.Settings.is_bad_arrival.Statement.{statement}
-use Rattle.channel.proofs.Settings.is_bad_arrival.Tie as tie
+use Rattle.registers.proofs.Settings.is_bad_arrival.Statement.{statement}
+use Rattle.registers.proofs.Settings.is_bad_arrival.Tie as tie
 
 is-beyond-word-requires : tie.Need-is-beyond-word-requires
 is-beyond-word-requires c κs = search needs

@@ -1,9 +1,9 @@
 use Rattle.base.specs.PickLaws.{pick-true, pick-false}
 use borrow.Author.Tests.{eq-eqb, ne-eqb}
-use Rattle.channel.specs.Registers.{registerAt}
+use Rattle.registers.specs.Registers.{registerAt}
 use borrow.Author.Needs.{needs}
-use Rattle.channel.proofs.Settings.register.Statement.{statement}
-use Rattle.channel.proofs.Settings.register.Tie as tie
+use Rattle.registers.proofs.Settings.register.Statement.{statement}
+use Rattle.registers.proofs.Settings.register.Tie as tie
 
 bit-requires : tie.Need-bit-requires
 bit-requires c κs = search needs
