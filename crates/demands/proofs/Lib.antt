@@ -1,3 +1,4 @@
 pub mod Starred
 pub mod Demand1
 pub mod Demand2
+pub mod Demand3
