@@ -5,3 +5,5 @@ pub mod Effects
 pub mod Steps
 pub mod StatusLaws
 pub mod StepLaws
+pub mod Moments
+pub mod MomentLaws
