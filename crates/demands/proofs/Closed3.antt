@@ -32,7 +32,7 @@ use Rattle.turn.specs.Waiting.{Start}
 use Rattle.turn.specs.Waiting as turn-waiting
 use Rattle.turn.specs.Demand3.{InTurn}
 use Rattle.bench.specs.declared.Bench.{Bench}
-use Rattle.bench.specs.Events.{Record, whole}
+use Rattle.bench.specs.Events.{Record, whole, short}
 use Rattle.bench.specs.Seats.{powerUp}
 use Rattle.bench.specs.Runs.{afterAll}
 use Rattle.bench.specs.Steps.{outcome}
@@ -60,8 +60,8 @@ in-order : List Answer
 in-order = Vector 0x40 ∷ Vector 0x41 ∷ Vector 0x42 ∷ Vector 0x43 ∷ Vector 0x44 ∷ Vector 0x45 ∷ Vector 0x46 ∷ Vector 0x47 ∷ []
 
 -- the premises hold, and these are the answers
-abbrev Closed : Bench → List Record → Type 0
-Closed b rs = Start (b .controller) 7 × Kept 7 false b rs × (told b rs ≡ in-order)
+abbrev Closed : Bench → List Record → List Answer → Type 0
+Closed b rs answers = Start (b .controller) 7 × Kept 7 false b rs × (told b rs ≡ answers)
 
 -- ---- level mode, automatic end with rotation, all eight seats call
 
@@ -71,7 +71,7 @@ set-automatic = whole 7 0 0 0x1B ∷ whole 7 0 1 0x40 ∷ whole 7 0 1 0x03 ∷ w
 eight : List Record
 eight = asks ∷ asks ∷ asks ∷ asks ∷ asks ∷ asks ∷ asks ∷ asks ∷ []
 
-automatic-closed : Closed (afterAll powerUp set-automatic) eight
+automatic-closed : Closed (afterAll powerUp set-automatic) eight in-order
 unfolding in-order set-automatic all-call calls eight asks base-pick.pick base-bits.bit base-bits.digit base-bits.bits base-answers.refusalOf base-answers.valueOf base-refusals.firstHeld queue-queue.room queue-queue.entered queue-queue.replaced queue-queue.capacity queue-queue.accepted queue-queue.movedDown queue-queue.taken queue-queue.oldest queue-queue.unmarked queue-queue.anyMarked queue-queue.marked queue-queue.clear queue-queue.canonical receiver-receiver.noneQueued receiver-receiver.received receiver-receiver.got receiver-receiver.shownMarks receiver-receiver.someMarked receiver-receiver.looked receiver-receiver.waited receiver-receiver.cleared receiver-receiver.turned receiver-receiver.restarted receiver-receiver.dataStands receiver-receiver.timeoutStands transmitter-transmitter.noneWaiting transmitter-transmitter.allSent transmitter-transmitter.flagSetIf transmitter-transmitter.written transmitter-transmitter.emptied transmitter-transmitter.next transmitter-transmitter.shifted transmitter-transmitter.enabled channel-parts.masterReset channel-parts.trigger channel-parts.cut channel-registers.plainRegister channel-registers.registerAt channel-registers.fcrKept channel-status.lsr channel-status.msr channel-status.lineTrouble channel-status.modemChanged channel-status.causes channel-status.firstCause channel-status.cause channel-status.iir channel-status.line channel-effects.iirRead channel-effects.lsrRead channel-effects.msrRead channel-effects.byteAt channel-effects.afterRead channel-effects.ierWritten channel-effects.modeChanged channel-effects.fcrReceiver channel-effects.fcrTransmitter channel-effects.fcrWritten channel-effects.afterWrite channel-effects.afterArrival channel-effects.changesAfter channel-effects.afterLevels channel-effects.afterTime channel-effects.timeAnswer channel-steps.registerAbove channel-steps.noDivisor channel-steps.badArrival channel-steps.arrivalWrong channel-steps.levelsAbove channel-steps.loopAsked channel-steps.grounds channel-steps.refusal channel-steps.effect channel-steps.stepped rank-rank.before rank-rank.aboveEvery rank-rank.find rank-rank.firstPlace controller-turns.settled controller-turns.requests controller-turns.asks controller-turns.hinders controller-turns.grantable controller-turns.outputOf controller-turns.found controller-turns.granted controller-turns.taken controller-turns.grant controller-turns.acknowledged controller-turns.asking controller-turns.hindering controller-words.icw1 controller-words.icw2 controller-words.icw4 controller-words.ended controller-words.madeLast controller-words.served controller-words.plainEnd controller-words.rotatingEnd controller-words.command controller-words.ocw2 controller-words.ocw3 controller-words.written0 controller-words.written1 controller-words.written controller-words.shown controller-refusals.refusal controller-refusals.placeRefusal controller-steps.step controller-steps.placed bench-events.early bench-events.eventOf bench-events.decoded bench-events.refusedNumber bench-seats.seat bench-seats.withSeat bench-seats.lines bench-seats.withLine bench-refusals.grounds bench-refusals.refusal bench-steps.after bench-steps.answerTo bench-steps.outcome bench-steps.roomRefusal bench-steps.met bench-steps.touched bench-steps.dealt
 automatic-closed = (
   record { line = omega arith; up = refl; idle = refl; plain = refl; turns = inl (refl, refl); stands = refl; unmasked = refl },
@@ -95,7 +95,7 @@ serves n = asks ∷ whole 0 n 6 0 ∷ whole 7 0 0 0xA0 ∷ whole 3 n 0 0 ∷ []
 served-each : List Record
 served-each = serves 0 ++ serves 1 ++ serves 2 ++ serves 3 ++ serves 4 ++ serves 5 ++ serves 6 ++ (asks ∷ [])
 
-manual-closed : Closed (afterAll powerUp set-manual) served-each
+manual-closed : Closed (afterAll powerUp set-manual) served-each in-order
 unfolding in-order set-manual all-call calls served-each serves asks turn-waiting.word turn-waiting.word0 base-pick.pick base-bits.bit base-bits.digit base-bits.bits base-answers.refusalOf base-answers.valueOf base-refusals.firstHeld queue-queue.room queue-queue.entered queue-queue.replaced queue-queue.capacity queue-queue.accepted queue-queue.movedDown queue-queue.taken queue-queue.oldest queue-queue.unmarked queue-queue.anyMarked queue-queue.marked queue-queue.clear queue-queue.canonical receiver-receiver.noneQueued receiver-receiver.received receiver-receiver.got receiver-receiver.shownMarks receiver-receiver.someMarked receiver-receiver.looked receiver-receiver.waited receiver-receiver.cleared receiver-receiver.turned receiver-receiver.restarted receiver-receiver.dataStands receiver-receiver.timeoutStands transmitter-transmitter.noneWaiting transmitter-transmitter.allSent transmitter-transmitter.flagSetIf transmitter-transmitter.written transmitter-transmitter.emptied transmitter-transmitter.next transmitter-transmitter.shifted transmitter-transmitter.enabled channel-parts.masterReset channel-parts.trigger channel-parts.cut channel-registers.plainRegister channel-registers.registerAt channel-registers.fcrKept channel-status.lsr channel-status.msr channel-status.lineTrouble channel-status.modemChanged channel-status.causes channel-status.firstCause channel-status.cause channel-status.iir channel-status.line channel-effects.iirRead channel-effects.lsrRead channel-effects.msrRead channel-effects.byteAt channel-effects.afterRead channel-effects.ierWritten channel-effects.modeChanged channel-effects.fcrReceiver channel-effects.fcrTransmitter channel-effects.fcrWritten channel-effects.afterWrite channel-effects.afterArrival channel-effects.changesAfter channel-effects.afterLevels channel-effects.afterTime channel-effects.timeAnswer channel-steps.registerAbove channel-steps.noDivisor channel-steps.badArrival channel-steps.arrivalWrong channel-steps.levelsAbove channel-steps.loopAsked channel-steps.grounds channel-steps.refusal channel-steps.effect channel-steps.stepped rank-rank.before rank-rank.aboveEvery rank-rank.find rank-rank.firstPlace controller-turns.settled controller-turns.requests controller-turns.asks controller-turns.hinders controller-turns.grantable controller-turns.outputOf controller-turns.found controller-turns.granted controller-turns.taken controller-turns.grant controller-turns.acknowledged controller-turns.asking controller-turns.hindering controller-words.icw1 controller-words.icw2 controller-words.icw4 controller-words.ended controller-words.madeLast controller-words.served controller-words.plainEnd controller-words.rotatingEnd controller-words.command controller-words.ocw2 controller-words.ocw3 controller-words.written0 controller-words.written1 controller-words.written controller-words.shown controller-refusals.refusal controller-refusals.placeRefusal controller-steps.step controller-steps.placed bench-events.early bench-events.eventOf bench-events.decoded bench-events.refusedNumber bench-seats.seat bench-seats.withSeat bench-seats.lines bench-seats.withLine bench-refusals.grounds bench-refusals.refusal bench-steps.after bench-steps.answerTo bench-steps.outcome bench-steps.roomRefusal bench-steps.met bench-steps.touched bench-steps.dealt
 manual-closed = (
   record { line = omega arith; up = refl; idle = refl; plain = refl; turns = inr refl; stands = refl; unmasked = refl },
@@ -106,3 +106,20 @@ manual-closed = (
 manual-in-turn : InTurn (afterAll powerUp set-manual .controller) 7 (told (afterAll powerUp set-manual) served-each)
 unfolding Demand3
 manual-in-turn = demand-3-bench _ 7 served-each (wired-all powerUp set-manual wired-power-up) (manual-closed .0) (manual-closed .1)
+
+-- ---- from there, with masks that move, OCW2 010, which does nothing, reads of the controller and of seat 7 itself, a line of another seat
+-- that falls, and records that are refused: the third acknowledge names line 7
+
+restless : List Record
+restless =
+    whole 7 0 1 0x7E ∷ asks ∷ whole 7 0 0 0x40 ∷ whole 7 0 0 0x10 ∷ whole 9 0 0 0 ∷ whole 0 8 0 0 ∷ short ∷ whole 7 0 0 0xA0
+    ∷ whole 6 0 1 0 ∷ whole 0 1 6 0 ∷ whole 0 7 5 0 ∷ whole 7 0 1 0x6F ∷ whole 7 0 0 0x0B ∷ asks ∷ whole 7 0 0 0xA0 ∷ whole 3 2 0 16
+    ∷ whole 7 2 2 0xC7 ∷ whole 7 0 1 0x00 ∷ whole 7 0 1 0x7F ∷ asks ∷ []
+
+restless-closed : Closed (afterAll powerUp set-manual) restless (Vector 0x40 ∷ Vector 0x44 ∷ Vector 0x47 ∷ [])
+unfolding set-manual all-call calls restless asks turn-waiting.word turn-waiting.word0 base-pick.pick base-bits.bit base-bits.digit base-bits.bits base-answers.refusalOf base-answers.valueOf base-refusals.firstHeld queue-queue.room queue-queue.entered queue-queue.replaced queue-queue.capacity queue-queue.accepted queue-queue.movedDown queue-queue.taken queue-queue.oldest queue-queue.unmarked queue-queue.anyMarked queue-queue.marked queue-queue.clear queue-queue.canonical receiver-receiver.noneQueued receiver-receiver.received receiver-receiver.got receiver-receiver.shownMarks receiver-receiver.someMarked receiver-receiver.looked receiver-receiver.waited receiver-receiver.cleared receiver-receiver.turned receiver-receiver.restarted receiver-receiver.dataStands receiver-receiver.timeoutStands transmitter-transmitter.noneWaiting transmitter-transmitter.allSent transmitter-transmitter.flagSetIf transmitter-transmitter.written transmitter-transmitter.emptied transmitter-transmitter.next transmitter-transmitter.shifted transmitter-transmitter.enabled channel-parts.masterReset channel-parts.trigger channel-parts.cut channel-registers.plainRegister channel-registers.registerAt channel-registers.fcrKept channel-status.lsr channel-status.msr channel-status.lineTrouble channel-status.modemChanged channel-status.causes channel-status.firstCause channel-status.cause channel-status.iir channel-status.line channel-effects.iirRead channel-effects.lsrRead channel-effects.msrRead channel-effects.byteAt channel-effects.afterRead channel-effects.ierWritten channel-effects.modeChanged channel-effects.fcrReceiver channel-effects.fcrTransmitter channel-effects.fcrWritten channel-effects.afterWrite channel-effects.afterArrival channel-effects.changesAfter channel-effects.afterLevels channel-effects.afterTime channel-effects.timeAnswer channel-steps.registerAbove channel-steps.noDivisor channel-steps.badArrival channel-steps.arrivalWrong channel-steps.levelsAbove channel-steps.loopAsked channel-steps.grounds channel-steps.refusal channel-steps.effect channel-steps.stepped rank-rank.before rank-rank.aboveEvery rank-rank.find rank-rank.firstPlace controller-turns.settled controller-turns.requests controller-turns.asks controller-turns.hinders controller-turns.grantable controller-turns.outputOf controller-turns.found controller-turns.granted controller-turns.taken controller-turns.grant controller-turns.acknowledged controller-turns.asking controller-turns.hindering controller-words.icw1 controller-words.icw2 controller-words.icw4 controller-words.ended controller-words.madeLast controller-words.served controller-words.plainEnd controller-words.rotatingEnd controller-words.command controller-words.ocw2 controller-words.ocw3 controller-words.written0 controller-words.written1 controller-words.written controller-words.shown controller-refusals.refusal controller-refusals.placeRefusal controller-steps.step controller-steps.placed bench-events.early bench-events.eventOf bench-events.decoded bench-events.refusedNumber bench-seats.seat bench-seats.withSeat bench-seats.lines bench-seats.withLine bench-refusals.grounds bench-refusals.refusal bench-steps.after bench-steps.answerTo bench-steps.outcome bench-steps.roomRefusal bench-steps.met bench-steps.touched bench-steps.dealt
+restless-closed = (
+  record { line = omega arith; up = refl; idle = refl; plain = refl; turns = inr refl; stands = refl; unmasked = refl },
+  (refl, inr (refl, (refl, inr (refl, (tt, inr (refl, (tt, inr (refl, (tt, inr (refl, (tt, inr (refl, (tt, inr (refl, (tt, inr (refl, (tt, inr (refl, (tt, inr (refl, (tt, inr (refl, (refl, inr (refl, (tt, inr (refl, (refl, inr (refl, (tt, inr (refl, (tt, inr (refl, (tt, inr (refl, (refl, inr (refl, (refl, inr (refl, (refl, inl refl))))))))))))))))))))))))))))))))))))))),
+  refl,
+)
