@@ -5,3 +5,4 @@ pub mod Demand3
 pub mod Closed3
 pub mod SeatLedger
 pub mod Once
+pub mod ClosedLedger
