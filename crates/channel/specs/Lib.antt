@@ -9,3 +9,5 @@ pub mod CauseLaws
 pub mod IirLaws
 pub mod ChangeLaws
 pub mod ModeLaws
+pub mod Moments
+pub mod MomentLaws
