@@ -1,6 +1,6 @@
 -- No second outcome: the one law, and each public call by it.
 use mathlib.Core.Path.{_≡_, sym, _∙_}
-use Rattle.demands.specs.Once.{Once, BaseOnce, QueueOnce, ReceiverOnce, TransmitterOnce, ChannelOnce, RankOnce, ControllerOnce, BenchOnce, RatesOnce}
+use Rattle.demands.specs.Once.{Once, BaseOnce, QueueOnce, ReceiverOnce, TransmitterOnce, ChannelOnce, RankOnce, ControllerOnce, BenchOnce, RatesOnce, RegistersOnce, StreamsOnce}
 
 -- what equals one value is one
 once : {A : Type 0} (d : A) → Once (λ (r : A). r ≡ d)
@@ -130,4 +130,25 @@ pub rates-once : RatesOnce
 rates-once =
     record {
       rates·divisor = λ rate clock. once _;
+    }
+
+pub registers-once : RegistersOnce
+registers-once =
+    record {
+      registers·Settings·is-fifo = λ self. once _;
+      registers·Settings·trigger = λ self. once _;
+      registers·Settings·register = λ self number. once _;
+      registers·Settings·fcr-kept = λ byte. once _;
+      registers·Settings·no-divisor = λ self. once _;
+      registers·Settings·cut = λ self byte. once _;
+      registers·Settings·is-bad-arrival = λ self marks byte. once _;
+    }
+
+pub streams-once : StreamsOnce
+streams-once =
+    record {
+      streams·Stream·start = λ seed. once _;
+      streams·add = λ digest v. once _;
+      streams·outcome-mark = λ answer output. once _;
+      streams·place-mark = λ place. once _;
     }

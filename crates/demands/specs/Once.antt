@@ -1,11 +1,16 @@
 -- No second outcome: two results that meet the contract of a call are equal, for every public call. Each line has the contract's own words.
-use Prim.Native.Nat.{ℕ, _≤_}
+use Prim.Native.Nat.{ℕ, _+_, _*_, _%_, _≤_}
 use mathlib.Core.Bool.{Bool}
 use mathlib.Core.List.{[], _∷_}
 use mathlib.Core.Path.{_≡_}
 use Rattle.base.specs.declared.Answer.{Answer}
 use Rattle.base.specs.Answers.{refusalOf, valueOf}
-use Rattle.base.specs.Bits.{bit, bits}
+use Rattle.base.specs.Bits.{bit, digit, bits}
+use lib.Dec.{eqb}
+use Rattle.registers.specs.declared.Settings.{Settings}
+use Rattle.registers.specs.Registers.{fcrKept, registerAt}
+use Rattle.registers.specs.Words.{badArrival, cut, trigger}
+use Rattle.streams.specs.declared.Stream.{Stream}
 use Rattle.base.specs.Pick.{pick}
 use Rattle.queue.specs.declared.Character.{Character}
 use Rattle.queue.specs.declared.Queue.{Queue}
@@ -64,6 +69,17 @@ pub record QueueOnce : Type 0 where
   pub queue·Queue·first : (self : Queue) → Once (λ r. r ≡ oldest self)
   pub queue·Queue·unmark : (self : Queue) → Once (λ r. r ≡ unmarked self)
   pub queue·Queue·any-marked : (self : Queue) → Once (λ r. r ≡ marked self)
+
+-- ---- registers: the settings
+
+pub record RegistersOnce : Type 0 where
+  pub registers·Settings·is-fifo : (self : Settings) → Once (λ r. r ≡ bit 0 (self .fcr))
+  pub registers·Settings·trigger : (self : Settings) → Once (λ r. r ≡ trigger (self .fcr))
+  pub registers·Settings·register : (self : Settings) (number : ℕ) → Once (λ r. r ≡ registerAt (bit 7 (self .lcr)) number)
+  pub registers·Settings·fcr-kept : (byte : ℕ) → Once (λ r. r ≡ fcrKept byte)
+  pub registers·Settings·no-divisor : (self : Settings) → Once (λ r. r ≡ eqb (self .dll + 256 * self .dlm) 0)
+  pub registers·Settings·cut : (self : Settings) (byte : ℕ) → Once (λ r. r ≡ cut (self .lcr) byte)
+  pub registers·Settings·is-bad-arrival : (self : Settings) (marks byte : ℕ) → Once (λ r. r ≡ badArrival (self .lcr) marks byte)
 
 -- ---- receiver: a receive side
 
@@ -148,3 +164,11 @@ pub record BenchOnce : Type 0 where
 
 pub record RatesOnce : Type 0 where
   pub rates·divisor : (rate clock : ℕ) → Once (λ r. r ≡ divisorOf rate clock)
+
+-- ---- streams: the trials' digest
+
+pub record StreamsOnce : Type 0 where
+  pub streams·Stream·start : (seed : ℕ) → Once (λ (r : Stream). r ≡ record { x = seed; mood = 0; seat = 0; row = 0; stop = 0; left = 0 })
+  pub streams·add : (digest v : ℕ) → Once (λ r. r ≡ (digest * 1000003 + v + 1) % 2147483647)
+  pub streams·outcome-mark : (answer : Answer) (output : Bool) → Once (λ r. r ≡ refusalOf answer * 8192 + valueOf answer * 2 + digit output)
+  pub streams·place-mark : (place : Answer) → Once (λ r. r ≡ refusalOf place * 4096 + valueOf place)
