@@ -16,7 +16,7 @@ use Rattle.base.specs.PickLaws.{pick-true, pick-false, either-way, and-false}
 use Rattle.bench.specs.Events.{Record, short}
 use Rattle.bench.specs.Steps.{outcome}
 use Rattle.bench.specs.declared.Bench.{Bench}
-use Rattle.listing.specs.Line.{line}
+use Rattle.listing.specs.Line.{line, longest}
 use Rattle.listing.specs.LineLaws.{line-some}
 use Rattle.listing.specs.Run.{benchAfter, lineOf, listing, answered, answeredOf, fits, numberEnd, recordsOf, Runs}
 use Rattle.listing.specs.RunLaws.{bench-parts, listing-parts}
@@ -44,6 +44,7 @@ pub record Turn (b₀ : Bench) (n : ℕ) (rs : List Record) (d₀ : List ℕ) (b
   pub left : answered b₀ n rs (length d₀) ≡ k + answered b (n + k) (drop k rs) (length d₀ - w)
   pub same : length d ≡ length d₀
   pub inside : w ≤ length d₀
+  pub short : w ≤ longest * k
 
 pub start : (b : Bench) (n : ℕ) (rs : List Record) (d : List ℕ) → Turn b n rs d b d 0 0
 unfolding benchAfter listing
@@ -54,6 +55,7 @@ start b n rs d = record {
   left = rw (zero-add, add-zero, sub-zero);
   same = refl;
   inside = omega arith;
+  short = omega arith;
 }
 
 module _ (b₀ : Bench) (n : ℕ) (rs : List Record) (d₀ : List ℕ) (b : Bench) (d d′ : List ℕ) (w k : ℕ) (r : Record) (s : Shown)
@@ -118,6 +120,7 @@ module _ (b₀ : Bench) (n : ℕ) (rs : List Record) (d₀ : List ℕ) (b : Benc
           ∙ rw (next-is, bench-is, e1, e2, add-one k);
       same = rw (bytes-is, length-sets) (t .same);
       inside = let f : w + size ≤ length d = ends in rw next-is (omega (arith, t .same));
+      short = let f : size ≤ longest = h .short in rw next-is (omega (arith, t .short));
     }
 
   -- where the place did not move, the run ends with this record left
@@ -138,6 +141,14 @@ module _ (b₀ : Bench) (n : ℕ) (rs : List Record) (d₀ : List ℕ) (b : Benc
         rw (lt-leb size (length d₀ - w) (omega arith)) (and-false (ltb (n + k) numberEnd)) in
         t .left ∙ rw (next-up, pick-false _ _ _ it-does-not) (add-zero k)
 
+    -- and there was less room than the longest lines take
+    pub too-short : longest * length rs ≤ length d₀ → ⊥
+    too-short long =
+        let e : length d ≡ length d₀ = t .same in
+        let f : length d < w + size = leb-false (w + size) (length d) no in
+        let g : size ≤ longest = h .short in
+        omega (arith, t .short)
+
 -- the end of the records, or of the numbers
 pub over : (b₀ : Bench) (n : ℕ) (rs : List Record) (d₀ : List ℕ) (b : Bench) (d : List ℕ) (w k : ℕ)
     → Turn b₀ n rs d₀ b d w k → k ≡ min (length rs) (numberEnd - n) → answered b₀ n rs (length d₀) ≡ k
@@ -156,12 +167,14 @@ over b₀ n rs d₀ b d w k t at-end =
 -- the answer of a run that ends after k records
 pub finished : (b₀ : Bench) (n : ℕ) (s : List ℕ) (last : Bool) (d₀ : List ℕ) (b : Bench) (d d′ : List ℕ) (w k : ℕ)
     → Turn b₀ n (recordsOf last s) d₀ b d w k → answered b₀ n (recordsOf last s) (length d₀) ≡ k → d′ ≡ d
+    → (longest * length (recordsOf last s) ≤ length d₀ → n + length (recordsOf last s) ≤ numberEnd → k ≡ length (recordsOf last s))
     → Runs b₀ n s last d₀ d′ (record { bench = b; records = k; used = min (4 * k) (length s); written = w })
-finished b₀ n s last d₀ b d d′ w k t e same = record {
+finished b₀ n s last d₀ b d d′ w k t e same enough = record {
   records = sym e;
   used = refl;
   bench = rw e (t .bench);
   written = rw e (t .written);
   bytes = rw e (same ∙ t .bytes);
   inside = t .inside;
+  enough = enough;
 }

@@ -1,8 +1,11 @@
 -- A line of the listing, as the bytes of its text.
-use Prim.Native.Nat.{ℕ, zero, suc, _+_, _/_, _%_}
+use Prim.Native.Nat.{ℕ, zero, suc, _+_, _/_, _%_, _≤_}
 use mathlib.Core.Bool.{Bool, true, false}
 use mathlib.Core.List.{List, [], _∷_, _++_}
-use lib.Dec.{ltb}
+use mathlib.Core.Path.{_≡_}
+use lib.Dec.{ltb, leb}
+use lib.ListN.{length}
+use lib.Seq.{sets}
 use Rattle.base.specs.Pick.{pick}
 use Rattle.base.specs.Answers.{refusalOf, valueOf}
 use Rattle.base.specs.declared.Answer.{Answer}
@@ -49,3 +52,15 @@ ending value output =
 -- "A line each: record number in decimal from 0, refusal number (0 for none), answer in three hex capitals, output after the event; single spaces, no header."
 unfoldable pub line : ℕ → Answer → Bool → List ℕ
 line n a output = decimal n ++ (space ∷ (decimal (refusalOf a) ++ ending (valueOf a) output))
+
+-- ---- a line in a buffer
+
+-- no line of a 64-bit number and an 8-bit refusal is longer: 20 digits, 3 digits, and 8 bytes more
+abbrev pub longest : ℕ
+longest = 31
+
+-- the line put into the buffer d from a place on, and the place after it; where it has no room, the buffer and the place stay
+pub record Puts (n : ℕ) (a : Answer) (output : Bool) (d d′ : List ℕ) (place r : ℕ) : Type 0 where
+  pub next : r ≡ pick (leb (place + length (line n a output)) (length d)) (place + length (line n a output)) place
+  pub bytes : d′ ≡ pick (leb (place + length (line n a output)) (length d)) (sets d place (line n a output)) d
+  pub short : length (line n a output) ≤ longest

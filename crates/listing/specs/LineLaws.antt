@@ -10,7 +10,8 @@ use borrow.Author.Tests.{le-leb, lt-leb, leb-true, leb-false}
 use Rattle.base.specs.PickLaws.{either-way}
 use Rattle.base.specs.Answers.{refusalOf}
 use Rattle.base.specs.declared.Answer.{Answer}
-use Rattle.listing.specs.Line.{decimal, line}
+use Rattle.listing.specs.Line.{decimal, line, longest}
+use Rattle.listing.specs.DecimalLaws.{decimal-length}
 
 pub line-length : (n : ℕ) (a : Answer) (o : Bool) → length (line n a o) ≡ length (decimal n) + length (decimal (refusalOf a)) + 8
 unfolding line
@@ -31,3 +32,6 @@ room-line at size n r a o is inside =
     (λ (f : leb (at + length (line n a o)) size ≡ false).
     let h : size < at + length (line n a o) = leb-false (at + length (line n a o)) size f in lt-leb (length (decimal n) + length (decimal r) + 8) (size - at) (omega arith) ∙ sym f)
     (either-way (leb (at + length (line n a o)) size))
+
+pub line-short : (n : ℕ) (a : Answer) (o : Bool) → n < 10 ^ 20 → refusalOf a < 10 ^ 3 → length (line n a o) ≤ longest
+line-short n a o small byte = omega (arith, line-length n a o, decimal-length 19 n small, decimal-length 2 (refusalOf a) byte)

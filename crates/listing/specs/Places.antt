@@ -1,5 +1,5 @@
 -- The records by their places in the input, which is how the code comes to them.
-use Prim.Native.Nat.{ℕ, _+_, _-_, _/_, _%_}
+use Prim.Native.Nat.{ℕ, _+_, _-_, _/_, _%_, _≤_}
 use mathlib.Core.Bool.{Bool, not, _&&_}
 use mathlib.Core.List.{List}
 use mathlib.Core.Path.{_≡_}
@@ -10,6 +10,7 @@ use Rattle.base.specs.Pick.{pick}
 use Rattle.bench.specs.Events.{Record, whole, short}
 use Rattle.bench.specs.Steps.{outcome}
 use Rattle.bench.specs.declared.Bench.{Bench}
+use Rattle.listing.specs.Line.{longest}
 use Rattle.listing.specs.Run.{lineOf}
 use Rattle.listing.specs.declared.Shown.{Shown}
 
@@ -32,3 +33,4 @@ pub record Shows (b : Bench) (n : ℕ) (r : Record) (d d′ : List ℕ) (place :
   pub next : s .next ≡ pick (roomAt b n r d place) (place + length (lineOf b n r)) place
   pub bench : s .bench ≡ pick (roomAt b n r d place) (outcome b r .bench) b
   pub bytes : d′ ≡ pick (roomAt b n r d place) (sets d place (lineOf b n r)) d
+  pub short : length (lineOf b n r) ≤ longest

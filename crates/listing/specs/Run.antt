@@ -11,7 +11,7 @@ use Rattle.bench.specs.Events.{Record, whole, short}
 use Rattle.bench.specs.Seats.{powerUp}
 use Rattle.bench.specs.Steps.{outcome}
 use Rattle.bench.specs.declared.Bench.{Bench}
-use Rattle.listing.specs.Line.{line}
+use Rattle.listing.specs.Line.{line, longest}
 use Rattle.listing.specs.declared.Ran.{Ran}
 
 -- "record of 1 to 3 bytes at the end of input": it is the last, since "It stops after refusal 4."; where the input goes on, its other
@@ -74,3 +74,6 @@ pub record Runs (b : Bench) (n : ℕ) (s : List ℕ) (last : Bool) (d d′ : Lis
   pub written : r .written ≡ length (listing b n (answeredOf b n (recordsOf last s) (length d)))
   pub bytes : d′ ≡ sets d 0 (listing b n (answeredOf b n (recordsOf last s) (length d)))
   pub inside : r .written ≤ length d
+  -- room for the longest line of each record is room enough
+  pub enough : longest * length (recordsOf last s) ≤ length d → n + length (recordsOf last s) ≤ numberEnd
+      → r .records ≡ length (recordsOf last s)

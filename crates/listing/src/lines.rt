@@ -1,14 +1,11 @@
 // One line of the listing, put into a lent buffer.
 use base::Answer;
 ghost use mathlib.Core.Path.{_≡_};
-ghost use mathlib.Core.Bool.{Bool};
 ghost use Prim.Native.Nat.{_+_, _≤_, _<_};
 ghost use lib.Dec.{leb};
 ghost use lib.ListN.{length};
 ghost use lib.Seq.{sets};
-ghost use Rattle.base.specs.Pick.{pick};
-ghost use Rattle.base.specs.Answers.{refusalOf, valueOf};
-ghost use Rattle.listing.specs.Line.{decimal, ending, line, outputDigit};
+ghost use Rattle.listing.specs.Line.{decimal, ending, line, outputDigit, Puts};
 ghost use Rattle.listing.specs.Line.{capital as Line·capital};
 
 // No line is longer: 20 digits of a 64-bit number, 3 of a refusal, and 8 bytes more.
@@ -99,13 +96,13 @@ fn holds(room: usize, n: u64, refusal: u8) -> bool
 
 // Puts the line of record n at `at` and answers the place after it. Where it does not fit, the buffer stays and the answer is `at`.
 pub fn put_line(out: &mut [u8], at: usize, n: u64, answer: Answer, output: bool) -> usize
-    ensures { λ r. ⌜ (r ≡ pick (leb (at + length (line n answer output)) (length (now (out .entry)))) (at + length (line n answer output)) at) × (now (out .exit) ≡ pick (leb (at + length (line n answer output)) (length (now (out .entry)))) (sets (now (out .entry)) at (line n answer output)) (now (out .entry))) ⌝ }
+    ensures { λ r. ⌜ Puts n answer output (now (out .entry)) (now (out .exit)) at r ⌝ }
 {
     let length = out.len();
+    let refusal = answer.refusal();
     if length < at {
         return at;
     }
-    let refusal = answer.refusal();
     if holds(length - at, n, refusal) {
         return write_line(&mut *out, at, n, answer, output);
     }

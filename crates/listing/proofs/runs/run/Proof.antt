@@ -1,11 +1,11 @@
 use Prim.Native.Nat.{_≤_, _<_, _-_, _+_, _*_, min}
-use mathlib.Core.Path.{_≡_, refl}
+use mathlib.Core.Path.{_≡_, refl, _∙_}
 use native.Mathlib.Omega.{arith}
 use lib.ListN.{length}
 use Rattle.listing.specs.Run.{recordsOf, numberEnd}
 use Rattle.listing.specs.Places.{recordCount}
 use Rattle.listing.specs.RunLaws.{record-place, record-count, record-inside}
-use Rattle.listing.proofs.Turn.{Turn, start, turn, kept, full, over, finished}
+use Rattle.listing.proofs.Turn.{Turn, start, turn, kept, full, too-short, over, finished}
 use Rattle.listing.proofs.runs.run.Statement.{statement}
 use Rattle.listing.proofs.runs.run.Tie as tie
 
@@ -40,13 +40,14 @@ same-length : tie.Need-same-length Inv-loop μ-loop
 same-length c = omega arith
 
 returns : tie.Need-returns Inv-loop μ-loop
-returns c =
+returns c = 
     let more : c .before .before .before .before .before .before .before .loop .k < length (recordsOf (c .before .before .before .before .before .before .before .before .before .before .before .before .args .last) (c .before .before .before .before .before .before .before .before .before .before .before .before .args .input .now)) = omega (arith, record-count (c .before .before .before .before .before .before .before .before .before .before .before .before .args .last) (c .before .before .before .before .before .before .before .before .before .before .before .before .args .input .now)) in
     let place : _ = record-place (c .before .before .before .before .before .before .before .before .before .before .before .before .args .last) (c .before .before .before .before .before .before .before .before .before .before .before .before .args .input .now) (c .before .before .before .before .before .before .before .loop .k) more in
     rw (c .ran .ensures)
     (finished _ _ _ _ _ _ _ _ _ _ (c .before .before .before .before .before .before .before .loop .inv .1)
     (full _ _ _ _ _ _ _ _ _ _ _ (c .before .before .before .before .before .before .before .loop .inv .1) (c .before .before .before .before .show .ensures) more place (c .before .if1 .taken))
-    (kept _ _ _ _ _ _ _ _ _ _ _ (c .before .before .before .before .before .before .before .loop .inv .1) (c .before .before .before .before .show .ensures) more place (c .before .if1 .taken)))
+    (kept _ _ _ _ _ _ _ _ _ _ _ (c .before .before .before .before .before .before .before .loop .inv .1) (c .before .before .before .before .show .ensures) more place (c .before .if1 .taken))
+    (λ long fit. absurd (too-short _ _ _ _ _ _ _ _ _ _ _ (c .before .before .before .before .before .before .before .loop .inv .1) (c .before .before .before .before .show .ensures) more place (c .before .if1 .taken) long)))
 
 add-k : tie.Need-add-k Inv-loop μ-loop
 add-k c = omega arith
@@ -68,9 +69,9 @@ same-length-2 : tie.Need-same-length-2 Inv-loop μ-loop
 same-length-2 c = c .before .before .loop .inv .1 .same
 
 returns-2 : tie.Need-returns-2 Inv-loop μ-loop
-returns-2 c =
+returns-2 c = 
     let e : c .before .before .loop .k ≡ min (length (recordsOf (c .before .before .before .before .before .before .before .args .last) (c .before .before .before .before .before .before .before .args .input .now))) (numberEnd - c .before .before .before .before .before .before .before .args .n) = omega (arith, record-count (c .before .before .before .before .before .before .before .args .last) (c .before .before .before .before .before .before .before .args .input .now)) in
-    rw (c .ran2 .ensures) (finished _ _ _ _ _ _ _ _ _ _ (c .before .before .loop .inv .1) (over _ _ _ _ _ _ _ _ (c .before .before .loop .inv .1) e) refl)
+    rw (c .ran2 .ensures) (finished _ _ _ _ _ _ _ _ _ _ (c .before .before .loop .inv .1) (over _ _ _ _ _ _ _ _ (c .before .before .loop .inv .1) e) refl (λ long fit. e ∙ omega arith))
 
 pub run-spec : {M : Type 1} → statement M
 run-spec =

@@ -24,11 +24,12 @@ returns : tie.Need-returns
 returns c =
     let no : leb (c .before .before .before .before .before .before .before .before .args .place + length (line (c .before .before .before .before .before .before .before .before .args .n) (c .before .before .before .before .before .step-at .result .answer) (c .before .before .before .before .before .step-at .result .output))) (length (c .before .before .before .before .before .before .before .before .args .out .now)) ≡ false =
     no-room _ (c .before .before .before .before .before .before .before .before .args .place) (length (line (c .before .before .before .before .before .before .before .before .args .n) (c .before .before .before .before .before .step-at .result .answer) (c .before .before .before .before .before .step-at .result .output)))
-    (line-some (c .before .before .before .before .before .before .before .before .args .n) (c .before .before .before .before .before .step-at .result .answer) (c .before .before .before .before .before .step-at .result .output)) (sym (c .before .before .before .put-line .ensures .0) ∙ c .if1 .taken) in
+    (line-some (c .before .before .before .before .before .before .before .before .args .n) (c .before .before .before .before .before .step-at .result .answer) (c .before .before .before .before .before .step-at .result .output)) (sym (c .before .before .before .put-line .ensures .next) ∙ c .if1 .taken) in
     record {
-      next = rw (← c .before .before .before .before .before .step-at .ensures) (c .before .before .before .put-line .ensures .0);
+      next = rw (← c .before .before .before .before .before .step-at .ensures) (c .before .before .before .put-line .ensures .next);
       bench = rw (← c .before .before .before .before .before .step-at .ensures) (sym (pick-false _ _ _ no));
-      bytes = rw (← c .before .before .before .before .before .step-at .ensures) (c .before .before .before .put-line .ensures .1);
+      bytes = rw (← c .before .before .before .before .before .step-at .ensures) (c .before .before .before .put-line .ensures .bytes);
+      short = rw (← c .before .before .before .before .before .step-at .ensures) (c .before .before .before .put-line .ensures .short);
     }
 
 same-length-2 : tie.Need-same-length-2
@@ -37,11 +38,12 @@ same-length-2 c = search needs
 returns-2 : tie.Need-returns-2
 returns-2 c =
     let yes : leb (c .before .before .before .before .before .before .before .before .before .args .place + length (line (c .before .before .before .before .before .before .before .before .before .args .n) (c .before .before .before .before .before .before .step-at .result .answer) (c .before .before .before .before .before .before .step-at .result .output))) (length (c .before .before .before .before .before .before .before .before .before .args .out .now)) ≡ true =
-    some-room _ (c .before .before .before .before .before .before .before .before .before .args .place) (length (line (c .before .before .before .before .before .before .before .before .before .args .n) (c .before .before .before .before .before .before .step-at .result .answer) (c .before .before .before .before .before .before .step-at .result .output))) (λ e. c .before .if1 .left (c .before .before .before .before .put-line .ensures .0 ∙ e)) in
+    some-room _ (c .before .before .before .before .before .before .before .before .before .args .place) (length (line (c .before .before .before .before .before .before .before .before .before .args .n) (c .before .before .before .before .before .before .step-at .result .answer) (c .before .before .before .before .before .before .step-at .result .output))) (λ e. c .before .if1 .left (c .before .before .before .before .put-line .ensures .next ∙ e)) in
     record {
-      next = rw (← c .before .before .before .before .before .before .step-at .ensures) (c .before .before .before .before .put-line .ensures .0);
+      next = rw (← c .before .before .before .before .before .before .step-at .ensures) (c .before .before .before .before .put-line .ensures .next);
       bench = rw (← c .before .before .before .before .before .before .step-at .ensures) (sym (pick-true _ _ _ yes));
-      bytes = rw (← c .before .before .before .before .before .before .step-at .ensures) (c .before .before .before .before .put-line .ensures .1);
+      bytes = rw (← c .before .before .before .before .before .before .step-at .ensures) (c .before .before .before .before .put-line .ensures .bytes);
+      short = rw (← c .before .before .before .before .before .before .step-at .ensures) (c .before .before .before .before .put-line .ensures .short);
     }
 
 pub show-spec : {M : Type 1} → statement M
