@@ -92,3 +92,8 @@ record-inside true bytes k h =
     (λ (odd : eqb (bytes % 4) 0 ≡ false).
     let less : k < bytes / 4 + 1 = rw (odd) at h in omega (arith, eqb-false (bytes % 4) 0 odd))
     (either-way (eqb (bytes % 4) 0))
+
+-- where the input goes on, only whole records count
+pub whole-count : (bytes : ℕ) → recordCount false bytes ≡ bytes / 4
+unfolding recordCount pick
+whole-count bytes = refl

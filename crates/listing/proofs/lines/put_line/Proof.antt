@@ -17,12 +17,12 @@ refusal-requires : tie.Need-refusal-requires
 refusal-requires c κs = search needs
 
 returns : tie.Need-returns
-returns c = 
+returns c =
     let no : leb (c .before .before .before .args .at + length (line (c .before .before .before .args .n) (c .before .before .before .args .answer) (c .before .before .before .args .output))) (length (c .before .before .before .args .out .now)) ≡ false = lt-leb (c .before .before .before .args .at + length (line (c .before .before .before .args .n) (c .before .before .before .args .answer) (c .before .before .before .args .output))) (length (c .before .before .before .args .out .now)) (omega arith) in
     let small : c .before .before .before .args .n < 10 ^ 20 = omega arith in
     let byte : refusalOf (c .before .before .before .args .answer) < 10 ^ 3 = omega (arith, c .before .refusal .ensures) in
     let short : length (line (c .before .before .before .args .n) (c .before .before .before .args .answer) (c .before .before .before .args .output)) ≤ longest =
-        line-short (c .before .before .before .args .n) (c .before .before .before .args .answer) (c .before .before .before .args .output) small byte in
+    line-short (c .before .before .before .args .n) (c .before .before .before .args .answer) (c .before .before .before .args .output) small byte in
     record { next = sym (pick-false _ _ _ no); bytes = sym (pick-false _ _ _ no); short = short }
 
 holds-requires : tie.Need-holds-requires
@@ -35,12 +35,12 @@ same-length : tie.Need-same-length
 same-length c = search needs
 
 returns-2 : tie.Need-returns-2
-returns-2 c = 
+returns-2 c =
     let yes : leb (c .before .before .before .before .before .before .before .before .before .args .at + length (line (c .before .before .before .before .before .before .before .before .before .args .n) (c .before .before .before .before .before .before .before .before .before .args .answer) (c .before .before .before .before .before .before .before .before .before .args .output))) (length (c .before .before .before .before .before .before .before .before .before .args .out .now)) ≡ true = sym (room-line (c .before .before .before .before .before .before .before .before .before .args .at) (length (c .before .before .before .before .before .before .before .before .before .args .out .now)) (c .before .before .before .before .before .before .before .before .before .args .n) (c .before .before .before .before .before .before .before .refusal .result) (c .before .before .before .before .before .before .before .before .before .args .answer) (c .before .before .before .before .before .before .before .before .before .args .output) (c .before .before .before .before .before .before .before .refusal .ensures) (omega arith)) ∙ sym (c .before .before .before .before .before .holds .ensures) ∙ c .before .before .before .before .if2 .taken in
     let small : c .before .before .before .before .before .before .before .before .before .args .n < 10 ^ 20 = omega arith in
     let byte : refusalOf (c .before .before .before .before .before .before .before .before .before .args .answer) < 10 ^ 3 = omega (arith, c .before .before .before .before .before .before .before .refusal .ensures) in
     let short : length (line (c .before .before .before .before .before .before .before .before .before .args .n) (c .before .before .before .before .before .before .before .before .before .args .answer) (c .before .before .before .before .before .before .before .before .before .args .output)) ≤ longest =
-        line-short (c .before .before .before .before .before .before .before .before .before .args .n) (c .before .before .before .before .before .before .before .before .before .args .answer) (c .before .before .before .before .before .before .before .before .before .args .output) small byte in
+    line-short (c .before .before .before .before .before .before .before .before .before .args .n) (c .before .before .before .before .before .before .before .before .before .args .answer) (c .before .before .before .before .before .before .before .before .before .args .output) small byte in
     record {
       next = c .before .before .write-line .ensures .0 ∙ sym (pick-true _ _ _ yes);
       bytes = c .before .before .write-line .ensures .1 ∙ sym (pick-true _ _ _ yes);
@@ -48,12 +48,12 @@ returns-2 c =
     }
 
 returns-3 : tie.Need-returns-3
-returns-3 c = 
+returns-3 c =
     let no : leb (c .before .before .before .before .before .args .at + length (line (c .before .before .before .before .before .args .n) (c .before .before .before .before .before .args .answer) (c .before .before .before .before .before .args .output))) (length (c .before .before .before .before .before .args .out .now)) ≡ false = sym (room-line (c .before .before .before .before .before .args .at) (length (c .before .before .before .before .before .args .out .now)) (c .before .before .before .before .before .args .n) (c .before .before .before .refusal .result) (c .before .before .before .before .before .args .answer) (c .before .before .before .before .before .args .output) (c .before .before .before .refusal .ensures) (omega arith)) ∙ sym (c .before .holds .ensures) ∙ c .if2 .left in
     let small : c .before .before .before .before .before .args .n < 10 ^ 20 = omega arith in
     let byte : refusalOf (c .before .before .before .before .before .args .answer) < 10 ^ 3 = omega (arith, c .before .before .before .refusal .ensures) in
     let short : length (line (c .before .before .before .before .before .args .n) (c .before .before .before .before .before .args .answer) (c .before .before .before .before .before .args .output)) ≤ longest =
-        line-short (c .before .before .before .before .before .args .n) (c .before .before .before .before .before .args .answer) (c .before .before .before .before .before .args .output) small byte in
+    line-short (c .before .before .before .before .before .args .n) (c .before .before .before .before .before .args .answer) (c .before .before .before .before .before .args .output) small byte in
     record { next = sym (pick-false _ _ _ no); bytes = sym (pick-false _ _ _ no); short = short }
 
 pub put-line-spec : {M : Type 1} → statement M

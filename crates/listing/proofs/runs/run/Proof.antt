@@ -40,7 +40,7 @@ same-length : tie.Need-same-length Inv-loop μ-loop
 same-length c = omega arith
 
 returns : tie.Need-returns Inv-loop μ-loop
-returns c = 
+returns c =
     let more : c .before .before .before .before .before .before .before .loop .k < length (recordsOf (c .before .before .before .before .before .before .before .before .before .before .before .before .args .last) (c .before .before .before .before .before .before .before .before .before .before .before .before .args .input .now)) = omega (arith, record-count (c .before .before .before .before .before .before .before .before .before .before .before .before .args .last) (c .before .before .before .before .before .before .before .before .before .before .before .before .args .input .now)) in
     let place : _ = record-place (c .before .before .before .before .before .before .before .before .before .before .before .before .args .last) (c .before .before .before .before .before .before .before .before .before .before .before .before .args .input .now) (c .before .before .before .before .before .before .before .loop .k) more in
     rw (c .ran .ensures)
@@ -69,7 +69,7 @@ same-length-2 : tie.Need-same-length-2 Inv-loop μ-loop
 same-length-2 c = c .before .before .loop .inv .1 .same
 
 returns-2 : tie.Need-returns-2 Inv-loop μ-loop
-returns-2 c = 
+returns-2 c =
     let e : c .before .before .loop .k ≡ min (length (recordsOf (c .before .before .before .before .before .before .before .args .last) (c .before .before .before .before .before .before .before .args .input .now))) (numberEnd - c .before .before .before .before .before .before .before .args .n) = omega (arith, record-count (c .before .before .before .before .before .before .before .args .last) (c .before .before .before .before .before .before .before .args .input .now)) in
     rw (c .ran2 .ensures) (finished _ _ _ _ _ _ _ _ _ _ (c .before .before .loop .inv .1) (over _ _ _ _ _ _ _ _ (c .before .before .loop .inv .1) e) refl (λ long fit. e ∙ omega arith))
 
