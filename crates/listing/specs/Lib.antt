@@ -4,3 +4,5 @@ pub mod Places
 pub mod DecimalLaws
 pub mod LineLaws
 pub mod RunLaws
+pub mod FormLaws
+pub mod PartLaws
