@@ -126,7 +126,7 @@ module _ (b₀ : Bench) (n : ℕ) (rs : List Record) (d₀ : List ℕ) (b : Benc
   -- where the place did not move, the run ends with this record left
   module _ (still : s .next ≡ w) where
     no : roomAt b (n + k) r d w ≡ false
-    no = no-room (roomAt b (n + k) r d w) w size (line-some (n + k) (outcome b r .answer) (outcome b r .output)) (sym (h .next) ∙ still)
+    no = no-room (roomAt b (n + k) r d w) w size (line-some (n + k) _ _) (sym (h .next) ∙ still)
 
     pub kept : d′ ≡ d
     kept = h .bytes ∙ pick-false _ _ _ no

@@ -202,4 +202,4 @@ unfolding listing
 line-each b n [] = none-ends
 line-each b n (r ∷ rs) =
     ends-append (lineOf b n r) _
-    ∙ rw (form-ends (lineOf b n r) (line-form n (outcome b r .answer) (outcome b r .output)), line-each (outcome b r .bench) (suc n) rs) (omega arith)
+    ∙ rw (form-ends (lineOf b n r) (line-form n _ _), line-each (outcome b r .bench) (suc n) rs) (omega arith)

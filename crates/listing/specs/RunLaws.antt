@@ -20,7 +20,7 @@ use Rattle.listing.specs.Places.{recordAt, recordCount}
 pub bench-parts : (b : Bench) (xs ys : List Record) → benchAfter b (xs ++ ys) ≡ benchAfter (benchAfter b xs) ys
 unfolding benchAfter
 bench-parts b [] ys = refl
-bench-parts b (r ∷ xs) ys = bench-parts (outcome b r .bench) xs ys
+bench-parts b (r ∷ xs) ys = bench-parts _ xs ys
 
 pub listing-parts : (b : Bench) (n : ℕ) (xs ys : List Record)
     → listing b n (xs ++ ys) ≡ listing b n xs ++ listing (benchAfter b xs) (n + length xs) ys

@@ -67,7 +67,7 @@ returns : tie.Need-returns
 returns c = (
   refl,
   rw (← c .before .before .before .capital .ensures, ← c .before .before .capital2 .ensures, ← c .before .capital3 .ensures, ← c .output-digit .ensures)
-      (seven (c .before .before .before .before .before .args .out .now) (c .before .before .before .before .before .args .at) 32 _ _ _ 32 _ 10),
+      (seven (c .before .before .before .before .before .args .out .now) (c .before .before .before .before .before .args .at) _ _ _ _ _ _ _),
 )
 
 pub put-ending-spec : {M : Type 1} → statement M
