@@ -67,7 +67,7 @@ unfolding recordCount
 four-more last n =
     let m : suc (suc (suc (suc n))) % 4 ≡ n % 4 = omega arith in
     let q : suc (suc (suc (suc n))) / 4 ≡ suc (n / 4) = omega arith in
-    pick-through suc (last && not (eqb (n % 4) 0)) (n / 4 + 1) (n / 4) ∙ rw (m, q, suc-add)
+    pick-through suc _ _ _ ∙ rw (m, q, suc-add)
 
 pub record-count : (last : Bool) (s : List ℕ) → length (recordsOf last s) ≡ recordCount last (length s)
 unfolding recordsOf recordCount pick
