@@ -22,7 +22,8 @@ pub record Between (input out : List ℕ) (number start end reads : ℕ) : Type 
   pub below : end < 65536
 
 -- a run over the bytes from a to e of the block answers every whole record of them
-module _ (b : Bench) (n : ℕ) (l : List ℕ) (a e : ℕ) (last : Bool) (d d′ : List ℕ) (r : Ran) (h : Runs b n (take (e - a) (drop a l)) last d d′ r)
+module _ (b : Bench) (n : ℕ) (l : List ℕ) (a e : ℕ) (last : Bool) (d d′ : List ℕ) (r : Ran)
+    (h : Runs b n (take (e - a) (drop a l)) last d d′ r)
     (more : last ≡ false) (order : a ≤ e) (inside : e ≤ length l) (block : length l ≡ 65536) (room : length d ≡ 524288)
     (numbers : n + 16384 ≤ 18446744073709551616) where
   size : length (take (e - a) (drop a l)) ≡ e - a

@@ -26,9 +26,9 @@ fn write_failed() {
 }
 
 // A read that failed is told from the end of input, at which `end` does not move.
-pub struct Filled {
-    pub failed: bool,
-    pub end: usize,
+struct Filled {
+    failed: bool,
+    end: usize,
 }
 
 // One read into the block behind `end`.

@@ -1,27 +1,26 @@
 -- The run's loop, one record at a time: what holds after k records, and how the run ends.
-use Prim.Native.Nat.{ℕ, zero, suc, _+_, _-_, _*_, _≤_, _<_, min}
+use Prim.Native.Nat.{ℕ, suc, _+_, _-_, _*_, _≤_, _<_, min}
 use mathlib.Core.Path.{_≡_, refl, sym, ap, _∙_}
-use mathlib.Core.Bool.{Bool, true, false, _&&_}
+use mathlib.Core.Bool.{Bool, true, false}
 use mathlib.Core.List.{List, [], _∷_, _++_, append-nil}
 use mathlib.Core.Logic.{⊎-elim}
 use native.Mathlib.Omega.{arith}
 use native.Mathlib.Numerals.{add-one}
-use native.Mathlib.Nat.{add-zero, zero-add, sub-zero, add-suc, eq-or-lt-of-le}
-use lib.Dec.{ltb, leb}
+use native.Mathlib.Nat.{add-zero, zero-add, sub-zero, eq-or-lt-of-le}
+use lib.Dec.{ltb}
 use lib.ListN.{length, take, drop, getD, length-append, drop-of-length-le}
 use lib.Seq.{sets, length-sets, take-suc, drop-cons, length-take-le}
 use borrow.Author.Tests.{le-ltb, lt-ltb, le-leb, lt-leb, leb-true, leb-false}
 use Rattle.base.specs.Pick.{pick}
-use Rattle.base.specs.PickLaws.{pick-true, pick-false, either-way, and-false}
+use Rattle.base.specs.PickLaws.{pick-true, pick-false, and-false}
 use Rattle.bench.specs.Events.{Record, short}
 use Rattle.bench.specs.Steps.{outcome}
 use Rattle.bench.specs.declared.Bench.{Bench}
-use Rattle.listing.specs.Line.{line, longest}
+use Rattle.listing.specs.Line.{longest}
 use Rattle.listing.specs.LineLaws.{line-some}
-use Rattle.listing.specs.Run.{benchAfter, lineOf, listing, answered, answeredOf, fits, numberEnd, recordsOf, Runs}
+use Rattle.listing.specs.Run.{benchAfter, lineOf, listing, answered, fits, numberEnd, recordsOf, Runs}
 use Rattle.listing.specs.RunLaws.{bench-parts, listing-parts}
 use Rattle.listing.specs.Places.{Shows, roomAt}
-use Rattle.listing.specs.declared.Ran.{Ran}
 use Rattle.listing.specs.declared.Shown.{Shown}
 use Rattle.listing.proofs.Stores.{sets-append}
 

@@ -1,6 +1,6 @@
 -- A line of the listing, as the bytes of its text.
 use Prim.Native.Nat.{ℕ, zero, suc, _+_, _/_, _%_, _≤_}
-use mathlib.Core.Bool.{Bool, true, false}
+use mathlib.Core.Bool.{Bool}
 use mathlib.Core.List.{List, [], _∷_, _++_}
 use mathlib.Core.Path.{_≡_}
 use lib.Dec.{ltb, leb}
@@ -49,7 +49,8 @@ ending value output =
     ∷ newline
     ∷ []
 
--- "A line each: record number in decimal from 0, refusal number (0 for none), answer in three hex capitals, output after the event; single spaces, no header."
+-- "A line each: record number in decimal from 0, refusal number (0 for none), answer in three hex capitals,
+-- output after the event; single spaces, no header."
 unfoldable pub line : ℕ → Answer → Bool → List ℕ
 line n a output = decimal n ++ (space ∷ (decimal (refusalOf a) ++ ending (valueOf a) output))
 

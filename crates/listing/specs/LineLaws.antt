@@ -28,9 +28,11 @@ room-line at size n r a o is inside =
     line-length n a o ∙ ap (λ (x : ℕ). length (decimal n) + length (decimal x) + 8) (sym is) in
     ⊎-elim
     (λ (t : leb (at + length (line n a o)) size ≡ true).
-    let h : at + length (line n a o) ≤ size = leb-true (at + length (line n a o)) size t in le-leb (length (decimal n) + length (decimal r) + 8) (size - at) (omega arith) ∙ sym t)
+    let h : at + length (line n a o) ≤ size = leb-true (at + length (line n a o)) size t in
+    le-leb (length (decimal n) + length (decimal r) + 8) (size - at) (omega arith) ∙ sym t)
     (λ (f : leb (at + length (line n a o)) size ≡ false).
-    let h : size < at + length (line n a o) = leb-false (at + length (line n a o)) size f in lt-leb (length (decimal n) + length (decimal r) + 8) (size - at) (omega arith) ∙ sym f)
+    let h : size < at + length (line n a o) = leb-false (at + length (line n a o)) size f in
+    lt-leb (length (decimal n) + length (decimal r) + 8) (size - at) (omega arith) ∙ sym f)
     (either-way (leb (at + length (line n a o)) size))
 
 pub line-short : (n : ℕ) (a : Answer) (o : Bool) → n < 10 ^ 20 → refusalOf a < 10 ^ 3 → length (line n a o) ≤ longest

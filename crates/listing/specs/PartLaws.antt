@@ -9,11 +9,12 @@ use lib.Seq.{length-take-le}
 use Rattle.bench.specs.Events.{Record, whole, short}
 use Rattle.bench.specs.declared.Bench.{Bench}
 use Rattle.listing.specs.Run.{recordsOf, benchAfter, listing, Runs}
-use Rattle.listing.specs.RunLaws.{bench-parts, listing-parts}
+use Rattle.listing.specs.RunLaws.{listing-parts}
 use Rattle.listing.specs.declared.Ran.{Ran}
 
 -- input cut at a record is the records of both parts
-pub records-parts : (last : Bool) (k : ℕ) (s t : List ℕ) → length s ≡ 4 * k → recordsOf last (s ++ t) ≡ recordsOf false s ++ recordsOf last t
+pub records-parts : (last : Bool) (k : ℕ) (s t : List ℕ) → length s ≡ 4 * k
+    → recordsOf last (s ++ t) ≡ recordsOf false s ++ recordsOf last t
 unfolding recordsOf
 records-parts last k [] t h = refl
 records-parts last zero (a ∷ s) t h = absurd (omega arith)

@@ -7,7 +7,7 @@ pub use lines::put_line;
 pub use runs::run;
 
 // What a run leaves: the bench after it, the records that it answered, the bytes of the input that they were, and the bytes
-// that it wrote. The next record has the number of the first and `records`.
+// that it wrote. The next record has the number of the first plus `records`.
 pub struct Ran {
     pub bench: Bench,
     pub records: usize,
@@ -17,7 +17,7 @@ pub struct Ran {
 
 // A record answered, or left where its line found no room: `next` is the place after the line, and equals the place before it
 // where there is none.
-pub struct Shown {
-    pub bench: Bench,
-    pub next: usize,
+pub(crate) struct Shown {
+    pub(crate) bench: Bench,
+    pub(crate) next: usize,
 }

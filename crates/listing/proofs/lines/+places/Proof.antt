@@ -1,7 +1,7 @@
 use Prim.Native.Nat.{_/_}
 use Prim.Native.Nat.{_^_}
 use native.Mathlib.Omega.{arith}
-use mathlib.Core.Path.{sym, _∙_}
+use mathlib.Core.Path.{sym}
 use Rattle.listing.specs.DecimalLaws.{length-small, length-large, decimal-length}
 use Prim.Native.Nat.{ℕ, _<_}
 use borrow.Fn.Kinds.{In}

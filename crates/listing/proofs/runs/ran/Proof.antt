@@ -1,7 +1,6 @@
 use Prim.Native.Nat.{_*_, min}
 use mathlib.Core.Path.{_≡_}
 use native.Mathlib.Omega.{arith}
-use Rattle.listing.specs.declared.Ran.{Ran}
 use borrow.Author.Needs.{needs}
 use Rattle.listing.proofs.runs.ran.Statement.{statement}
 use Rattle.listing.proofs.runs.ran.Tie as tie

@@ -1,9 +1,8 @@
-use Prim.Native.Nat.{_≤_, _<_, _-_, _+_, _*_, min}
+use Prim.Native.Nat.{_≤_, _<_, _-_, min}
 use mathlib.Core.Path.{_≡_, refl, _∙_}
 use native.Mathlib.Omega.{arith}
 use lib.ListN.{length}
 use Rattle.listing.specs.Run.{recordsOf, numberEnd}
-use Rattle.listing.specs.Places.{recordCount}
 use Rattle.listing.specs.RunLaws.{record-place, record-count, record-inside}
 use Rattle.listing.proofs.Turn.{Turn, start, turn, kept, full, too-short, over, finished}
 use Rattle.listing.proofs.runs.run.Statement.{statement}
