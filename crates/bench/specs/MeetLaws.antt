@@ -6,9 +6,9 @@ use mathlib.Core.Path.{_≡_, refl, ap, ap₂, sym, _∙_}
 use mathlib.Core.Logic.{⊎-elim}
 use lib.Dec.{eqb}
 use lib.ListN.{getD, set}
-use borrow.Author.Tests.{eq-eqb, ne-eqb, eqb-true}
+use borrow.Author.Tests.{eq-eqb, ne-eqb}
 use Rattle.base.specs.Pick.{pick}
-use Rattle.base.specs.PickLaws.{pick-true, pick-false, pick-through, either-way}
+use Rattle.base.specs.PickLaws.{pick-true, pick-false, pick-through, either-way, never}
 use Rattle.base.specs.Answers.{refusalOf}
 use Rattle.base.specs.Refusals.{firstHeld}
 use Rattle.base.specs.declared.Answer.{Answer}
@@ -23,6 +23,7 @@ use Rattle.controller.specs.declared.Controller.{Controller}
 use Rattle.controller.specs.declared.Stepped as controller
 use Rattle.controller.specs.Signals.{Signal, read, write, acknowledge}
 use Rattle.controller.specs.Turns.{settled}
+use Rattle.controller.specs.Refusals as refusing
 use Rattle.controller.specs.Steps.{step}
 use Rattle.bench.specs.declared.Seat.{Seat}
 use Rattle.bench.specs.declared.Bench.{Bench}
@@ -31,9 +32,10 @@ use Rattle.bench.specs.declared.Touched.{Touched}
 use Rattle.bench.specs.declared.Event.{Event}
 use Rattle.bench.specs.declared.Event.the-variants.{OfSeat, MasterReset, ReadController, WriteController, Acknowledge}
 use Rattle.bench.specs.declared.Decoded.the-variants.{Taken, Refused}
-use Rattle.bench.specs.Events.{Record, early, event, decoded}
+use Rattle.bench.specs.Events.{Record, isShort, kindAbove, seatAbove, early, event, decoded}
+use Rattle.bench.specs.Refusals.{numberAbove, noDivisor, arrivalWrong, levelsAbove, notReady, notServed, grounds, refusal}
 use Rattle.bench.specs.Seats.{noSeat, chair, seat, withSeat, withController, withLine}
-use Rattle.bench.specs.Steps.{roomRefusal, refusal, after, answerTo, shown, met, outcome, touched, dealt}
+use Rattle.bench.specs.Steps.{roomRefusal, after, answerTo, shown, met, outcome, touched, dealt}
 
 -- ---- an event on a seat
 
@@ -100,20 +102,41 @@ module _ (b : Bench) where
 
 -- ---- a record: refused by itself, or its event met
 
+-- three grounds before the rest of a list: none of the three holds, or one does
+none-before : (a b c : Bool) (x : ℕ) → eqb (pick a 4 (pick b 3 (pick c 1 0))) 0 ≡ true → pick a 4 (pick b 3 (pick c 1 x)) ≡ x
+unfolding pick
+none-before true b c x e = absurd (never e)
+none-before false true c x e = absurd (never e)
+none-before false false true x e = absurd (never e)
+none-before false false false x e = refl
+
+one-before : (a b c : Bool) (x : ℕ) → eqb (pick a 4 (pick b 3 (pick c 1 0))) 0 ≡ false → pick a 4 (pick b 3 (pick c 1 x)) ≡ pick a 4 (pick b 3 (pick c 1 0))
+unfolding pick
+one-before true b c x e = refl
+one-before false true c x e = refl
+one-before false false true x e = refl
+one-before false false false x e = absurd (never (sym e))
+
+-- the grounds behind these three are those of the event's room
+room-grounds : (b : Bench) (e : Event)
+    → pick (numberAbove e) 2 (pick (noDivisor b e) 5 (pick (arrivalWrong b e) 6 (pick (levelsAbove e) 7 (pick (notReady b e) 8 (pick (notServed b e) 9 0)))))
+    ≡ roomRefusal b e
+unfolding roomRefusal pick firstHeld seat-step.refusal seat-step.grounds refusing.refusal
+room-grounds b (OfSeat n e) = refl
+room-grounds b MasterReset = refl
+room-grounds b (ReadController port) = refl
+room-grounds b (WriteController port byte) = refl
+room-grounds b Acknowledge = refl
+
 -- a record that the bench itself refuses
 pub refused-early : (b : Bench) (r : Record) → eqb (early r) 0 ≡ false → refusal b r ≡ early r
-unfolding refusal firstHeld
-refused-early b r some = pick-true _ _ _ (ap not some)
+unfolding refusal grounds firstHeld early
+refused-early b r some = one-before (isShort r) (kindAbove r) (seatAbove r) _ some
 
 -- one that it takes is refused by its room or not at all
 pub refused-late : (b : Bench) (r : Record) → eqb (early r) 0 ≡ true → refusal b r ≡ roomRefusal b (event r)
-unfolding refusal firstHeld
-refused-late b r none =
-    pick-false _ _ _ (ap not none)
-    ∙ ⊎-elim
-    (λ (zero-number : eqb (roomRefusal b (event r)) 0 ≡ true). pick-false _ _ _ (ap not zero-number) ∙ sym (eqb-true _ _ zero-number))
-    (λ (held : eqb (roomRefusal b (event r)) 0 ≡ false). pick-true _ _ _ (ap not held))
-    (either-way (eqb (roomRefusal b (event r)) 0))
+unfolding refusal grounds firstHeld early
+refused-late b r none = none-before (isShort r) (kindAbove r) (seatAbove r) _ none ∙ room-grounds b (event r)
 
 -- the outcome by the number of its refusal
 abbrev by-number : Bench → Event → ℕ → Outcome

@@ -4,7 +4,6 @@ use mathlib.Core.Bool.{Bool, true, false, not}
 use mathlib.Core.List.{List, [], _∷_, map}
 use lib.Dec.{eqb}
 use Rattle.base.specs.Pick.{pick}
-use Rattle.base.specs.Refusals.{Ground, firstHeld}
 use Rattle.base.specs.declared.Answer.{Answer}
 use Rattle.base.specs.declared.Answer.the-variants.{Done}
 use Rattle.base.specs.declared.Answer.the-variants as answer
@@ -24,24 +23,9 @@ use Rattle.bench.specs.declared.Event.{Event}
 use Rattle.bench.specs.declared.Event.the-variants.{OfSeat, MasterReset, ReadController, WriteController, Acknowledge}
 use Rattle.bench.specs.declared.Decoded.{Decoded}
 use Rattle.bench.specs.declared.Decoded.the-variants.{Taken, Refused}
-use Rattle.bench.specs.Events.{Record, early, event}
+use Rattle.bench.specs.Events.{Record, event}
+use Rattle.bench.specs.Refusals.{refusal}
 use Rattle.bench.specs.Seats.{seat, withSeat, withController, lines, withLine, seatReset}
-
--- what the room that an event goes to refuses: a seat event its seat, a controller event the controller
-unfoldable pub roomRefusal : Bench → Event → ℕ
-roomRefusal b (OfSeat n e) = channel.refusal (seat b n .channel) e
-roomRefusal b MasterReset = 0
-roomRefusal b (ReadController port) = refusing.refusal (b .controller .setup) (read port)
-roomRefusal b (WriteController port byte) = refusing.refusal (b .controller .setup) (write port byte)
-roomRefusal b Acknowledge = refusing.refusal (b .controller .setup) acknowledge
-
--- "The order is 4, 3, 1, 2, then 5, 6, 7, 8, 9.": the bench's own, then the room's
-unfoldable pub refusal : Bench → Record → ℕ
-refusal b r =
-    firstHeld
-    (record { number = early r; holds = not (eqb (early r) 0) }
-    ∷ record { number = roomRefusal b (event r); holds = not (eqb (roomRefusal b (event r)) 0) }
-    ∷ [])
 
 -- "Each call touches the one seat it names, or the controller; a master reset touches all eight seats. Line changes reach the controller's
 -- latches in the same event."
@@ -75,6 +59,14 @@ outcome b r =
     (shown b (answer.Refused (refusal b r)))
 
 -- ---- the same on the parts that an event touches, which is how the code has it
+
+-- what the room that an event goes to refuses: a seat event its seat, a controller event the controller
+unfoldable pub roomRefusal : Bench → Event → ℕ
+roomRefusal b (OfSeat n e) = channel.refusal (seat b n .channel) e
+roomRefusal b MasterReset = 0
+roomRefusal b (ReadController port) = refusing.refusal (b .controller .setup) (read port)
+roomRefusal b (WriteController port byte) = refusing.refusal (b .controller .setup) (write port byte)
+roomRefusal b Acknowledge = refusing.refusal (b .controller .setup) acknowledge
 
 -- a decoded event: refused by its room, or done
 unfoldable pub met : Bench → Event → Outcome

@@ -3,5 +3,12 @@ pub mod Registers
 pub mod Status
 pub mod Effects
 pub mod Steps
+pub mod Sound
 pub mod StatusLaws
 pub mod StepLaws
+pub mod CauseLaws
+pub mod RegisterLaws
+pub mod IirLaws
+pub mod ChangeLaws
+pub mod ModeLaws
+pub mod WordLaws

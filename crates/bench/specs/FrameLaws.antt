@@ -1,0 +1,139 @@
+-- What an event leaves alone: a seat event the other seats, a controller event every seat; a master reset acts seat by seat.
+use Prim.Native.Nat.{ℕ, zero, suc, _%_, _<_}
+use mathlib.Core.Bool.{Bool, true, false}
+use mathlib.Core.List.{List, [], _∷_, map}
+use mathlib.Core.Path.{_≡_, refl, ap, sym, subst, _∙_}
+use mathlib.Core.Logic.{⊎-elim}
+use native.Mathlib.Nat.{mod-lt, zero-lt-suc, le-of-suc-le-suc, not-suc-le-zero}
+use native.Mathlib.Omega.{arith}
+use lib.Dec.{eqb}
+use lib.ListN.{length, getD, set, length-set}
+use lib.Seq.{getD-set-same, getD-set-other}
+use borrow.Author.Tests.{eqb-true, eqb-false}
+use Rattle.base.specs.Pick.{pick}
+use Rattle.base.specs.PickLaws.{pick-true, pick-false, pick-through, pick-same, either-way}
+use Rattle.channel.specs.declared.Channel.{Channel}
+use Rattle.channel.specs.declared.Stepped as channel
+use Rattle.channel.specs.declared.SeatEvent.{SeatEvent}
+use Rattle.channel.specs.Steps.{refusal, effect, stepped}
+use Rattle.controller.specs.declared.Controller.{Controller}
+use Rattle.bench.specs.declared.Seat.{Seat}
+use Rattle.bench.specs.declared.Bench.{Bench}
+use Rattle.bench.specs.declared.Touched.{Touched}
+use Rattle.bench.specs.declared.Outcome.{Outcome}
+use Rattle.bench.specs.declared.Event.{Event}
+use Rattle.bench.specs.declared.Event.the-variants.{OfSeat, MasterReset, ReadController, WriteController, Acknowledge}
+use Rattle.bench.specs.declared.Decoded.{Decoded}
+use Rattle.bench.specs.declared.Decoded.the-variants.{Taken, Refused}
+use Rattle.bench.specs.Seats.{noSeat, chair, seat, withSeat, seatReset}
+use Rattle.bench.specs.Steps.{roomRefusal, after, answerTo, met, touched, dealt}
+use Rattle.bench.specs.Runs.{Act, event, reset, acted, actedAll, own}
+use Rattle.bench.specs.MeetLaws.{stored, seat-met}
+
+-- ---- lists of seats, of any length
+
+pub mapped-at : {A B : Type 0} (f : A → B) (l : List A) (n : ℕ) (d : A) (d' : B) → n < length l → getD (map f l) n d' ≡ f (getD l n d)
+mapped-at f [] n d d' h = absurd (not-suc-le-zero h)
+mapped-at f (x ∷ l) zero d d' h = refl
+mapped-at f (x ∷ l) (suc n) d d' h = mapped-at f l n d d' (le-of-suc-le-suc h)
+
+pub mapped-length : {A B : Type 0} (f : A → B) (l : List A) → length (map f l) ≡ length l
+mapped-length f [] = refl
+mapped-length f (x ∷ l) = ap suc (mapped-length f l)
+
+pub chair-small : (n : ℕ) → chair n < 8
+chair-small n = mod-lt n (zero-lt-suc 7)
+
+-- ---- an event on a seat
+
+-- the seat that is touched is the channel's step, refused or not
+touched-seat : (s : Seat) (c : Controller) (n : ℕ) (e : SeatEvent) → touched s c n e .seat ≡ record { channel = stepped (s .channel) e .channel }
+unfolding touched stepped
+touched-seat s c n e =
+    pick-through (λ (t : Touched). t .seat) (eqb (refusal (s .channel) e) 0) _ _
+    ∙ sym (pick-through {B = Seat} (λ (r : channel.Stepped). record { channel = r .channel }) (eqb (refusal (s .channel) e) 0) _ _)
+
+-- the seats after it: one place is new
+pub seats-after : (b : Bench) (n : ℕ) (e : SeatEvent)
+    → met b (OfSeat n e) .bench .seats ≡ set (b .seats) (chair n) (record { channel = stepped (seat b n .channel) e .channel })
+unfolding withSeat
+seats-after b n e =
+    ap (λ (o : Outcome). o .bench .seats) (sym (seat-met b n e)) ∙ ap (set (b .seats) (chair n)) (touched-seat (seat b n) (b .controller) n e)
+
+module _ (b : Bench) (eight : length (b .seats) ≡ 8) where
+  within : (n : ℕ) → chair n < length (b .seats)
+  within n = subst (λ (k : ℕ). chair n < k) (sym eight) (chair-small n)
+
+  pub own-seat : (n : ℕ) (e : SeatEvent) → seat (met b (OfSeat n e) .bench) n ≡ record { channel = stepped (seat b n .channel) e .channel }
+  unfolding seat
+  own-seat n e = ap (λ l. getD l (chair n) noSeat) (seats-after b n e) ∙ getD-set-same (b .seats) (chair n) _ noSeat (within n)
+
+  -- a master reset acts on each seat by itself
+  pub reset-seat : (n : ℕ) → seat (met b MasterReset .bench) n ≡ seatReset (seat b n)
+  unfolding met roomRefusal after seat
+  reset-seat n = ap (λ (o : Outcome). getD (o .bench .seats) (chair n) noSeat) (pick-true _ _ _ refl) ∙ mapped-at seatReset (b .seats) (chair n) noSeat noSeat (within n)
+
+-- an event on a seat leaves the others
+pub other-seat : (b : Bench) (n m : ℕ) (e : SeatEvent) → (chair m ≡ chair n → ⊥) → seat (met b (OfSeat n e) .bench) m ≡ seat b m
+unfolding seat
+other-seat b n m e apart = ap (λ l. getD l (chair m) noSeat) (seats-after b n e) ∙ getD-set-other (b .seats) (chair n) (chair m) _ noSeat apart
+
+-- a controller event leaves every seat
+module _ (b : Bench) where
+  pub read-leaves : (port : ℕ) → met b (ReadController port) .bench .seats ≡ b .seats
+  unfolding met after
+  read-leaves port = pick-through (λ (o : Outcome). o .bench .seats) (eqb (roomRefusal b (ReadController port)) 0) _ _ ∙ pick-same _ (b .seats)
+
+  pub write-leaves : (port byte : ℕ) → met b (WriteController port byte) .bench .seats ≡ b .seats
+  unfolding met after
+  write-leaves port byte = pick-through (λ (o : Outcome). o .bench .seats) (eqb (roomRefusal b (WriteController port byte)) 0) _ _ ∙ pick-same _ (b .seats)
+
+  pub acknowledge-leaves : met b Acknowledge .bench .seats ≡ b .seats
+  unfolding met after
+  acknowledge-leaves = pick-through (λ (o : Outcome). o .bench .seats) (eqb (roomRefusal b Acknowledge) 0) _ _ ∙ pick-same _ (b .seats)
+
+-- ---- any decoded record, seen from one seat
+
+reset-length : (b : Bench) → length (met b MasterReset .bench .seats) ≡ length (b .seats)
+unfolding met roomRefusal after
+reset-length b = ap (λ (o : Outcome). length (o .bench .seats)) (pick-true _ _ _ refl) ∙ mapped-length seatReset (b .seats)
+
+-- how many seats there are stays
+pub as-many : (b : Bench) (d : Decoded) → length (dealt b d .bench .seats) ≡ length (b .seats)
+unfolding dealt
+as-many b (Taken (OfSeat n e)) = ap length (seats-after b n e) ∙ length-set (b .seats) (chair n) _
+as-many b (Taken MasterReset) = reset-length b
+as-many b (Taken (ReadController port)) = ap length (read-leaves b port)
+as-many b (Taken (WriteController port byte)) = ap length (write-leaves b port byte)
+as-many b (Taken Acknowledge) = ap length (acknowledge-leaves b)
+as-many b (Refused number) = refl
+
+-- the seats decide what stands at each
+seat-by-seats : (a b : Bench) (n : ℕ) → a .seats ≡ b .seats → seat a n .channel ≡ seat b n .channel
+unfolding seat
+seat-by-seats a b n e = ap (λ l. getD l (chair n) noSeat .channel) e
+
+seat-by-chair : (b : Bench) (m n : ℕ) → chair m ≡ chair n → seat b m ≡ seat b n
+unfolding seat
+seat-by-chair b m n e = ap (λ (k : ℕ). getD (b .seats) k noSeat) e
+
+-- seat n after a record is seat n after what the record does to seat n
+pub seat-acts : (b : Bench) → length (b .seats) ≡ 8 → (n : ℕ) (d : Decoded)
+    → seat (dealt b d .bench) n .channel ≡ actedAll (seat b n .channel) (own (chair n) d)
+unfolding dealt own
+seat-acts b eight n (Taken (OfSeat m e)) =
+    ⊎-elim
+    (λ (here : eqb (chair m) (chair n) ≡ true).
+    let same : chair m ≡ chair n = eqb-true _ _ here in
+    ap (λ (s : Seat). s .channel) (seat-by-chair (met b (OfSeat m e) .bench) n m (sym same) ∙ own-seat b eight m e)
+    ∙ ap (λ (s : Seat). stepped (s .channel) e .channel) (seat-by-chair b m n same)
+    ∙ sym (ap (actedAll (seat b n .channel)) (pick-true _ _ _ here)))
+    (λ (elsewhere : eqb (chair m) (chair n) ≡ false).
+    ap (λ (s : Seat). s .channel) (other-seat b m n e (λ z. eqb-false _ _ elsewhere (sym z)))
+    ∙ sym (ap (actedAll (seat b n .channel)) (pick-false _ _ _ elsewhere)))
+    (either-way (eqb (chair m) (chair n)))
+seat-acts b eight n (Taken MasterReset) = ap (λ (s : Seat). s .channel) (reset-seat b eight n)
+seat-acts b eight n (Taken (ReadController port)) = seat-by-seats _ b n (read-leaves b port)
+seat-acts b eight n (Taken (WriteController port byte)) = seat-by-seats _ b n (write-leaves b port byte)
+seat-acts b eight n (Taken Acknowledge) = seat-by-seats _ b n (acknowledge-leaves b)
+seat-acts b eight n (Refused number) = refl

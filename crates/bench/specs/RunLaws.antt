@@ -1,0 +1,40 @@
+-- Runs: in two parts as whole; and a seat after a run is the run of its own events.
+use Prim.Native.Nat.{ℕ}
+use mathlib.Core.List.{List, [], _∷_, _++_}
+use mathlib.Core.Path.{_≡_, refl, ap, sym, _∙_}
+use lib.ListN.{length}
+use Rattle.channel.specs.declared.Channel.{Channel}
+use Rattle.bench.specs.declared.Bench.{Bench}
+use Rattle.bench.specs.declared.Outcome.{Outcome}
+use Rattle.bench.specs.Events.{Record, decoded}
+use Rattle.bench.specs.Seats.{chair, seat}
+use Rattle.bench.specs.Steps.{outcome, dealt}
+use Rattle.bench.specs.Runs.{Act, afterAll, outcomes, acted, actedAll, own, ownAll}
+use Rattle.bench.specs.MeetLaws.{outcome-dealt}
+use Rattle.bench.specs.FrameLaws.{as-many, seat-acts}
+
+-- running a list in two parts is running it whole
+pub after-parts : (b : Bench) (rs ss : List Record) → afterAll b (rs ++ ss) ≡ afterAll (afterAll b rs) ss
+after-parts b [] ss = refl
+after-parts b (r ∷ rs) ss = after-parts (outcome b r .bench) rs ss
+
+pub outcomes-parts : (b : Bench) (rs ss : List Record) → outcomes b (rs ++ ss) ≡ outcomes b rs ++ outcomes (afterAll b rs) ss
+outcomes-parts b [] ss = refl
+outcomes-parts b (r ∷ rs) ss = ap (λ (l : List Outcome). outcome b r ∷ l) (outcomes-parts (outcome b r .bench) rs ss)
+
+acted-parts : (c : Channel) (xs ys : List Act) → actedAll c (xs ++ ys) ≡ actedAll (actedAll c xs) ys
+acted-parts c [] ys = refl
+acted-parts c (x ∷ xs) ys = acted-parts (acted c x) xs ys
+
+pub eight-kept : (b : Bench) (r : Record) → length (outcome b r .bench .seats) ≡ length (b .seats)
+eight-kept b r = ap (λ (o : Outcome). length (o .bench .seats)) (outcome-dealt b r) ∙ as-many b (decoded r)
+
+-- a seat after a run of records is that seat after its own events among them, whatever the others do
+pub seat-runs : (b : Bench) → length (b .seats) ≡ 8 → (n : ℕ) (rs : List Record)
+    → seat (afterAll b rs) n .channel ≡ actedAll (seat b n .channel) (ownAll (chair n) rs)
+seat-runs b eight n [] = refl
+seat-runs b eight n (r ∷ rs) =
+    seat-runs (outcome b r .bench) (eight-kept b r ∙ eight) n rs
+    ∙ ap (λ (c : Channel). actedAll c (ownAll (chair n) rs))
+    (ap (λ (o : Outcome). seat (o .bench) n .channel) (outcome-dealt b r) ∙ seat-acts b eight n (decoded r))
+    ∙ sym (acted-parts (seat b n .channel) (own (chair n) (decoded r)) (ownAll (chair n) rs))

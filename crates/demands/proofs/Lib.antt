@@ -1,0 +1,3 @@
+pub mod Starred
+pub mod Demand1
+pub mod Demand2
