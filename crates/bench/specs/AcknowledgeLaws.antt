@@ -30,7 +30,7 @@ module _ (b : Bench) (s n v : ℕ) where
   -- output 1: a vector comes, of a line that stands unmasked
   pub output-1 : (high : outputOf (b .controller) ≡ true)
       → (let m = output-high (b .controller) high in
-        outcome b (whole 8 s n v) ≡ shown (withController b (grant (b .controller) (m .line))) (Vector (vector (b .controller .setup) (m .line))))
+      outcome b (whole 8 s n v) ≡ shown (withController b (grant (b .controller) (m .line))) (Vector (vector (b .controller .setup) (m .line))))
   output-1 high =
       acknowledged ∙ sym (acknowledge-met b)
       ∙ ap (λ (t : controller.Stepped). shown (withController b (t .controller)) (t .answer)) (output-high (b .controller) high .names)

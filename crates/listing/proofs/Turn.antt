@@ -14,12 +14,14 @@ use borrow.Author.Tests.{le-ltb, lt-ltb, le-leb, lt-leb, leb-true, leb-false}
 use Rattle.base.specs.Pick.{pick}
 use Rattle.base.specs.PickLaws.{pick-true, pick-false, and-false}
 use Rattle.bench.specs.Events.{Record, short}
+use Rattle.bench.specs.Runs.{afterAll}
+use Rattle.bench.specs.RunLaws.{after-parts}
 use Rattle.bench.specs.Steps.{outcome}
 use Rattle.bench.specs.declared.Bench.{Bench}
 use Rattle.listing.specs.Line.{longest}
 use Rattle.listing.specs.LineLaws.{line-some}
-use Rattle.listing.specs.Run.{benchAfter, lineOf, listing, answered, fits, numberEnd, recordsOf, Runs}
-use Rattle.listing.specs.RunLaws.{bench-parts, listing-parts}
+use Rattle.listing.specs.Run.{lineOf, listing, answered, fits, numberEnd, recordsOf, Runs}
+use Rattle.listing.specs.RunLaws.{listing-parts}
 use Rattle.listing.specs.Places.{Shows, roomAt}
 use Rattle.listing.specs.declared.Shown.{Shown}
 use Rattle.listing.proofs.Stores.{sets-append}
@@ -37,7 +39,7 @@ some-room false place size ne = absurd (ne refl)
 
 -- what holds after k of the records rs, of which the first has number n, from the bench b₀ and the buffer d₀
 pub record Turn (b₀ : Bench) (n : ℕ) (rs : List Record) (d₀ : List ℕ) (b : Bench) (d : List ℕ) (w k : ℕ) : Type 0 where
-  pub bench : b ≡ benchAfter b₀ (take k rs)
+  pub bench : b ≡ afterAll b₀ (take k rs)
   pub written : w ≡ length (listing b₀ n (take k rs))
   pub bytes : d ≡ sets d₀ 0 (listing b₀ n (take k rs))
   pub left : answered b₀ n rs (length d₀) ≡ k + answered b (n + k) (drop k rs) (length d₀ - w)
@@ -46,7 +48,7 @@ pub record Turn (b₀ : Bench) (n : ℕ) (rs : List Record) (d₀ : List ℕ) (b
   pub short : w ≤ longest * k
 
 pub start : (b : Bench) (n : ℕ) (rs : List Record) (d : List ℕ) → Turn b n rs d b d 0 0
-unfolding benchAfter listing
+unfolding listing
 start b n rs d = record {
   bench = refl;
   written = refl;
@@ -74,9 +76,8 @@ module _ (b₀ : Bench) (n : ℕ) (rs : List Record) (d₀ : List ℕ) (b : Benc
       let l : length (take k rs) ≡ k = length-take-le k rs (omega arith) in
       rw (one-more, listing-parts, l, ← t .bench, append-nil)
 
-  bench-more : benchAfter b₀ (take (k + 1) rs) ≡ outcome b r .bench
-  unfolding benchAfter
-  bench-more = rw (one-more, bench-parts, ← t .bench)
+  bench-more : afterAll b₀ (take (k + 1) rs) ≡ outcome b r .bench
+  bench-more = rw (one-more, after-parts, ← t .bench)
 
   module _ (moved : s .next ≡ w → ⊥) (small : n + k < numberEnd) where
     yes : roomAt b (n + k) r d w ≡ true

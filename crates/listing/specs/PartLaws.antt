@@ -7,8 +7,9 @@ use native.Mathlib.Omega.{arith}
 use lib.ListN.{length, take, drop, take-append-drop}
 use lib.Seq.{length-take-le}
 use Rattle.bench.specs.Events.{Record, whole, short}
+use Rattle.bench.specs.Runs.{afterAll}
 use Rattle.bench.specs.declared.Bench.{Bench}
-use Rattle.listing.specs.Run.{recordsOf, benchAfter, listing, Runs}
+use Rattle.listing.specs.Run.{recordsOf, listing, Runs}
 use Rattle.listing.specs.RunLaws.{listing-parts}
 use Rattle.listing.specs.declared.Ran.{Ran}
 
@@ -36,15 +37,15 @@ records-count (suc k) (a ∷ b ∷ c ∷ d ∷ s) h = ap suc (records-count k s 
 -- the listing of a whole input is that of k records and that of the rest, from the bench after them and the number after theirs
 pub listing-whole : (b : Bench) (n : ℕ) (last : Bool) (k : ℕ) (s t : List ℕ) → length s ≡ 4 * k
     → listing b n (recordsOf last (s ++ t))
-    ≡ listing b n (recordsOf false s) ++ listing (benchAfter b (recordsOf false s)) (n + k) (recordsOf last t)
+    ≡ listing b n (recordsOf false s) ++ listing (afterAll b (recordsOf false s)) (n + k) (recordsOf last t)
 listing-whole b n last k s t h = rw (records-parts last k s t h, listing-parts, records-count k s h)
 
 -- what a run that stopped early has left gives the rest of the listing
 pub listing-left : (b : Bench) (n k : ℕ) (rs : List Record) → k ≤ length rs
-    → listing b n (take k rs) ++ listing (benchAfter b (take k rs)) (n + k) (drop k rs) ≡ listing b n rs
+    → listing b n (take k rs) ++ listing (afterAll b (take k rs)) (n + k) (drop k rs) ≡ listing b n rs
 listing-left b n k rs h =
     let l : length (take k rs) ≡ k = length-take-le k rs h in
-    ap (λ (m : ℕ). listing b n (take k rs) ++ listing (benchAfter b (take k rs)) (n + m) (drop k rs)) (sym l)
+    ap (λ (m : ℕ). listing b n (take k rs) ++ listing (afterAll b (take k rs)) (n + m) (drop k rs)) (sym l)
     ∙ sym (listing-parts b n (take k rs) (drop k rs))
     ∙ ap (listing b n) (take-append-drop k rs)
 

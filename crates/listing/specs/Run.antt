@@ -8,6 +8,7 @@ use lib.ListN.{length, take}
 use lib.Seq.{sets}
 use Rattle.base.specs.Pick.{pick}
 use Rattle.bench.specs.Events.{Record, whole, short}
+use Rattle.bench.specs.Runs.{afterAll}
 use Rattle.bench.specs.Seats.{powerUp}
 use Rattle.bench.specs.Steps.{outcome}
 use Rattle.bench.specs.declared.Bench.{Bench}
@@ -27,11 +28,6 @@ recordsOf last (kind ∷ []) = unfinished last
 recordsOf last (kind ∷ seat ∷ []) = unfinished last
 recordsOf last (kind ∷ seat ∷ number ∷ []) = unfinished last
 recordsOf last (kind ∷ seat ∷ number ∷ value ∷ rest) = whole kind seat number value ∷ recordsOf last rest
-
--- the bench after some records
-unfoldable pub benchAfter : Bench → List Record → Bench
-benchAfter b [] = b
-benchAfter b (r ∷ rest) = benchAfter (outcome b r .bench) rest
 
 -- the line of record n
 abbrev pub lineOf : Bench → ℕ → Record → List ℕ
@@ -70,7 +66,7 @@ answeredOf b n rs room = take (answered b n rs room) rs
 pub record Runs (b : Bench) (n : ℕ) (s : List ℕ) (last : Bool) (d d′ : List ℕ) (r : Ran) : Type 0 where
   pub records : r .records ≡ answered b n (recordsOf last s) (length d)
   pub used : r .used ≡ min (4 * r .records) (length s)
-  pub bench : r .bench ≡ benchAfter b (answeredOf b n (recordsOf last s) (length d))
+  pub bench : r .bench ≡ afterAll b (answeredOf b n (recordsOf last s) (length d))
   pub written : r .written ≡ length (listing b n (answeredOf b n (recordsOf last s) (length d)))
   pub bytes : d′ ≡ sets d 0 (listing b n (answeredOf b n (recordsOf last s) (length d)))
   pub inside : r .written ≤ length d

@@ -12,25 +12,21 @@ use mathlib.Core.Logic.{⊎-elim}
 use Rattle.base.specs.Pick.{pick}
 use Rattle.base.specs.PickLaws.{pick-false, pick-through, either-way}
 use Rattle.bench.specs.Events.{Record, short}
+use Rattle.bench.specs.Runs.{afterAll}
 use Rattle.bench.specs.Steps.{outcome}
 use Rattle.bench.specs.declared.Bench.{Bench}
-use Rattle.listing.specs.Run.{recordsOf, benchAfter, listing, lineOf}
+use Rattle.listing.specs.Run.{recordsOf, listing, lineOf}
 use Rattle.listing.specs.Places.{recordAt, recordCount}
 
-pub bench-parts : (b : Bench) (xs ys : List Record) → benchAfter b (xs ++ ys) ≡ benchAfter (benchAfter b xs) ys
-unfolding benchAfter
-bench-parts b [] ys = refl
-bench-parts b (r ∷ xs) ys = bench-parts _ xs ys
-
 pub listing-parts : (b : Bench) (n : ℕ) (xs ys : List Record)
-    → listing b n (xs ++ ys) ≡ listing b n xs ++ listing (benchAfter b xs) (n + length xs) ys
-unfolding benchAfter listing
+    → listing b n (xs ++ ys) ≡ listing b n xs ++ listing (afterAll b xs) (n + length xs) ys
+unfolding listing
 listing-parts b n [] ys = rw (add-zero n)
 listing-parts b n (r ∷ xs) ys =
     let e : suc n + length xs ≡ n + suc (length xs) = omega arith in
     ap (λ (l : List ℕ). lineOf b n r ++ l) (listing-parts (outcome b r .bench) (suc n) xs ys)
     ∙ sym (append-assoc (lineOf b n r) _ _)
-    ∙ ap (λ (m : ℕ). listing b n (r ∷ xs) ++ listing (benchAfter (outcome b r .bench) xs) m ys) e
+    ∙ ap (λ (m : ℕ). listing b n (r ∷ xs) ++ listing (afterAll (outcome b r .bench) xs) m ys) e
 
 -- ---- the record at a place
 
