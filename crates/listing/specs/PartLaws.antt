@@ -49,6 +49,27 @@ listing-left b n k rs h =
     ∙ sym (listing-parts b n (take k rs) (drop k rs))
     ∙ ap (listing b n) (take-append-drop k rs)
 
+-- the records from the k-th on are those of the bytes from 4 * k on
+records-left : (last : Bool) (k : ℕ) (s : List ℕ) → 4 * k ≤ length s
+    → (k ≤ length (recordsOf last s)) × (drop k (recordsOf last s) ≡ recordsOf last (drop (4 * k) s))
+unfolding recordsOf
+records-left last zero s h = (omega arith, refl)
+records-left last (suc k) [] h = absurd (omega arith)
+records-left last (suc k) (a ∷ []) h = absurd (omega arith)
+records-left last (suc k) (a ∷ b ∷ []) h = absurd (omega arith)
+records-left last (suc k) (a ∷ b ∷ c ∷ []) h = absurd (omega arith)
+records-left last (suc k) (a ∷ b ∷ c ∷ d ∷ s) h =
+    let on : 4 * suc k ≡ suc (suc (suc (suc (4 * k)))) = omega arith in
+    let rest : _ = records-left last k s (omega arith) in
+    (omega arith, rw on (rest .1))
+
+-- so a run that stopped after k whole records goes on at the bytes that it did not use
+pub listing-on : (b : Bench) (n : ℕ) (last : Bool) (k : ℕ) (s : List ℕ) → 4 * k ≤ length s
+    → listing b n (take k (recordsOf last s)) ++ listing (afterAll b (take k (recordsOf last s))) (n + k) (recordsOf last (drop (4 * k) s))
+    ≡ listing b n (recordsOf last s)
+listing-on b n last k s h =
+    rw (← records-left last k s h .1) (listing-left b n k (recordsOf last s) (records-left last k s h .0))
+
 -- "record of 1 to 3 bytes at the end of input": it is the last record, and there is no other way to one
 pub short-last : (k : ℕ) (s : List ℕ) (a b c : ℕ) → length s ≡ 4 * k
     → (recordsOf true (s ++ (a ∷ [])) ≡ recordsOf false s ++ (short ∷ []))
