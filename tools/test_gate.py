@@ -8,7 +8,13 @@ from room import Room
 
 TOOLS = Path(__file__).parent
 VERDICT = "7 passed, 0 failed"
-RT = f'#!/bin/sh\ncase $1 in version) echo kit 9 ;; fmt) [ -z "$UNTIDY" ] ;; ci) echo "{VERDICT}" ;; esac\n'
+RT = f"""#!/bin/sh
+case $1 in
+version) echo kit 9 ;;
+fmt) [ -z "$UNTIDY" ] ;;
+ci) echo proving; [ -z "$UNPROVED" ] && echo "{VERDICT}" || {{ echo "6 passed, 1 failed"; exit 1; }} ;;
+esac
+"""
 
 
 class Gate(Room):
@@ -16,6 +22,7 @@ class Gate(Room):
         super().setUp()
         self.script("bin/rt", RT)
         self.script("tools/checks/10-good", "#!/bin/sh\necho good\n")
+        self.script("tools/programs/10-run", "#!/bin/sh\necho ran\n")
         self.script("tools/reading", '#!/bin/sh\necho "reading $*"\n')
         self.write("crates.txt", "lamp:\n")
         self.write("crates/lamp/src/lib.rt", "")
@@ -38,7 +45,8 @@ class Gate(Room):
     def test_verdict_is_the_last_line(self):
         status, said = self.run_it()
         self.assertEqual((status, said[-1]), (0, VERDICT))
-        self.assertLess(said.index("reading --check"), said.index("good"))
+        order = [said.index(line) for line in ("reading --check", "good", "proving", "ran", VERDICT)]
+        self.assertEqual(order, sorted(order))
         self.assertTrue(any("Document 01 is not at hand" in line for line in said))
 
     def test_document_01_is_used_where_it_is_at_hand(self):
@@ -56,14 +64,22 @@ class Gate(Room):
 
     def test_each_failure_stops_it(self):
         self.stops(f"failed: {self.root}/bin/rt fmt --check", UNTIDY="1")
+        self.script("tools/programs/05-bad", "#!/bin/sh\nexit 3\n")
+        self.stops("failed: tools/programs/05-bad")
         self.script("tools/checks/05-bad", "#!/bin/sh\nexit 3\n")
         self.stops("failed: tools/checks/05-bad")
         (self.root / "tools/checks/05-bad").chmod(0o644)
         self.stops("tools/checks/05-bad is not executable")
         self.write("crates/lost/src/lib.rt", "")
         self.stops("crates.txt does not list crates/lost")
+        self.script("tools/programs/10-run", "#!/bin/sh\necho ran\n")
         self.script("tools/reading", "#!/bin/sh\nexit 1\n")
         self.stops("failed: tools/reading --check")
+
+    def test_what_is_not_proved_is_the_verdict_and_no_program_is_tried(self):
+        status, said = self.run_it(UNPROVED="1")
+        self.assertEqual((status, said[-1]), (1, "6 passed, 1 failed"))
+        self.assertNotIn("ran", said)
 
 
 if __name__ == "__main__":

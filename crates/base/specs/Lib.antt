@@ -7,4 +7,5 @@ pub mod PickLaws
 pub mod EveryLaws
 pub mod BitLaws
 pub mod ListLaws
+pub mod RefusalLaws
 pub mod AnswerLaws

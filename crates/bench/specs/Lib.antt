@@ -3,6 +3,7 @@ pub mod Seats
 pub mod Refusals
 pub mod Steps
 pub mod MeetLaws
+pub mod Valid
 pub mod Uses
 pub mod Runs
 pub mod UsesLaws
@@ -10,3 +11,7 @@ pub mod FrameLaws
 pub mod RunLaws
 pub mod LevelLaws
 pub mod OutcomeLaws
+pub mod WiredLaws
+pub mod EdgeLaws
+pub mod ValidLaws
+pub mod AcknowledgeLaws

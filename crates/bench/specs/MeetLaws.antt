@@ -121,7 +121,7 @@ one-before false false false x e = absurd (never (sym e))
 room-grounds : (b : Bench) (e : Event)
     → pick (numberAbove e) 2 (pick (noDivisor b e) 5 (pick (arrivalWrong b e) 6 (pick (levelsAbove e) 7 (pick (notReady b e) 8 (pick (notServed b e) 9 0)))))
     ≡ roomRefusal b e
-unfolding roomRefusal pick firstHeld seat-step.refusal seat-step.grounds refusing.refusal refusing.firstHolding
+unfolding roomRefusal pick firstHeld seat-step.refusal seat-step.grounds refusing.refusal
 room-grounds b (OfSeat n e) = refl
 room-grounds b MasterReset = refl
 room-grounds b (ReadController port) = refl

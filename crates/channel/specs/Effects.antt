@@ -13,10 +13,11 @@ use Rattle.receiver.specs.Receiver.{received, got, looked, waited, cleared, tur
 use Rattle.transmitter.specs.declared.Transmitter.{Transmitter}
 use Rattle.transmitter.specs.Transmitter.{flagCleared, written, emptied, shifted, enabled}
 use Rattle.channel.specs.declared.Channel.{Channel}
-use Rattle.channel.specs.declared.Register.{Register}
-use Rattle.channel.specs.declared.Register.the-variants.{RbrThr, Ier, IirFcr, Lcr, Mcr, Lsr, Msr, Scratch, Dll, Dlm}
-use Rattle.channel.specs.Parts.{withSettings, withReceiver, withTransmitter, withModem, fifo, cut}
-use Rattle.channel.specs.Registers.{ierKept, mcrKept, fcrKept, withIer, withFcr, withLcr, withMcr, withScratch, withDll, withDlm}
+use Rattle.registers.specs.declared.Register.{Register}
+use Rattle.registers.specs.declared.Register.the-variants.{RbrThr, Ier, IirFcr, Lcr, Mcr, Lsr, Msr, Scratch, Dll, Dlm}
+use Rattle.channel.specs.Parts.{withSettings, withReceiver, withTransmitter, withModem, fifo}
+use Rattle.registers.specs.Words.{cut}
+use Rattle.registers.specs.Registers.{ierKept, mcrKept, fcrKept, withIer, withFcr, withLcr, withMcr, withScratch, withDll, withDlm}
 use Rattle.channel.specs.Status.{lsr, msr, inputs, cause, iir}
 
 -- ---- reads

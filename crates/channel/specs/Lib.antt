@@ -1,7 +1,13 @@
 pub mod Parts
-pub mod Registers
 pub mod Status
 pub mod Effects
 pub mod Steps
+pub mod Sound
 pub mod StatusLaws
 pub mod StepLaws
+pub mod CauseLaws
+pub mod IirLaws
+pub mod ChangeLaws
+pub mod ModeLaws
+pub mod Moments
+pub mod MomentLaws

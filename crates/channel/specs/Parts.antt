@@ -1,5 +1,5 @@
 -- A channel and its parts: what stands in it at power-up, and its modes.
-use Prim.Native.Nat.{ℕ, _+_, _*_, _%_, _^_}
+use Prim.Native.Nat.{ℕ, _+_, _*_}
 use mathlib.Core.Bool.{Bool, true, false, not}
 use Rattle.base.specs.Pick.{pick}
 use Rattle.base.specs.Bits.{bit}
@@ -7,7 +7,7 @@ use Rattle.receiver.specs.declared.Receiver.{Receiver}
 use Rattle.receiver.specs.Receiver.{quiet, restarted}
 use Rattle.transmitter.specs.declared.Transmitter.{Transmitter}
 use Rattle.transmitter.specs.Transmitter.{still}
-use Rattle.channel.specs.declared.Settings.{Settings}
+use Rattle.registers.specs.declared.Settings.{Settings}
 use Rattle.channel.specs.declared.Modem.{Modem}
 use Rattle.channel.specs.declared.Channel.{Channel}
 
@@ -49,10 +49,6 @@ withModem c m = record { settings = c .settings; receiver = c .receiver; transmi
 abbrev pub fifo : Channel → Bool
 fifo c = bit 0 (c .settings .fcr)
 
--- "bits 7-6 choose trigger 1, 4, 8 or 14"
-unfoldable pub trigger : ℕ → ℕ
-trigger fcr = pick (bit 7 fcr) (pick (bit 6 fcr) 14 8) (pick (bit 6 fcr) 4 1)
-
 -- "With LCR bit 7 set, 0 and 1 are DLL and DLM"
 abbrev pub divisorShown : Channel → Bool
 divisorShown c = bit 7 (c .settings .lcr)
@@ -60,14 +56,6 @@ divisorShown c = bit 7 (c .settings .lcr)
 -- the divisor is the sixteen bits of DLM and DLL
 abbrev pub divisor : Channel → ℕ
 divisor c = c .settings .dll + 256 * c .settings .dlm
-
--- the word length: LCR bits 1-0 stand for five to eight bits
-abbrev pub wordBits : ℕ → ℕ
-wordBits lcr = 5 + lcr % 4
-
--- "cut to the word length"
-unfoldable pub cut : ℕ → ℕ → ℕ
-cut lcr byte = byte % 2 ^ wordBits lcr
 
 -- parity is off where LCR bit 3 is clear
 abbrev pub parityOff : ℕ → Bool

@@ -8,7 +8,8 @@ use Rattle.base.specs.Bits.{bit, bits}
 use Rattle.receiver.specs.Receiver.{noneQueued, shownMarks, someMarked, dataStands, timeoutStands}
 use Rattle.transmitter.specs.Transmitter.{noneWaiting, allSent}
 use Rattle.channel.specs.declared.Channel.{Channel}
-use Rattle.channel.specs.Parts.{fifo, trigger}
+use Rattle.channel.specs.Parts.{fifo}
+use Rattle.registers.specs.Words.{trigger}
 
 -- "LSR: 0 queue not empty; 1 overrun; 2, 3, 4 parity, framing, break; 5 transmit queue empty; 6 that and the shift register empty; 7 in FIFO
 -- mode some queued character has a mark, else 0."

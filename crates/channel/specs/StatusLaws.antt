@@ -1,10 +1,94 @@
--- Laws of what a channel shows.
-use Prim.Native.Nat.{ℕ, _≤_}
+-- LSR, MSR and IIR, bit by bit.
+use Prim.Native.Nat.{ℕ, zero, suc, _+_, _<_, _≤_, _/_, _%_}
+use mathlib.Core.Bool.{Bool, true, false, not, _&&_}
+use mathlib.Core.Path.{_≡_, ap, _∙_}
+use native.Mathlib.Nat.{le-of-suc-le-suc, not-suc-le-zero}
 use native.Mathlib.Omega.{arith}
+use lib.Dec.{eqb}
+use borrow.Author.Tests.{eq-eqb, ne-eqb}
 use Rattle.base.specs.Pick.{pick}
-use Rattle.base.specs.PickLaws.{pick-le}
+use Rattle.base.specs.PickLaws.{pick-true, pick-false, pick-le}
+use Rattle.base.specs.Bits.{bit}
+use Rattle.base.specs.BitLaws.{bit-bits, bits-small}
+use Rattle.queue.specs.Queue.{oldest, marked}
+use Rattle.receiver.specs.Receiver.{noneQueued, shownMarks, someMarked}
+use Rattle.transmitter.specs.Transmitter.{noneWaiting, allSent}
 use Rattle.channel.specs.declared.Channel.{Channel}
-use Rattle.channel.specs.Status.{causes, firstCause, cause}
+use Rattle.channel.specs.Parts.{fifo}
+use Rattle.channel.specs.Status.{lsr, msr, causes, firstCause, cause, iir}
+
+-- what holds at each number below four holds at every one
+pub below-four : (P : ℕ → Type 0) → P 0 → P 1 → P 2 → P 3 → (k : ℕ) → k < 4 → P k
+below-four P a b c d zero less = a
+below-four P a b c d (suc zero) less = b
+below-four P a b c d (suc (suc zero)) less = c
+below-four P a b c d (suc (suc (suc zero))) less = d
+below-four P a b c d (suc (suc (suc (suc k)))) less =
+    absurd (not-suc-le-zero (le-of-suc-le-suc (le-of-suc-le-suc (le-of-suc-le-suc (le-of-suc-le-suc less)))))
+
+module _ (c : Channel) where
+  -- 0: the receive queue is not empty
+  pub lsr-data : bit 0 (lsr c) ≡ not (eqb (c .receiver .queue .count) 0)
+  unfolding lsr noneQueued
+  lsr-data = bit-bits 0 _
+
+  -- 1: overrun
+  pub lsr-overrun : bit 1 (lsr c) ≡ c .receiver .overrun
+  unfolding lsr
+  lsr-overrun = bit-bits 1 _
+
+  -- 2, 3, 4: parity, framing and break of the marks shown
+  lsr-marks : (k : ℕ) → k < 3 → bit (2 + k) (lsr c) ≡ bit k (shownMarks (fifo c) (c .receiver))
+  unfolding lsr
+  lsr-marks zero less = bit-bits 2 _
+  lsr-marks (suc zero) less = bit-bits 3 _
+  lsr-marks (suc (suc zero)) less = bit-bits 4 _
+  lsr-marks (suc (suc (suc k))) less = absurd (not-suc-le-zero (le-of-suc-le-suc (le-of-suc-le-suc (le-of-suc-le-suc less))))
+
+  -- which are the kept marks in 16450 mode
+  pub lsr-kept : fifo c ≡ false → (k : ℕ) → k < 3 → bit (2 + k) (lsr c) ≡ bit k (c .receiver .kept)
+  unfolding shownMarks
+  lsr-kept mode k less = lsr-marks k less ∙ ap (bit k) (pick-false _ _ _ mode)
+
+  -- and the oldest character's in FIFO mode
+  pub lsr-oldest : fifo c ≡ true → (k : ℕ) → k < 3 → bit (2 + k) (lsr c) ≡ bit k (oldest (c .receiver .queue) .marks)
+  unfolding shownMarks
+  lsr-oldest mode k less = lsr-marks k less ∙ ap (bit k) (pick-true _ _ _ mode)
+
+  -- 5: the transmit queue is empty
+  pub lsr-empty : bit 5 (lsr c) ≡ eqb (c .transmitter .queue .count) 0
+  unfolding lsr noneWaiting
+  lsr-empty = bit-bits 5 _
+
+  -- 6: and the shift register too
+  pub lsr-idle : bit 6 (lsr c) ≡ (eqb (c .transmitter .queue .count) 0 && not (c .transmitter .busy))
+  unfolding lsr allSent noneWaiting
+  lsr-idle = bit-bits 6 _
+
+  -- 7: some queued character has a mark, in FIFO mode alone
+  pub lsr-marked : bit 7 (lsr c) ≡ (fifo c && marked (c .receiver .queue))
+  unfolding lsr someMarked
+  lsr-marked = bit-bits 7 _
+
+  -- and there are no more than these eight
+  pub lsr-byte : lsr c < 0x100
+  unfolding lsr
+  lsr-byte = bits-small _
+
+  -- MSR bits 0 to 3 are the changes that stand
+  pub msr-changes : (k : ℕ) → k < 4 → bit k (msr c) ≡ bit k (c .modem .changes)
+  unfolding msr
+  msr-changes = below-four (λ k. bit k (msr c) ≡ bit k (c .modem .changes)) (bit-bits 0 _) (bit-bits 1 _) (bit-bits 2 _) (bit-bits 3 _)
+
+  -- MSR bits 4 to 7 are the levels, CTS, DSR, RI and DCD
+  pub msr-levels : (k : ℕ) → k < 4 → bit (4 + k) (msr c) ≡ bit k (c .modem .levels)
+  unfolding msr
+  msr-levels = below-four (λ k. bit (4 + k) (msr c) ≡ bit k (c .modem .levels)) (bit-bits 4 _) (bit-bits 5 _) (bit-bits 6 _) (bit-bits 7 _)
+
+  -- and there are no more
+  pub msr-byte : msr c < 0x100
+  unfolding msr
+  msr-byte = bits-small _
 
 -- no code is above 0C
 pub cause-small : (c : Channel) → cause c ≤ 12
@@ -12,3 +96,35 @@ unfolding cause causes firstCause
 cause-small c =
     pick-le _ _ _ _ (omega arith) (pick-le _ _ _ _ (omega arith) (pick-le _ _ _ _ (omega arith) (pick-le _ _ _ _ (omega arith)
     (pick-le _ _ _ _ (omega arith) (omega arith)))))
+
+-- C0 beside a code
+added : (mode : Bool) (n : ℕ) → n ≤ 12 → (n + pick mode 0xC0 0x00) % 16 ≡ n
+unfolding pick
+added true n small = omega arith
+added false n small = omega arith
+
+-- the low digit of the IIR is the code of the cause
+pub iir-cause : (c : Channel) → iir c % 16 ≡ cause c
+unfolding iir
+iir-cause c = added (fifo c) (cause c) (cause-small c)
+
+marked-as : (mode : Bool) (n : ℕ) → n ≤ 12
+    → let m = n + pick mode 0xC0 0x00 in (bit 7 m ≡ mode) × (bit 6 m ≡ mode) × (bit 5 m ≡ false) × (bit 4 m ≡ false)
+unfolding pick bit
+marked-as true n small = (
+  eq-eqb ((n + 0xC0) / 128 % 2) 1 (omega arith),
+  eq-eqb ((n + 0xC0) / 64 % 2) 1 (omega arith),
+  ne-eqb ((n + 0xC0) / 32 % 2) 1 (λ e. omega arith),
+  ne-eqb ((n + 0xC0) / 16 % 2) 1 (λ e. omega arith),
+)
+marked-as false n small = (
+  ne-eqb ((n + 0x00) / 128 % 2) 1 (λ e. omega arith),
+  ne-eqb ((n + 0x00) / 64 % 2) 1 (λ e. omega arith),
+  ne-eqb ((n + 0x00) / 32 % 2) 1 (λ e. omega arith),
+  ne-eqb ((n + 0x00) / 16 % 2) 1 (λ e. omega arith),
+)
+
+-- its bits 7 and 6 are set exactly in FIFO mode, bits 5 and 4 never
+pub iir-mode : (c : Channel) → (bit 7 (iir c) ≡ fifo c) × (bit 6 (iir c) ≡ fifo c) × (bit 5 (iir c) ≡ false) × (bit 4 (iir c) ≡ false)
+unfolding iir
+iir-mode c = marked-as (fifo c) (cause c) (cause-small c)

@@ -15,7 +15,7 @@ use Rattle.channel.specs.declared.Stepped.{Stepped}
 use Rattle.channel.specs.declared.SeatEvent.{SeatEvent}
 use Rattle.channel.specs.declared.SeatEvent.the-variants.{Read, Write, Arrival, Levels, Time}
 use Rattle.channel.specs.Effects.{timeAnswer}
-use Rattle.channel.specs.Parts.{cut}
+use Rattle.registers.specs.Words.{cut}
 use Rattle.channel.specs.Steps.{refusal, effect, stepped}
 
 -- what is done is answered with no refusal

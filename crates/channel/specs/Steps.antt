@@ -1,8 +1,8 @@
 -- One event on a seat: refused, or done.
-use Prim.Native.Nat.{ℕ, _^_}
+use Prim.Native.Nat.{ℕ}
 use mathlib.Core.Bool.{Bool, true, false, not, _&&_, _||_}
 use mathlib.Core.List.{List, [], _∷_}
-use lib.Dec.{ltb, leb, eqb}
+use lib.Dec.{ltb, eqb}
 use Rattle.base.specs.Pick.{pick}
 use Rattle.base.specs.Bits.{bit}
 use Rattle.base.specs.Refusals.{Ground, firstHeld}
@@ -12,8 +12,9 @@ use Rattle.channel.specs.declared.Channel.{Channel}
 use Rattle.channel.specs.declared.Stepped.{Stepped}
 use Rattle.channel.specs.declared.SeatEvent.{SeatEvent}
 use Rattle.channel.specs.declared.SeatEvent.the-variants.{Read, Write, Arrival, Levels, Time}
-use Rattle.channel.specs.Parts.{divisor, divisorShown, wordBits, parityOff}
-use Rattle.channel.specs.Registers.{registerAt}
+use Rattle.channel.specs.Parts.{divisor, divisorShown}
+use Rattle.registers.specs.Words.{badArrival}
+use Rattle.registers.specs.Registers.{registerAt}
 use Rattle.channel.specs.Effects.{byteAt, afterRead, afterWrite, afterArrival, afterLevels, afterTime, timeAnswer}
 
 -- "register above 7, port above 1": of a seat, the register
@@ -31,26 +32,6 @@ noDivisor c (Write n byte) = false
 noDivisor c (Arrival marks byte) = eqb (divisor c) 0
 noDivisor c (Levels levels) = false
 noDivisor c Time = eqb (divisor c) 0
-
--- "arrival: marks above 7"
-abbrev pub marksAbove : ℕ → Bool
-marksAbove marks = ltb 7 marks
-
--- "data not within the word length"
-abbrev pub beyondWord : ℕ → ℕ → Bool
-beyondWord lcr byte = leb (2 ^ wordBits lcr) byte
-
--- "parity mark with parity off"
-abbrev pub parityUnasked : ℕ → ℕ → Bool
-parityUnasked lcr marks = bit 0 marks && parityOff lcr
-
--- "break with data not 0"
-abbrev pub breakWithData : ℕ → ℕ → Bool
-breakWithData marks byte = bit 2 marks && not (eqb byte 0)
-
--- "arrival: marks above 7; data not within the word length; parity mark with parity off; break with data not 0"
-unfoldable pub badArrival : ℕ → ℕ → ℕ → Bool
-badArrival lcr marks byte = marksAbove marks || beyondWord lcr byte || parityUnasked lcr marks || breakWithData marks byte
 
 -- refusal 6 is of arrivals alone
 unfoldable pub arrivalWrong : Channel → SeatEvent → Bool

@@ -1,11 +1,11 @@
 // One TL16C552A channel, register by register: the state, its parts, and one event at a time.
 use base::Answer;
 use receiver::Receiver;
+use registers::Settings;
 use transmitter::Transmitter;
 
 mod reads;
 mod refusals;
-mod registers;
 mod status;
 mod wire;
 mod writes;
@@ -13,17 +13,6 @@ mod writes;
 ghost use mathlib.Core.Path.{_≡_};
 ghost use Rattle.channel.specs.Parts.{powerUp, masterReset};
 ghost use Rattle.channel.specs.Steps.{stepped};
-
-#[repr(C)]
-pub struct Settings {
-    pub ier: u8,
-    pub fcr: u8,
-    pub lcr: u8,
-    pub mcr: u8,
-    pub scratch: u8,
-    pub dll: u8,
-    pub dlm: u8,
-}
 
 // `levels` are the inputs last given, `changes` the bits 0 to 3 of the MSR.
 #[repr(C)]
@@ -38,19 +27,6 @@ pub struct Channel {
     pub receiver: Receiver,
     pub transmitter: Transmitter,
     pub modem: Modem,
-}
-
-pub enum Register {
-    RbrThr,
-    Ier,
-    IirFcr,
-    Lcr,
-    Mcr,
-    Lsr,
-    Msr,
-    Scratch,
-    Dll,
-    Dlm,
 }
 
 // What can happen to a seat.

@@ -1,13 +1,13 @@
 // A register is read: what is answered, and what the read clears.
 use crate::Channel;
-use crate::Register;
 use crate::Stepped;
 use base::Answer;
+use registers::Register;
 ghost use mathlib.Core.Path.{_≡_};
 ghost use Rattle.channel.specs.Effects.{iirRead, lsrRead, msrRead, byteAt, afterRead};
 ghost use Rattle.channel.specs.Steps.{stepped};
 ghost use Rattle.channel.specs.declared.SeatEvent.the-variants.{Read};
-ghost use Rattle.channel.specs.declared.Register.the-variants.{RbrThr};
+ghost use Rattle.registers.specs.declared.Register.the-variants.{RbrThr};
 
 impl Channel {
     fn read_iir(mut self) -> Self

@@ -1,21 +1,9 @@
 // What a seat refuses, event by event: the first number of document 01's list whose condition holds, 0 for none.
 use crate::Channel;
-use crate::Settings;
+use registers::Settings;
 ghost use mathlib.Core.Path.{_≡_};
-ghost use Rattle.channel.specs.Steps.{badArrival, refusal};
+ghost use Rattle.channel.specs.Steps.{refusal};
 ghost use Rattle.channel.specs.declared.SeatEvent.the-variants.{Read, Write, Arrival, Levels, Time};
-
-impl Settings {
-    fn is_bad_arrival(self, marks: u8, byte: u8) -> bool
-        ensures { λ r. ⌜ r ≡ badArrival (self .lcr) marks byte ⌝ }
-    {
-        let beyond = self.is_beyond_word(byte);
-        let parity = base::bit(0, marks);
-        let asked = base::bit(Settings::LCR_PARITY, self.lcr);
-        let broken = base::bit(2, marks);
-        (7 < marks) | beyond | (parity & !asked) | (broken & !(byte == 0))
-    }
-}
 
 impl Channel {
     pub const REGISTER_ABOVE: u8 = 2;

@@ -1,6 +1,6 @@
 // What a channel shows: LSR, MSR, the cause, IIR and the line.
 use crate::Channel;
-use crate::Settings;
+use registers::Settings;
 ghost use mathlib.Core.Path.{_≡_};
 ghost use Rattle.channel.specs.Parts.{fifo};
 ghost use Rattle.channel.specs.Status.{lsr, msr, lineTrouble, modemChanged, cause, iir, line};

@@ -1,9 +1,9 @@
 // The wire: a character arrives, the modem inputs move, a character time passes.
 use crate::Channel;
-use crate::Settings;
 use crate::Stepped;
 use base::Answer;
 use queue::Character;
+use registers::Settings;
 ghost use mathlib.Core.Path.{_≡_};
 ghost use Rattle.channel.specs.Effects.{afterArrival, changesAfter, afterLevels, afterTime, timeAnswer};
 ghost use Rattle.channel.specs.Steps.{stepped};

@@ -1,16 +1,16 @@
 // A register is written: what it keeps, and what the write empties or sets.
 use crate::Channel;
-use crate::Register;
-use crate::Settings;
 use crate::Stepped;
 use base::Answer;
 use receiver::Receiver;
+use registers::Register;
+use registers::Settings;
 use transmitter::Transmitter;
 ghost use mathlib.Core.Path.{_≡_};
 ghost use Rattle.channel.specs.Effects.{ierWritten, modeChanged, fcrReceiver, fcrTransmitter, fcrWritten, afterWrite};
 ghost use Rattle.channel.specs.Steps.{stepped};
 ghost use Rattle.channel.specs.declared.SeatEvent.the-variants.{Write};
-ghost use Rattle.channel.specs.declared.Register.the-variants.{RbrThr};
+ghost use Rattle.registers.specs.declared.Register.the-variants.{RbrThr};
 
 impl Channel {
     fn write_thr(mut self, byte: u8) -> Self

@@ -5,3 +5,14 @@ pub mod Words
 pub mod Refusals
 pub mod Steps
 pub mod TurnLaws
+pub mod RefusalLaws
+pub mod OutcomeLaws
+pub mod MoveLaws
+pub mod GrantLaws
+pub mod WordLaws
+pub mod OutputLaws
+pub mod Valid
+pub mod ValidLaws
+pub mod LineLaws
+pub mod TableLaws
+pub mod FrameLaws

@@ -1,19 +1,14 @@
 -- What a controller refuses: each number with its own condition, and the first of the list that holds.
 use Prim.Native.Nat.{ℕ}
-use mathlib.Core.Bool.{Bool, true, false, not, _&&_, _||_}
-use mathlib.Core.List.{List, [], _∷_}
+use mathlib.Core.Bool.{Bool, false, not, _&&_, _||_}
+use mathlib.Core.List.{[], _∷_}
 use lib.Dec.{eqb, ltb}
-use Rattle.base.specs.Pick.{pick}
 use Rattle.base.specs.Bits.{bit}
+use Rattle.base.specs.Refusals.{Ground, firstHeld}
 use Rattle.controller.specs.State.{ready, begun, awaitsIcw4}
 use Rattle.controller.specs.Signals.{Signal, levels, read, write, acknowledge}
 use Rattle.controller.specs.Words.{isIcw1, isOcw3}
 use Rattle.controller.specs.declared.Setup.{Setup}
-
--- "The order is": the first number whose condition holds, "0 for none"
-unfoldable pub firstHolding : List (ℕ × Bool) → ℕ
-firstHolding [] = 0
-firstHolding (row ∷ rows) = pick (row .1) (row .0) (firstHolding rows)
 
 -- 1: "seat (or line) above 7"
 abbrev pub lineAbove : ℕ → Bool
@@ -49,8 +44,13 @@ notServed s acknowledge = false
 
 -- "The order is 4, 3, 1, 2, then 5, 6, 7, 8, 9.": of these, those that a controller can give
 unfoldable pub refusal : Setup → Signal → ℕ
-refusal s signal = firstHolding ((2, portAbove signal) ∷ (8, notReady s signal) ∷ (9, notServed s signal) ∷ [])
+refusal s signal =
+    firstHeld
+    (record { number = 2; holds = portAbove signal }
+    ∷ record { number = 8; holds = notReady s signal }
+    ∷ record { number = 9; holds = notServed s signal }
+    ∷ [])
 
 -- "line above 7 gives refusal 1"
 unfoldable pub placeRefusal : ℕ → ℕ
-placeRefusal n = firstHolding ((1, lineAbove n) ∷ [])
+placeRefusal n = firstHeld (record { number = 1; holds = lineAbove n } ∷ [])

@@ -1,6 +1,6 @@
 -- The state of a controller: power-up, the stages of its initialisation, and its parts one by one.
 use Prim.Native.Nat.{ℕ}
-use mathlib.Core.Bool.{Bool, true, false, _||_}
+use mathlib.Core.Bool.{Bool, false, _||_}
 use lib.Dec.{eqb}
 use Rattle.controller.specs.declared.Controller.{Controller}
 use Rattle.controller.specs.declared.Lines.{Lines}
@@ -20,9 +20,11 @@ powerUp =
 abbrev pub awaitsIcw2 : Setup → Bool
 awaitsIcw2 s = eqb (s .stage) 1
 
+-- "and ICW4 at port 1"
 abbrev pub awaitsIcw4 : Setup → Bool
 awaitsIcw4 s = eqb (s .stage) 2
 
+-- "then ready"
 abbrev pub ready : Setup → Bool
 ready s = eqb (s .stage) 3
 
@@ -44,6 +46,7 @@ withSetup c s = record { lines = c .lines; setup = s; operation = c .operation }
 abbrev pub withOperation : Controller → Operation → Controller
 withOperation c o = record { lines = c .lines; setup = c .setup; operation = o }
 
+-- one field of the operation part anew
 abbrev pub withMask : Operation → ℕ → Operation
 withMask o m = record { mask = m; service = o .service; first = o .first; rotation = o .rotation; special = o .special; selected = o .selected }
 

@@ -1,16 +1,15 @@
 -- The sets that the code has hold the lines that the definitions tell; and the code's two searches find what the definitions find.
-use Prim.Native.Nat.{ℕ, _<_}
+use Prim.Native.Nat.{ℕ}
 use mathlib.Core.Bool.{Bool, true, false, not, _&&_}
-use mathlib.Core.Path.{_≡_, refl, sym, ap, ap₂, _∙_}
+use mathlib.Core.Path.{_≡_, refl, sym, ap₂, _∙_}
 use lib.Dec.{ltb}
 use Rattle.base.specs.Pick.{pick}
-use Rattle.base.specs.PickLaws.{pick-true, pick-false, either-way}
 use Rattle.rank.specs.Sets.{has, some, without}
 use Rattle.rank.specs.SetLaws.{has-without}
-use Rattle.rank.specs.Rank.{firstPlace, aboveEvery}
+use Rattle.rank.specs.Rank.{firstPlace}
 use Rattle.rank.specs.RankLaws.{first-agree, some-found}
 use Rattle.rank.specs.AboveLaws.{first-above}
-use Rattle.controller.specs.Turns.{requests, asks, hinders, asking, hindering, grantable, grantablePlace}
+use Rattle.controller.specs.Turns.{requests, asks, hinders, asking, hindering, grantable}
 use Rattle.controller.specs.declared.Controller.{Controller}
 use Rattle.controller.specs.declared.Operation.{Operation}
 
@@ -30,7 +29,7 @@ unmasked false service mask n = sym (both-true (has service n))
 
 pub has-hindering : (o : Operation) (n : ℕ) → has (hindering o) n ≡ hinders o n
 unfolding hindering hinders
-has-hindering o n = unmasked (o .special) (o .service) (o .mask) n
+has-hindering o n = unmasked _ (o .service) (o .mask) n
 
 -- the place of the first-ranked grantable line, as the code finds it
 pub grantable-place : (c : Controller)

@@ -1,6 +1,6 @@
 -- Who asks, who hinders, who is next; and what a grant does.
 use Prim.Native.Nat.{ℕ, _+_, _*_, _/_}
-use mathlib.Core.Bool.{Bool, true, false, not, _&&_}
+use mathlib.Core.Bool.{Bool, not, _&&_}
 use lib.Dec.{ltb}
 use Rattle.base.specs.Pick.{pick}
 use Rattle.base.specs.declared.Answer.the-variants.{Vector, Spurious}
@@ -43,10 +43,11 @@ outputOf c = ready (c .setup) && some (grantable c)
 unfoldable pub found : ℕ → ℕ → Turn
 found first k = pick (ltb k 8) (Line (lineAt first k)) Nobody
 
--- "An acknowledge grants the first-ranked one": its place, and the line
+-- "An acknowledge grants the first-ranked one": its place
 abbrev pub grantablePlace : Controller → ℕ
 grantablePlace c = firstPlace (c .operation .first) (grantable c)
 
+-- "grants the first-ranked one"
 unfoldable pub granted : Controller → Turn
 granted c = found (c .operation .first) (grantablePlace c)
 
@@ -80,12 +81,14 @@ abbrev pub answered : Controller → Turn → Stepped
 answered c (Line n) = record { controller = grant c n; answer = Vector (vector (c .setup) n) }
 answered c Nobody = record { controller = c; answer = Spurious (vector (c .setup) 7) }
 
+-- "An acknowledge grants"
 unfoldable pub acknowledged : Controller → Stepped
 acknowledged c = answered c (granted c)
 
--- the lines that ask and those that hinder as sets, which is how the code has them
+-- "stands unmasked": the lines that ask, as the set that the code has
 unfoldable pub asking : Controller → ℕ
 asking c = without (requests c) (c .operation .mask)
 
+-- "do not hinder": those that do, as the set that the code has
 unfoldable pub hindering : Operation → ℕ
 hindering o = pick (o .special) (without (o .service) (o .mask)) (o .service)

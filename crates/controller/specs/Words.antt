@@ -1,6 +1,6 @@
 -- The words that are written to the two ports, and what each does.
 use Prim.Native.Nat.{ℕ, _*_, _/_, _%_}
-use mathlib.Core.Bool.{Bool, true, false, not, _&&_, _||_}
+use mathlib.Core.Bool.{Bool, true, false, not, _&&_}
 use lib.Dec.{eqb}
 use Rattle.base.specs.Pick.{pick}
 use Rattle.base.specs.Bits.{bit}
@@ -64,6 +64,7 @@ abbrev pub endedTurn : Operation → Turn → Operation
 endedTurn o (Line n) = ended o n
 endedTurn o Nobody = o
 
+-- "none, nothing changes", and nothing rotates
 abbrev pub rotatedTurn : Operation → Turn → Operation
 rotatedTurn o (Line n) = madeLast (ended o n) n
 rotatedTurn o Nobody = o
@@ -89,6 +90,7 @@ command o k n =
     (pick (eqb k 0b000) (withRotation o false)
     o))))))
 
+-- "OCW2 (bits 4-3 are 00), by bits 7-5"
 unfoldable pub ocw2 : Operation → ℕ → Operation
 ocw2 o b = command o (b / 32 % 8) (line b)
 
@@ -118,6 +120,7 @@ written1 c b =
     (pick (awaitsIcw4 (c .setup)) (withSetup c (icw4 (c .setup) b))
     (withOperation c (withMask (c .operation) b)))
 
+-- "write controller"
 unfoldable pub written : Controller → ℕ → ℕ → Controller
 written c port b = pick (eqb port 0) (written0 c b) (written1 c b)
 

@@ -8,7 +8,7 @@ use Rattle.queue.specs.declared.Character.{Character}
 use Rattle.queue.specs.declared.Queue.{Queue}
 use Rattle.receiver.specs.declared.Receiver.{Receiver}
 use Rattle.transmitter.specs.declared.Transmitter.{Transmitter}
-use Rattle.channel.specs.declared.Settings.{Settings}
+use Rattle.registers.specs.declared.Settings.{Settings}
 use Rattle.channel.specs.declared.Modem.{Modem}
 use Rattle.channel.specs.declared.Channel.{Channel}
 use Rattle.controller.specs.declared.Lines.{Lines}

@@ -16,7 +16,7 @@ use Rattle.receiver.specs.declared.Receiver.{Receiver}
 use Rattle.transmitter.specs.Transmitter.{still}
 use Rattle.transmitter.specs.declared.Transmitter.{Transmitter}
 use Rattle.channel.specs.Parts as channel
-use Rattle.channel.specs.declared.Settings.{Settings}
+use Rattle.registers.specs.declared.Settings.{Settings}
 use Rattle.channel.specs.declared.Modem.{Modem}
 use Rattle.channel.specs.declared.Channel.{Channel}
 use Rattle.controller.specs.State as controller

@@ -77,7 +77,7 @@ pub extern "C" fn hailstoat_divisor(rate: u32, clock: u8) -> u32
 
 #[no_mangle]
 pub extern "C" fn hailstoat_power_up(bench: &mut Bench)
-    ensures { λ _. ⌜ now (bench .exit) ≡ powerUp ⌝ }
+    ensures { λ r. ⌜ now (bench .exit) ≡ powerUp ⌝ }
 {
     *bench = Bench::power_up();
 }

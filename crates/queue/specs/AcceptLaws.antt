@@ -2,13 +2,14 @@
 use Prim.Native.Nat.{_<_, _≤_}
 use mathlib.Core.List.{List, [], _∷_, _++_}
 use mathlib.Core.Bool.{Bool, true, false}
-use mathlib.Core.Path.{_≡_, refl, ap₂, _∙_}
+use mathlib.Core.Path.{_≡_, refl, ap₂, sym, subst, _∙_}
+use mathlib.Core.Logic.{⊎-elim}
 use native.Mathlib.Omega.{arith}
 use lib.Dec.{ltb}
 use lib.ListN.{length}
-use borrow.Author.Tests.{lt-ltb, le-ltb}
+use borrow.Author.Tests.{lt-ltb, le-ltb, ltb-true, ltb-false}
 use Rattle.base.specs.Pick.{pick}
-use Rattle.base.specs.PickLaws.{pick-true, pick-false, pick-same, pick-through, and-false}
+use Rattle.base.specs.PickLaws.{pick-true, pick-false, pick-same, pick-through, and-false, either-way}
 use Rattle.queue.specs.declared.Character.{Character}
 use Rattle.queue.specs.declared.Queue.{Queue}
 use Rattle.queue.specs.declared.Put.{Put}
@@ -66,3 +67,26 @@ kept-accepting fifo q ch e =
     (pick-through (λ (p : Put). canonical (capacity fifo) (p .queue)) fifo _ _
     ∙ ap₂ (pick fifo) e (facts-of fifo .kept-replacing q ch e) ∙ pick-same fifo true)
     ∙ pick-same (room q (capacity fifo)) true
+
+-- what holds of each of the three outcomes holds of every acceptance
+pub accept-cases : (fifo : Bool) (l : List Character) (ch : Character) (P : Put → Type 0) → length l ≤ capacity fifo
+    → (length l < capacity fifo → P (record { queue = holding (l ++ (ch ∷ [])); full = false }))
+    → (capacity fifo ≤ length l → fifo ≡ true → P (record { queue = holding l; full = true }))
+    → ((old : Character) → capacity fifo ≤ length l → fifo ≡ false → l ≡ old ∷ [] → P (record { queue = holding (ch ∷ []); full = true }))
+    → P (accepted fifo (holding l) ch)
+unfolding capacity pick
+accept-cases true l ch P within room lost instead =
+    ⊎-elim
+    (λ (e : ltb (length l) 16 ≡ true).
+    let less : length l < 16 = ltb-true _ _ e in
+    subst P (sym (accept-room true l ch less)) (room less))
+    (λ (e : ltb (length l) 16 ≡ false).
+    let more : 16 ≤ length l = ltb-false _ _ e in
+    subst P (sym (accept-lost l ch more)) (lost more refl))
+    (either-way (ltb (length l) 16))
+accept-cases false [] ch P within room lost instead =
+    let less : 0 < 1 = omega arith in
+    subst P (sym (accept-room false [] ch less)) (room less)
+accept-cases false (old ∷ []) ch P within room lost instead =
+    subst P (sym (accept-replaced old ch)) (instead old (omega arith) refl refl)
+accept-cases false (old ∷ next ∷ l) ch P within room lost instead = absurd (omega arith)

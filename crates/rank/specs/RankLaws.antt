@@ -1,22 +1,22 @@
 -- Rank as a list, places as indices, and the first-ranked line that passes a test.
-use Prim.Native.Nat.{ℕ, suc, _+_, _-_, _%_, _<_, _≤_}
-use mathlib.Core.Bool.{Bool, true, false, not, _&&_, _||_}
+use Prim.Native.Nat.{ℕ, suc, _+_, _-_, _<_, _≤_}
+use mathlib.Core.Bool.{Bool, true, false, _&&_}
 use mathlib.Core.List.{List, [], _∷_, _++_}
 use mathlib.Core.Path.{_≡_, refl, sym, ap, ap₂, _∙_, subst}
 use mathlib.Core.Logic.{⊎-elim}
-use native.Mathlib.Nat.{le-trans, not-le-of-lt, eq-or-lt-of-le}
+use native.Mathlib.Nat.{not-le-of-lt, eq-or-lt-of-le}
 use native.Mathlib.Omega.{arith}
-use borrow.Author.Tests.{lt-ltb, le-ltb, ltb-true, ltb-false, eq-eqb, eqb-true}
+use borrow.Author.Tests.{lt-ltb, le-ltb, eq-eqb, eqb-true}
 use lib.Dec.{T, eqb, eqb→eq, ltb}
 use lib.ListN.{getD, take, drop}
 use Rattle.base.specs.Pick.{pick}
-use Rattle.base.specs.PickLaws.{pick-true, pick-false, either-way, not-both, both-hold}
+use Rattle.base.specs.PickLaws.{either-way, not-both}
 use Rattle.base.specs.Every.{every}
-use Rattle.base.specs.EveryLaws.{every-at, equal-at, every-each, every-from}
+use Rattle.base.specs.EveryLaws.{every-at, equal-at}
 use Rattle.rank.specs.Sets.{line, has, only, some}
-use Rattle.rank.specs.SetLaws.{line-lt, line-same, has-line, has-only, some-none, one-some, none-some}
+use Rattle.rank.specs.SetLaws.{line-lt, line-same, has-only, one-some, none-some}
 use Rattle.rank.specs.SearchLaws.{find-least, find-passes, find-up-to}
-use Rattle.rank.specs.Rank.{next, upward, order, before, place, lineAt, above, aboveEvery, find, firstPlace}
+use Rattle.rank.specs.Rank.{next, upward, order, before, place, lineAt, find, firstPlace}
 
 -- ---- places and lines
 

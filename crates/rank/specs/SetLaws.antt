@@ -1,12 +1,11 @@
 -- Sets of lines, line by line.
 use Prim.Native.Nat.{ℕ, _*_, _/_, _%_, _^_, _<_}
 use mathlib.Core.Bool.{Bool, true, false, not, _&&_, _||_}
-use mathlib.Core.Path.{_≡_, refl, sym, ap, ap₂, _∙_}
+use mathlib.Core.Path.{_≡_, refl, sym, ap}
 use mathlib.Core.Logic.{⊎-elim}
 use native.Mathlib.Nat.{mod-lt, zero-lt-suc}
 use native.Mathlib.Omega.{arith}
 use lib.Dec.{T, eqb}
-use Rattle.base.specs.Pick.{pick}
 use Rattle.base.specs.PickLaws.{either-way, not-both}
 use Rattle.base.specs.Bits.{bit}
 use Rattle.base.specs.BitLaws.{bit-or, bit-and, bit-without}

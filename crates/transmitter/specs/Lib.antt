@@ -1,1 +1,6 @@
 pub mod Transmitter
+pub mod Sound
+pub mod Sending
+pub mod CallLaws
+pub mod SoundLaws
+pub mod SendingLaws

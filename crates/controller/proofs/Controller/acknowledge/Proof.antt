@@ -1,7 +1,8 @@
 use Rattle.base.specs.PickLaws.{pick-true, pick-false}
 use borrow.Author.Tests.{eq-eqb, ne-eqb}
 use Rattle.controller.specs.Steps.{step}
-use Rattle.controller.specs.Refusals.{refusal, firstHolding}
+use Rattle.controller.specs.Refusals.{refusal}
+use Rattle.base.specs.Refusals.{firstHeld}
 use borrow.Author.Needs.{needs}
 use Rattle.controller.proofs.Controller.acknowledge.Statement.{statement}
 use Rattle.controller.proofs.Controller.acknowledge.Tie as tie
@@ -10,11 +11,11 @@ acknowledged-requires : tie.Need-acknowledged-requires
 acknowledged-requires c κs = search needs
 
 returns : tie.Need-returns
-unfolding step refusal firstHolding
+unfolding step refusal firstHeld
 returns c = simp (← c .acknowledged .ensures, eq-eqb _ _ (c .before .if1 .taken), pick-true, pick-false)
 
 returns-2 : tie.Need-returns-2
-unfolding step refusal firstHolding
+unfolding step refusal firstHeld
 returns-2 c = simp (ne-eqb _ _ (c .if1 .left), pick-true, pick-false)
 
 pub acknowledge-spec : {M : Type 1} → statement M

@@ -1,4 +1,3 @@
-use Rattle.base.specs.PickLaws.{pick-true, pick-false}
 use Rattle.controller.specs.Turns.{acknowledged, granted}
 use borrow.Author.Needs.{needs}
 use Rattle.controller.proofs.Controller.acknowledged.Statement.{statement}
@@ -30,11 +29,11 @@ add-t11 c = search needs
 
 returns : tie.Need-returns
 unfolding acknowledged granted
-returns c = simp (c .before .before .turn .given .1, ← c .grant .ensures, ← c .before .before .before .before .before .found .ensures, ← c .before .before .before .before .before .before .grantable-place .ensures, pick-true, pick-false)
+returns c = simp (c .before .before .turn .given .1, ← c .grant .ensures, ← c .before .before .before .before .before .found .ensures, ← c .before .before .before .before .before .before .grantable-place .ensures)
 
 returns-2 : tie.Need-returns-2
 unfolding acknowledged granted
-returns-2 c = simp (c .enum-told .given .1, ← c .before .before .before .found .ensures, ← c .before .before .before .before .grantable-place .ensures, pick-true, pick-false)
+returns-2 c = simp (c .enum-told .given .1, ← c .before .before .before .found .ensures, ← c .before .before .before .before .grantable-place .ensures)
 
 pub acknowledged-spec : {M : Type 1} → statement M
 acknowledged-spec =

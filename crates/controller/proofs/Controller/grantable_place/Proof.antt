@@ -1,5 +1,5 @@
 use Rattle.base.specs.PickLaws.{pick-true, pick-false}
-use borrow.Author.Tests.{le-leb, le-ltb, lt-leb, lt-ltb}
+use borrow.Author.Tests.{le-ltb, lt-ltb}
 use Rattle.controller.specs.Turns.{asking}
 use Rattle.controller.specs.TurnLaws.{grantable-place}
 use borrow.Author.Needs.{needs}
@@ -23,11 +23,11 @@ first-place-requires-2 c κs = search needs
 
 returns : tie.Need-returns
 unfolding asking
-returns c = simp (grantable-place, ← c .before .first-place2 .ensures, ← c .before .before .hindering .ensures, ← c .before .before .before .first-place .ensures, ← c .before .before .before .before .without .ensures, ← c .before .before .before .before .before .requests .ensures, lt-ltb _ _ (c .if1 .taken), lt-leb _ _ (c .if1 .taken), pick-true, pick-false)
+returns c = simp (grantable-place, ← c .before .first-place2 .ensures, ← c .before .before .hindering .ensures, ← c .before .before .before .first-place .ensures, ← c .before .before .before .before .without .ensures, ← c .before .before .before .before .before .requests .ensures, lt-ltb _ _ (c .if1 .taken), pick-true)
 
 returns-2 : tie.Need-returns-2
 unfolding asking
-returns-2 c = simp (grantable-place, ← c .before .first-place2 .ensures, ← c .before .before .hindering .ensures, ← c .before .before .before .first-place .ensures, ← c .before .before .before .before .without .ensures, ← c .before .before .before .before .before .requests .ensures, le-ltb _ _ (c .if1 .left), le-leb _ _ (c .if1 .left), pick-true, pick-false)
+returns-2 c = simp (grantable-place, ← c .before .first-place2 .ensures, ← c .before .before .hindering .ensures, ← c .before .before .before .first-place .ensures, ← c .before .before .before .before .without .ensures, ← c .before .before .before .before .before .requests .ensures, le-ltb _ _ (c .if1 .left), pick-false)
 
 pub grantable-place-spec : {M : Type 1} → statement M
 grantable-place-spec =

@@ -1,4 +1,3 @@
-use Rattle.base.specs.PickLaws.{pick-true, pick-false}
 use Rattle.controller.specs.Words.{icw1}
 use borrow.Author.Needs.{needs}
 use Rattle.controller.proofs.Controller.icw1.Statement.{statement}
@@ -9,7 +8,7 @@ bit-requires c κs = search needs
 
 returns : tie.Need-returns
 unfolding icw1
-returns c = simp (← c .bit .ensures, pick-true, pick-false)
+returns c = simp (← c .bit .ensures)
 
 pub icw1-spec : {M : Type 1} → statement M
 icw1-spec = tie.close (tie.spec bit-requires returns)

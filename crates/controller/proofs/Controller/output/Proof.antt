@@ -1,4 +1,3 @@
-use Rattle.base.specs.PickLaws.{pick-true, pick-false}
 use Rattle.controller.specs.Turns.{outputOf}
 use Rattle.controller.specs.TurnLaws.{some-grantable}
 use borrow.Author.Needs.{needs}
@@ -10,7 +9,7 @@ grantable-place-requires c κs = search needs
 
 returns : tie.Need-returns
 unfolding outputOf
-returns c = simp (some-grantable, ← c .before .grantable-place .ensures, pick-true, pick-false)
+returns c = simp (some-grantable, ← c .before .grantable-place .ensures)
 
 pub output-spec : {M : Type 1} → statement M
 output-spec = tie.close (tie.spec grantable-place-requires returns)

@@ -1,4 +1,3 @@
-use Rattle.base.specs.PickLaws.{pick-true, pick-false}
 use Rattle.controller.specs.Turns.{requests}
 use borrow.Author.Needs.{needs}
 use Rattle.controller.proofs.Controller.requests.Statement.{statement}
@@ -9,7 +8,7 @@ pick-byte-requires c κs = search needs
 
 returns : tie.Need-returns
 unfolding requests
-returns c = simp (← c .pick-byte .ensures, pick-true, pick-false)
+returns c = simp (← c .pick-byte .ensures)
 
 pub requests-spec : {M : Type 1} → statement M
 requests-spec = tie.close (tie.spec pick-byte-requires returns)

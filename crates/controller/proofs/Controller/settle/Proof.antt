@@ -1,4 +1,3 @@
-use Rattle.base.specs.PickLaws.{pick-true, pick-false}
 use Rattle.controller.specs.Turns.{settled}
 use borrow.Author.Needs.{needs}
 use Rattle.controller.proofs.Controller.settle.Statement.{statement}
@@ -9,7 +8,7 @@ without-requires c κs = search needs
 
 returns : tie.Need-returns
 unfolding settled
-returns c = simp (← c .before .before .before .without .ensures, pick-true, pick-false)
+returns c = simp (← c .before .before .before .without .ensures)
 
 pub settle-spec : {M : Type 1} → statement M
 settle-spec = tie.close (tie.spec without-requires returns)

@@ -13,11 +13,11 @@ written-requires c κs = search needs
 
 returns : tie.Need-returns
 unfolding step
-returns c = simp (← c .written .ensures, ← c .before .before .write-refusal .ensures, eq-eqb _ _ (c .before .if1 .taken), pick-true, pick-false)
+returns c = simp (← c .written .ensures, ← c .before .before .write-refusal .ensures, eq-eqb _ _ (c .before .if1 .taken), pick-true)
 
 returns-2 : tie.Need-returns-2
 unfolding step
-returns-2 c = simp (← c .before .write-refusal .ensures, ne-eqb _ _ (c .if1 .left), pick-true, pick-false)
+returns-2 c = simp (← c .before .write-refusal .ensures, ne-eqb _ _ (c .if1 .left), pick-false)
 
 pub write-spec : {M : Type 1} → statement M
 write-spec = tie.close (tie.spec write-refusal-requires written-requires returns returns-2)

@@ -29,7 +29,7 @@ ocw2-requires c κs = search needs
 
 returns-3 : tie.Need-returns-3
 unfolding written0
-returns-3 c = simp (← c .ocw2 .ensures, ← c .before .before .bit2 .ensures, ← c .before .before .before .before .bit .ensures, c .before .if2 .left, c .before .before .before .if1 .left, pick-true, pick-false)
+returns-3 c = simp (← c .ocw2 .ensures, ← c .before .before .bit2 .ensures, ← c .before .before .before .before .bit .ensures, c .before .if2 .left, c .before .before .before .if1 .left, pick-false)
 
 pub written0-spec : {M : Type 1} → statement M
 written0-spec =

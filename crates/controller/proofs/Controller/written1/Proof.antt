@@ -13,7 +13,7 @@ bit-requires c κs = search needs
 
 returns : tie.Need-returns
 unfolding written1 icw2 icw4
-returns c = simp (← c .before .before .before .before .bit .ensures, eq-eqb _ _ (c .before .before .if1 .taken), pick-true, pick-false)
+returns c = simp (← c .before .before .before .before .bit .ensures, eq-eqb _ _ (c .before .before .if1 .taken), pick-true)
 
 returns-2 : tie.Need-returns-2
 unfolding written1 icw2 icw4
@@ -21,7 +21,7 @@ returns-2 c = simp (← c .before .before .before .before .before .before .bit .
 
 returns-3 : tie.Need-returns-3
 unfolding written1 icw2 icw4
-returns-3 c = simp (← c .before .before .before .before .before .bit .ensures, ne-eqb _ _ (c .before .if2 .left), ne-eqb _ _ (c .before .before .before .if1 .left), pick-true, pick-false)
+returns-3 c = simp (← c .before .before .before .before .before .bit .ensures, ne-eqb _ _ (c .before .if2 .left), ne-eqb _ _ (c .before .before .before .if1 .left), pick-false)
 
 pub written1-spec : {M : Type 1} → statement M
 written1-spec = tie.close (tie.spec mul-base bit-requires returns returns-2 returns-3)

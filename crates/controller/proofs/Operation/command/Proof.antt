@@ -10,7 +10,7 @@ plain-end-requires c κs = search needs
 
 returns : tie.Need-returns
 unfolding command
-returns c = simp (← c .plain-end .ensures, eq-eqb _ _ (c .before .if1 .taken), pick-true, pick-false)
+returns c = simp (← c .plain-end .ensures, eq-eqb _ _ (c .before .if1 .taken), pick-true)
 
 rotating-end-requires : tie.Need-rotating-end-requires
 rotating-end-requires c κs = search needs
@@ -53,7 +53,7 @@ returns-7 c = simp (eq-eqb _ _ (c .if7 .taken), ne-eqb _ _ (c .before .if6 .left
 
 returns-8 : tie.Need-returns-8
 unfolding command
-returns-8 c = simp (ne-eqb _ _ (c .if7 .left), ne-eqb _ _ (c .before .if6 .left), ne-eqb _ _ (c .before .before .if5 .left), ne-eqb _ _ (c .before .before .before .if4 .left), ne-eqb _ _ (c .before .before .before .before .if3 .left), ne-eqb _ _ (c .before .before .before .before .before .if2 .left), ne-eqb _ _ (c .before .before .before .before .before .before .if1 .left), pick-true, pick-false)
+returns-8 c = simp (ne-eqb _ _ (c .if7 .left), ne-eqb _ _ (c .before .if6 .left), ne-eqb _ _ (c .before .before .if5 .left), ne-eqb _ _ (c .before .before .before .if4 .left), ne-eqb _ _ (c .before .before .before .before .if3 .left), ne-eqb _ _ (c .before .before .before .before .before .if2 .left), ne-eqb _ _ (c .before .before .before .before .before .before .if1 .left), pick-false)
 
 pub command-spec : {M : Type 1} → statement M
 command-spec =

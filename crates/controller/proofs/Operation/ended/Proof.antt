@@ -1,4 +1,3 @@
-use Rattle.base.specs.PickLaws.{pick-true, pick-false}
 use Rattle.controller.specs.Words.{ended}
 use borrow.Author.Needs.{needs}
 use Rattle.controller.proofs.Operation.ended.Statement.{statement}
@@ -12,7 +11,7 @@ without-requires c κs = search needs
 
 returns : tie.Need-returns
 unfolding ended
-returns c = simp (← c .without .ensures, ← c .before .only .ensures, pick-true, pick-false)
+returns c = simp (← c .without .ensures, ← c .before .only .ensures)
 
 pub ended-spec : {M : Type 1} → statement M
 ended-spec = tie.close (tie.spec only-requires without-requires returns)

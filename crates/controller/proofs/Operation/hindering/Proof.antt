@@ -1,4 +1,3 @@
-use Rattle.base.specs.PickLaws.{pick-true, pick-false}
 use Rattle.controller.specs.Turns.{hindering}
 use borrow.Author.Needs.{needs}
 use Rattle.controller.proofs.Operation.hindering.Statement.{statement}
@@ -12,7 +11,7 @@ pick-byte-requires c κs = search needs
 
 returns : tie.Need-returns
 unfolding hindering
-returns c = simp (← c .pick-byte .ensures, ← c .before .without .ensures, pick-true, pick-false)
+returns c = simp (← c .pick-byte .ensures, ← c .before .without .ensures)
 
 pub hindering-spec : {M : Type 1} → statement M
 hindering-spec = tie.close (tie.spec without-requires pick-byte-requires returns)

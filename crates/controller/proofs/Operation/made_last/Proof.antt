@@ -1,4 +1,3 @@
-use Rattle.base.specs.PickLaws.{pick-true, pick-false}
 use Rattle.controller.specs.Words.{madeLast}
 use borrow.Author.Needs.{needs}
 use Rattle.controller.proofs.Operation.made_last.Statement.{statement}
@@ -9,7 +8,7 @@ next-requires c κs = search needs
 
 returns : tie.Need-returns
 unfolding madeLast
-returns c = simp (← c .next .ensures, pick-true, pick-false)
+returns c = simp (← c .next .ensures)
 
 pub made-last-spec : {M : Type 1} → statement M
 made-last-spec = tie.close (tie.spec next-requires returns)

@@ -1,4 +1,3 @@
-use Rattle.base.specs.PickLaws.{pick-true, pick-false}
 use Rattle.controller.specs.Words.{ocw3}
 use borrow.Author.Needs.{needs}
 use Rattle.controller.proofs.Operation.ocw3.Statement.{statement}
@@ -24,7 +23,7 @@ pick-flag-requires-2 c κs = search needs
 
 returns : tie.Need-returns
 unfolding ocw3
-returns c = simp (← c .pick-flag2 .ensures, ← c .before .bit4 .ensures, ← c .before .before .bit3 .ensures, ← c .before .before .before .pick-flag .ensures, ← c .before .before .before .before .bit2 .ensures, ← c .before .before .before .before .before .bit .ensures, pick-true, pick-false)
+returns c = simp (← c .pick-flag2 .ensures, ← c .before .bit4 .ensures, ← c .before .before .bit3 .ensures, ← c .before .before .before .pick-flag .ensures, ← c .before .before .before .before .bit2 .ensures, ← c .before .before .before .before .before .bit .ensures)
 
 pub ocw3-spec : {M : Type 1} → statement M
 ocw3-spec =

@@ -1,4 +1,3 @@
-use Rattle.base.specs.PickLaws.{pick-true, pick-false}
 use borrow.Author.Needs.{needs}
 use Rattle.controller.proofs.Setup.not_served.Statement.{statement}
 use Rattle.controller.proofs.Setup.not_served.Tie as tie
@@ -19,7 +18,7 @@ bit-requires-5 : tie.Need-bit-requires-5
 bit-requires-5 c κs = search needs
 
 returns : tie.Need-returns
-returns c = simp (← c .before .bit5 .ensures, ← c .before .before .bit4 .ensures, ← c .before .before .before .bit3 .ensures, ← c .before .before .before .before .bit2 .ensures, ← c .before .before .before .before .before .bit .ensures, pick-true, pick-false)
+returns c = simp (← c .before .bit5 .ensures, ← c .before .before .bit4 .ensures, ← c .before .before .before .bit3 .ensures, ← c .before .before .before .before .bit2 .ensures, ← c .before .before .before .before .before .bit .ensures)
 
 pub not-served-spec : {M : Type 1} → statement M
 not-served-spec =

@@ -1,4 +1,6 @@
-use mathlib.Core.Bool.{not, _&&_}
+use Prim.Native.Nat.{ℕ, _<_}
+use mathlib.Core.Bool.{Bool, true, _&&_}
+use mathlib.Core.Path.{_≡_}
 use native.Mathlib.Omega.{arith}
 use lib.Dec.{ltb}
 use borrow.Author.Tests.{ltb-true}
@@ -11,11 +13,11 @@ use Rattle.receiver.proofs.Receiver.wait.Tie as tie
 is-empty-requires : tie.Need-is-empty-requires
 is-empty-requires c κs = search needs
 
+counts-below : (mode some : Bool) (count most : ℕ) → (mode && some && ltb count most) ≡ true → count < most
+counts-below mode some count most e = ltb-true _ _ (both-hold (mode && some) (ltb count most) e .1)
+
 add-self : tie.Need-add-self
-add-self c =
-    let a = c .before .before .before .before .args in
-    let none = c .before .before .before .is-empty .result in
-    omega (arith, ltb-true (a .self .timeout) 4 (both-hold (a .fifo && not none) (ltb (a .self .timeout) 4) (c .before .if1 .taken) .1))
+add-self c = omega (arith, counts-below)
 
 returns : tie.Need-returns
 unfolding waited

@@ -1,0 +1,60 @@
+-- The edges of a record: kind 8 and 9, seat 7 and 8, and what a master reset leaves.
+use Prim.Native.Nat.{ℕ, zero, suc, _<_, _≤_}
+use mathlib.Core.Bool.{Bool, true, false, _&&_}
+use mathlib.Core.Path.{_≡_, refl, ap, sym, _∙_}
+use native.Mathlib.Omega.{arith}
+use lib.Dec.{ltb, eqb}
+use borrow.Author.Tests.{lt-ltb, le-ltb}
+use Rattle.base.specs.Pick.{pick}
+use Rattle.base.specs.PickLaws.{pick-true, pick-false, and-false}
+use Rattle.base.specs.Refusals.{firstHeld}
+use Rattle.channel.specs.declared.SeatEvent.{SeatEvent}
+use Rattle.channel.specs.Steps as channel
+use Rattle.controller.specs.Turns.{settled}
+use Rattle.bench.specs.declared.Bench.{Bench}
+use Rattle.bench.specs.declared.Event.the-variants.{OfSeat, MasterReset}
+use Rattle.bench.specs.Events.{Record, whole, short, early, event, eventOf}
+use Rattle.bench.specs.Refusals.{refusal, grounds}
+use Rattle.bench.specs.Seats.{seat}
+use Rattle.bench.specs.Steps.{roomRefusal, after}
+use Rattle.bench.specs.MeetLaws.{refused-early, refused-late}
+
+module _ (b : Bench) where
+  -- a short record is 4 on any bench
+  pub short-refused : refusal b short ≡ 4
+  unfolding refusal grounds firstHeld pick
+  short-refused = refl
+
+  -- kinds above 8 are 3, whatever the other bytes
+  pub kind-refused : (k s n v : ℕ) → 8 < k → refusal b (whole k s n v) ≡ 3
+  unfolding refusal grounds firstHeld pick
+  kind-refused k s n v above = rw (lt-ltb 8 k above)
+
+  -- seats above 7 are 1 for each of the five kinds that use the seat, whatever the register
+  pub seat-refused : (k s n v : ℕ) → k < 5 → 7 < s → refusal b (whole k s n v) ≡ 1
+  unfolding refusal grounds firstHeld pick
+  seat-refused k s n v uses above = rw (le-ltb 8 k (omega arith), lt-ltb k 5 uses, lt-ltb 7 s above)
+
+  -- what is left is the room's: kinds to 8 with a seat to 7, and the four kinds that use no seat
+  taken-seat : (k s n v : ℕ) → k < 5 → s < 8 → early (whole k s n v) ≡ 0
+  unfolding early firstHeld pick
+  taken-seat k s n v uses within = rw (le-ltb 8 k (omega arith), lt-ltb k 5 uses, le-ltb 7 s (omega arith))
+
+  taken-other : (k s n v : ℕ) → 5 ≤ k → k < 9 → early (whole k s n v) ≡ 0
+  unfolding early firstHeld pick
+  taken-other k s n v other within = rw (le-ltb 8 k (omega arith), le-ltb k 5 other)
+
+  pub seat-taken : (k s n v : ℕ) → k < 5 → s < 8 → refusal b (whole k s n v) ≡ roomRefusal b (eventOf k s n v)
+  seat-taken k s n v uses within = refused-late b (whole k s n v) (ap (λ (x : ℕ). eqb x 0) (taken-seat k s n v uses within))
+
+  pub other-taken : (k s n v : ℕ) → 5 ≤ k → k < 9 → refusal b (whole k s n v) ≡ roomRefusal b (eventOf k s n v)
+  other-taken k s n v other within = refused-late b (whole k s n v) (ap (λ (x : ℕ). eqb x 0) (taken-other k s n v other within))
+
+  -- a master reset is refused by nobody, and leaves the controller's own state: only the lines move
+  pub reset-taken : (s n v : ℕ) → refusal b (whole 5 s n v) ≡ 0
+  unfolding refusal grounds firstHeld eventOf pick
+  reset-taken s n v = refl
+
+  pub reset-leaves : (after b MasterReset .controller .setup ≡ b .controller .setup) × (after b MasterReset .controller .operation ≡ b .controller .operation)
+  unfolding after settled
+  reset-leaves = (refl, refl)

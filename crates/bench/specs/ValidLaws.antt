@@ -1,0 +1,149 @@
+-- Valid at power-up, and after every record, refused or not.
+use Prim.Native.Nat.{ℕ, zero, suc, _<_}
+use native.Mathlib.Nat.{le-of-suc-le-suc, not-suc-le-zero}
+use mathlib.Core.Bool.{Bool, true, false, _&&_}
+use mathlib.Core.List.{List, [], _∷_, map}
+use mathlib.Core.Path.{_≡_, refl, ap, ap₂, sym, subst, _∙_}
+use lib.Dec.{eqb}
+use lib.ListN.{length, getD, set, replicate}
+use borrow.Author.Tests.{eqb-true, eq-eqb}
+use Rattle.base.specs.Pick.{pick}
+use Rattle.base.specs.PickLaws.{both-hold, pick-true, pick-cases}
+use Rattle.channel.specs.declared.SeatEvent.{SeatEvent}
+use Rattle.channel.specs.Steps.{stepped}
+use Rattle.channel.specs.Sound.{soundChannel}
+use Rattle.channel.specs.Parts as channel
+use Rattle.channel_laws.specs.SoundLaws.{power-up-sound, reset-sound}
+use Rattle.channel_laws.specs.SoundStepLaws.{step-sound}
+use Rattle.controller.specs.declared.Controller.{Controller}
+use Rattle.controller.specs.declared.Stepped as controller
+use Rattle.controller.specs.Signals.{read, write, acknowledge}
+use Rattle.controller.specs.Turns.{settled}
+use Rattle.controller.specs.Valid as controller-valid
+use Rattle.controller.specs.ValidLaws.{power-up-valid, valid-kept, valid-settled}
+use Rattle.controller.specs.RefusalLaws.{step-done}
+use Rattle.bench.specs.declared.Seat.{Seat}
+use Rattle.bench.specs.declared.Bench.{Bench}
+use Rattle.bench.specs.declared.Outcome.{Outcome}
+use Rattle.bench.specs.declared.Event.{Event}
+use Rattle.bench.specs.declared.Event.the-variants.{OfSeat, MasterReset, ReadController, WriteController, Acknowledge}
+use Rattle.bench.specs.declared.Decoded.{Decoded}
+use Rattle.bench.specs.declared.Decoded.the-variants.{Taken, Refused}
+use Rattle.bench.specs.Events.{Record, decoded}
+use Rattle.bench.specs.Seats.{noSeat, chair, seat, lines, seatReset, powerUp}
+use Rattle.bench.specs.Steps.{roomRefusal, after, met, outcome, dealt}
+use Rattle.bench.specs.Runs.{afterAll}
+use Rattle.bench.specs.MeetLaws.{outcome-dealt}
+use Rattle.bench.specs.FrameLaws.{chair-small, seats-after, read-leaves, write-leaves, acknowledge-leaves}
+use Rattle.bench.specs.WiredLaws.{Wired, wired-kept, wired-power-up}
+use Rattle.bench.specs.Valid.{soundSeats, valid}
+
+-- the test, part by part
+pub record Sound (b : Bench) : Type 0 where
+  pub wired : Wired b
+  pub controller : controller-valid.valid (b .controller) ≡ true
+  pub seats : soundSeats (b .seats) ≡ true
+
+pub parts : (b : Bench) → valid b ≡ true → Sound b
+unfolding valid
+parts b e =
+    let three = both-hold (eqb (length (b .seats)) 8 && eqb (b .controller .lines .levels) (lines (b .seats)) && controller-valid.valid (b .controller)) (soundSeats (b .seats)) e in
+    let two = both-hold (eqb (length (b .seats)) 8 && eqb (b .controller .lines .levels) (lines (b .seats))) (controller-valid.valid (b .controller)) (three .0) in
+    let one = both-hold (eqb (length (b .seats)) 8) (eqb (b .controller .lines .levels) (lines (b .seats))) (two .0) in
+    record { wired = record { eight = eqb-true _ _ (one .0); levels = eqb-true _ _ (one .1) }; controller = two .1; seats = three .1 }
+
+pub whole : (b : Bench) → Sound b → valid b ≡ true
+unfolding valid
+whole b s = rw (eq-eqb _ _ (s .wired .eight), eq-eqb _ _ (s .wired .levels), s .controller, s .seats)
+
+-- ---- the seats
+
+-- a sound seat in place of another
+sound-set : (l : List Seat) (n : ℕ) (s : Seat) → soundSeats l ≡ true → soundChannel (s .channel) ≡ true → soundSeats (set l n s) ≡ true
+unfolding soundSeats
+sound-set [] n s all new = refl
+sound-set (x ∷ l) zero s all new = rw (new, both-hold (soundChannel (x .channel)) (soundSeats l) all .1)
+sound-set (x ∷ l) (suc n) s all new =
+    let h = both-hold (soundChannel (x .channel)) (soundSeats l) all in
+    rw (h .0, sound-set l n s (h .1) new)
+
+-- the seat at a place is sound, where there is one
+sound-at : (l : List Seat) (n : ℕ) (d : Seat) → soundSeats l ≡ true → n < length l → soundChannel (getD l n d .channel) ≡ true
+unfolding soundSeats
+sound-at [] n d all inside = absurd (not-suc-le-zero inside)
+sound-at (x ∷ l) zero d all inside = both-hold (soundChannel (x .channel)) (soundSeats l) all .0
+sound-at (x ∷ l) (suc n) d all inside = sound-at l n d (both-hold (soundChannel (x .channel)) (soundSeats l) all .1) (le-of-suc-le-suc inside)
+
+sound-reset : (l : List Seat) → soundSeats l ≡ true → soundSeats (map seatReset l) ≡ true
+unfolding soundSeats
+sound-reset [] all = refl
+sound-reset (x ∷ l) all =
+    let h = both-hold (soundChannel (x .channel)) (soundSeats l) all in
+    rw (reset-sound (x .channel) (h .0), sound-reset l (h .1))
+
+module _ (b : Bench) (s : Sound b) where
+  at-seat : (n : ℕ) → soundChannel (seat b n .channel) ≡ true
+  unfolding seat
+  at-seat n = sound-at (b .seats) (chair n) noSeat (s .seats) (subst (λ (k : ℕ). chair n < k) (sym (s .wired .eight)) (chair-small n))
+
+  reset-seats : soundSeats (met b MasterReset .bench .seats) ≡ true
+  unfolding met roomRefusal after
+  reset-seats = ap (λ (o : Outcome). soundSeats (o .bench .seats)) (pick-true _ _ _ refl) ∙ sound-reset (b .seats) (s .seats)
+
+  seats-met : (e : Event) → soundSeats (met b e .bench .seats) ≡ true
+  seats-met (OfSeat n e) =
+      ap soundSeats (seats-after b n e) ∙ sound-set (b .seats) (chair n) _ (s .seats) (step-sound (seat b n .channel) e (at-seat n))
+  seats-met MasterReset = reset-seats
+  seats-met (ReadController port) = ap soundSeats (read-leaves b port) ∙ s .seats
+  seats-met (WriteController port byte) = ap soundSeats (write-leaves b port byte) ∙ s .seats
+  seats-met Acknowledge = ap soundSeats (acknowledge-leaves b) ∙ s .seats
+
+  -- ---- the controller
+
+  controller-after : (e : Event) → roomRefusal b e ≡ 0 → controller-valid.valid (after b e .controller) ≡ true
+  unfolding after roomRefusal
+  controller-after (OfSeat n e) none = valid-settled (b .controller) _ (s .controller)
+  controller-after MasterReset none = valid-settled (b .controller) _ (s .controller)
+  controller-after (ReadController port) none = s .controller
+  controller-after (WriteController port byte) none =
+      ap (λ (t : controller.Stepped). controller-valid.valid (t .controller)) (sym (step-done (b .controller) (write port byte) none))
+      ∙ valid-kept (b .controller) (write port byte) (s .controller)
+  controller-after Acknowledge none =
+      ap (λ (t : controller.Stepped). controller-valid.valid (t .controller)) (sym (step-done (b .controller) acknowledge none))
+      ∙ valid-kept (b .controller) acknowledge (s .controller)
+
+  controller-met : (e : Event) → controller-valid.valid (met b e .bench .controller) ≡ true
+  unfolding met
+  controller-met e =
+      pick-cases (λ (o : Outcome). controller-valid.valid (o .bench .controller) ≡ true) (eqb (roomRefusal b e) 0) _ _
+      (λ none. controller-after e (eqb-true _ _ none)) (λ some. s .controller)
+
+  -- ---- the bench
+
+  sound-dealt : (d : Decoded) → (soundSeats (dealt b d .bench .seats) ≡ true) × (controller-valid.valid (dealt b d .bench .controller) ≡ true)
+  unfolding dealt
+  sound-dealt (Taken e) = (seats-met e, controller-met e)
+  sound-dealt (Refused n) = (s .seats, s .controller)
+
+  sound-kept : (r : Record) → Sound (outcome b r .bench)
+  sound-kept r =
+      let h = subst (λ (o : Outcome). (soundSeats (o .bench .seats) ≡ true) × (controller-valid.valid (o .bench .controller) ≡ true))
+      (sym (outcome-dealt b r)) (sound-dealt (decoded r)) in
+      record { wired = wired-kept b (s .wired) r; controller = h .1; seats = h .0 }
+
+-- every record keeps it, refused or not
+pub kept : (b : Bench) (r : Record) → valid b ≡ true → valid (outcome b r .bench) ≡ true
+kept b r e = whole (outcome b r .bench) (sound-kept b (parts b e) r)
+
+seats-power-up : (n : ℕ) → soundSeats (replicate n (record { channel = channel.powerUp })) ≡ true
+unfolding soundSeats
+seats-power-up zero = refl
+seats-power-up (suc n) = rw (power-up-sound, seats-power-up n)
+
+pub power-up : valid powerUp ≡ true
+power-up = whole powerUp (record { wired = wired-power-up; controller = power-up-valid; seats = seats-power-up 8 })
+
+-- and so does a run
+pub run-kept : (b : Bench) (rs : List Record) → valid b ≡ true → valid (afterAll b rs) ≡ true
+run-kept b [] e = e
+run-kept b (r ∷ rs) e = run-kept (outcome b r .bench) rs (kept b r e)

@@ -1,0 +1,41 @@
+-- Runs of stores into a buffer.
+use Prim.Native.Nat.{ℕ, suc, _+_}
+use mathlib.Core.Path.{_≡_}
+use mathlib.Core.Bool.{Bool}
+use mathlib.Core.List.{List, [], _∷_, _++_}
+use native.Mathlib.Omega.{arith}
+use native.Mathlib.Numerals.{add-one}
+use native.Mathlib.Nat.{add-zero, add-suc, suc-add}
+use lib.ListN.{length, set}
+use lib.Seq.{sets}
+use Rattle.base.specs.Answers.{refusalOf, valueOf}
+use Rattle.base.specs.declared.Answer.{Answer}
+use Rattle.listing.specs.Line.{decimal, line, ending}
+
+-- a run of stores after another is one run
+pub sets-append : (vs ws l : List ℕ) (i : ℕ) → sets l i (vs ++ ws) ≡ sets (sets l i vs) (i + length vs) ws
+sets-append [] ws l i = rw (add-zero i)
+sets-append (v ∷ vs) ws l i = rw (sets-append vs ws (set l i v) (suc i), add-suc i (length vs), suc-add i (length vs))
+
+-- seven stores in a row, as code that counts up from `at` leaves them
+pub seven : (l : List ℕ) (at a b c d e f g : ℕ)
+    → set (set (set (set (set (set (set l at a) (at + 1) b) (at + 2) c) (at + 3) d) (at + 4) e) (at + 5) f) (at + 6) g
+    ≡ sets l at (a ∷ b ∷ c ∷ d ∷ e ∷ f ∷ g ∷ [])
+seven l at a b c d e f g =
+    let p1 : at + 1 ≡ suc at = omega arith in
+    let p2 : at + 2 ≡ suc (suc at) = omega arith in
+    let p3 : at + 3 ≡ suc (suc (suc at)) = omega arith in
+    let p4 : at + 4 ≡ suc (suc (suc (suc at))) = omega arith in
+    let p5 : at + 5 ≡ suc (suc (suc (suc (suc at)))) = omega arith in
+    let p6 : at + 6 ≡ suc (suc (suc (suc (suc (suc at))))) = omega arith in
+    rw (p1, p2, p3, p4, p5, p6)
+
+-- the stores of a line's parts are those of the line
+pub line-sets : (l : List ℕ) (at n : ℕ) (a : Answer) (o : Bool)
+    → sets
+    (sets (set (sets l at (decimal n)) (at + length (decimal n)) 32) (at + length (decimal n) + 1) (decimal (refusalOf a)))
+    (at + length (decimal n) + 1 + length (decimal (refusalOf a)))
+    (ending (valueOf a) o)
+    ≡ sets l at (line n a o)
+unfolding line
+line-sets l at n a o = rw (sets-append (decimal n), sets-append (decimal (refusalOf a)), add-one)

@@ -1,0 +1,23 @@
+// Records in, lines out: the listing of a run of records, byte for byte.
+mod lines;
+mod runs;
+
+use bench::Bench;
+pub use lines::put_line;
+pub use runs::run;
+
+// What a run leaves: the bench after it, the records that it answered, the bytes of the input that they were, and the bytes
+// that it wrote. The next record has the number of the first plus `records`.
+pub struct Ran {
+    pub bench: Bench,
+    pub records: usize,
+    pub used: usize,
+    pub written: usize,
+}
+
+// A record answered, or left where its line found no room: `next` is the place after the line, and equals the place before it
+// where there is none.
+pub(crate) struct Shown {
+    pub(crate) bench: Bench,
+    pub(crate) next: usize,
+}

@@ -1,0 +1,4 @@
+pub mod Registers
+pub mod Words
+pub mod RegisterLaws
+pub mod WordLaws

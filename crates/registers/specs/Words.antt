@@ -1,0 +1,42 @@
+-- The trigger, the word length, and what a character that arrives may be.
+use Prim.Native.Nat.{ℕ, _+_, _%_, _^_}
+use mathlib.Core.Bool.{Bool, true, false, not, _&&_, _||_}
+use lib.Dec.{ltb, leb, eqb}
+use Rattle.base.specs.Pick.{pick}
+use Rattle.base.specs.Bits.{bit}
+
+-- "bits 7-6 choose trigger 1, 4, 8 or 14"
+unfoldable pub trigger : ℕ → ℕ
+trigger fcr = pick (bit 7 fcr) (pick (bit 6 fcr) 14 8) (pick (bit 6 fcr) 4 1)
+
+-- the word length: LCR bits 1-0 stand for five to eight bits
+abbrev pub wordBits : ℕ → ℕ
+wordBits lcr = 5 + lcr % 4
+
+-- "cut to the word length"
+unfoldable pub cut : ℕ → ℕ → ℕ
+cut lcr byte = byte % 2 ^ wordBits lcr
+
+-- parity is off where LCR bit 3 is clear
+abbrev pub parityOff : ℕ → Bool
+parityOff lcr = not (bit 3 lcr)
+
+-- "arrival: marks above 7"
+abbrev pub marksAbove : ℕ → Bool
+marksAbove marks = ltb 7 marks
+
+-- "data not within the word length"
+abbrev pub beyondWord : ℕ → ℕ → Bool
+beyondWord lcr byte = leb (2 ^ wordBits lcr) byte
+
+-- "parity mark with parity off"
+abbrev pub parityUnasked : ℕ → ℕ → Bool
+parityUnasked lcr marks = bit 0 marks && parityOff lcr
+
+-- "break with data not 0"
+abbrev pub breakWithData : ℕ → ℕ → Bool
+breakWithData marks byte = bit 2 marks && not (eqb byte 0)
+
+-- "arrival: marks above 7; data not within the word length; parity mark with parity off; break with data not 0"
+unfoldable pub badArrival : ℕ → ℕ → ℕ → Bool
+badArrival lcr marks byte = marksAbove marks || beyondWord lcr byte || parityUnasked lcr marks || breakWithData marks byte

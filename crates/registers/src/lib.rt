@@ -1,0 +1,176 @@
+// The settings of a channel: its registers by name, the mode, the trigger, the divisor and the word length.
+ghost use mathlib.Core.Path.{_≡_};
+ghost use Prim.Native.Nat.{_+_, _*_};
+ghost use lib.Dec.{eqb};
+ghost use Rattle.base.specs.Bits.{bit};
+ghost use Rattle.registers.specs.Words.{trigger, cut};
+ghost use Rattle.registers.specs.Registers.{plainRegister, registerAt, fcrKept};
+ghost use Rattle.registers.specs.Words.{beyondWord, badArrival};
+
+#[repr(C)]
+pub struct Settings {
+    pub ier: u8,
+    pub fcr: u8,
+    pub lcr: u8,
+    pub mcr: u8,
+    pub scratch: u8,
+    pub dll: u8,
+    pub dlm: u8,
+}
+
+pub enum Register {
+    RbrThr,
+    Ier,
+    IirFcr,
+    Lcr,
+    Mcr,
+    Lsr,
+    Msr,
+    Scratch,
+    Dll,
+    Dlm,
+}
+
+impl Settings {
+    pub const IER_DATA: u8 = 0;
+
+    pub const IER_HOLDING: u8 = 1;
+
+    pub const IER_LINE: u8 = 2;
+
+    pub const IER_MODEM: u8 = 3;
+
+    pub const FCR_FIFO: u8 = 0;
+
+    pub const FCR_EMPTY_RECEIVE: u8 = 1;
+
+    pub const FCR_EMPTY_TRANSMIT: u8 = 2;
+
+    pub const FCR_STORED: u8 = 3;
+
+    pub const FCR_TRIGGER_LOW: u8 = 6;
+
+    pub const FCR_TRIGGER_HIGH: u8 = 7;
+
+    pub const LCR_PARITY: u8 = 3;
+
+    pub const LCR_BREAK: u8 = 6;
+
+    pub const LCR_DIVISOR: u8 = 7;
+
+    pub const MCR_LINE: u8 = 3;
+
+    pub const MCR_LOOP: u8 = 4;
+
+    pub const MCR: u8 = 4;
+
+    pub const TRIGGER_1: u8 = 1;
+
+    pub const TRIGGER_4: u8 = 4;
+
+    pub const TRIGGER_8: u8 = 8;
+
+    pub const TRIGGER_14: u8 = 14;
+
+    pub fn is_fifo(self) -> bool
+        ensures { λ r. ⌜ r ≡ bit 0 (self .fcr) ⌝ }
+    {
+        base::bit(Settings::FCR_FIFO, self.fcr)
+    }
+
+    pub fn trigger(self) -> u8
+        ensures { λ r. ⌜ r ≡ trigger (self .fcr) ⌝ }
+    {
+        let high = base::bit(Settings::FCR_TRIGGER_HIGH, self.fcr);
+        let low = base::bit(Settings::FCR_TRIGGER_LOW, self.fcr);
+        if high {
+            return base::pick_byte(low, Settings::TRIGGER_14, Settings::TRIGGER_8);
+        }
+        base::pick_byte(low, Settings::TRIGGER_4, Settings::TRIGGER_1)
+    }
+
+    // The registers as they stand with LCR bit 7 clear.
+    fn plain_register(number: u8) -> Register
+        ensures { λ r. ⌜ r ≡ plainRegister number ⌝ }
+    {
+        match number {
+            0 => Register::RbrThr,
+            1 => Register::Ier,
+            2 => Register::IirFcr,
+            3 => Register::Lcr,
+            4 => Register::Mcr,
+            5 => Register::Lsr,
+            6 => Register::Msr,
+            _ => Register::Scratch,
+        }
+    }
+
+    pub fn register(self, number: u8) -> Register
+        ensures { λ r. ⌜ r ≡ registerAt (bit 7 (self .lcr)) number ⌝ }
+    {
+        let shown = base::bit(Settings::LCR_DIVISOR, self.lcr);
+        if shown {
+            if number == 0 {
+                return Register::Dll;
+            }
+            if number == 1 {
+                return Register::Dlm;
+            }
+            return Settings::plain_register(number);
+        }
+        Settings::plain_register(number)
+    }
+
+    pub fn fcr_kept(byte: u8) -> u8
+        ensures { λ r. ⌜ r ≡ fcrKept byte ⌝ }
+    {
+        let on = base::bit(Settings::FCR_FIFO, byte);
+        if on {
+            let stored = base::bit(Settings::FCR_STORED, byte);
+            let low = base::bit(Settings::FCR_TRIGGER_LOW, byte);
+            let high = base::bit(Settings::FCR_TRIGGER_HIGH, byte);
+            return base::byte_of(true, false, false, stored, false, false, low, high);
+        }
+        0
+    }
+
+    pub fn no_divisor(self) -> bool
+        ensures { λ r. ⌜ r ≡ eqb (self .dll + 256 * self .dlm) 0 ⌝ }
+    {
+        self.dll as u16 + 256 * self.dlm as u16 == 0
+    }
+
+    pub fn cut(self, byte: u8) -> u8
+        ensures { λ r. ⌜ r ≡ cut (self .lcr) byte ⌝ }
+    {
+        let length = self.lcr % 4;
+        match length {
+            0 => byte % 32,
+            1 => byte % 64,
+            2 => byte % 128,
+            _ => byte,
+        }
+    }
+
+    fn is_beyond_word(self, byte: u8) -> bool
+        ensures { λ r. ⌜ r ≡ beyondWord (self .lcr) byte ⌝ }
+    {
+        let length = self.lcr % 4;
+        match length {
+            0 => 32 <= byte,
+            1 => 64 <= byte,
+            2 => 128 <= byte,
+            _ => false,
+        }
+    }
+
+    pub fn is_bad_arrival(self, marks: u8, byte: u8) -> bool
+        ensures { λ r. ⌜ r ≡ badArrival (self .lcr) marks byte ⌝ }
+    {
+        let beyond = self.is_beyond_word(byte);
+        let parity = base::bit(0, marks);
+        let asked = base::bit(Settings::LCR_PARITY, self.lcr);
+        let broken = base::bit(2, marks);
+        (7 < marks) | beyond | (parity & !asked) | (broken & !(byte == 0))
+    }
+}

@@ -1,0 +1,49 @@
+// The streams of events that second/TRIALS.md describes, written from that page alone, and the digest of what a bench answers
+// to them. A stream does not look at the bench.
+mod digest;
+mod draws;
+mod records;
+mod rows;
+mod scripts;
+mod steps;
+
+pub use digest::add;
+pub use digest::outcome_mark;
+pub use digest::place_mark;
+ghost use mathlib.Core.Path.{_≡_};
+
+pub struct Record {
+    pub kind: u8,
+    pub seat: u8,
+    pub number: u8,
+    pub value: u8,
+}
+
+pub struct Stream {
+    pub x: u32,
+    pub mood: u8,
+    pub seat: u8,
+    pub row: u8,
+    pub stop: u8,
+    pub left: u8,
+}
+
+pub struct Made {
+    pub stream: Stream,
+    pub record: Record,
+}
+
+impl Stream {
+    pub fn start(seed: u32) -> Self
+        ensures { λ r. ⌜ r ≡ record { x = seed; mood = 0; seat = 0; row = 0; stop = 0; left = 0 } ⌝ }
+    {
+        Stream {
+            x: seed,
+            mood: 0,
+            seat: 0,
+            row: 0,
+            stop: 0,
+            left: 0,
+        }
+    }
+}

@@ -1,0 +1,61 @@
+use Prim.Native.Nat.{_-_}
+use borrow.Author.Needs.{needs}
+use Rattle.trials.proofs.run_list.Statement.{statement}
+use Rattle.trials.proofs.run_list.Tie as tie
+
+abbrev Inv-loop : tie.InvT-loop
+Inv-loop i₀ i = Unit
+
+abbrev μ-loop : tie.MeasureT-loop
+μ-loop i₀ i = 16 - i
+
+loop-holds : tie.Need-loop-holds Inv-loop μ-loop
+loop-holds c = search needs
+
+mul-run : tie.Need-mul-run Inv-loop μ-loop
+mul-run c = search needs
+
+array-read-run : tie.Need-array-read-run Inv-loop μ-loop
+array-read-run c = search needs
+
+run-requires : tie.Need-run-requires Inv-loop μ-loop
+run-requires c κs = search needs
+
+mul-run-2 : tie.Need-mul-run-2 Inv-loop μ-loop
+mul-run-2 c = search needs
+
+array-read-run-2 : tie.Need-array-read-run-2 Inv-loop μ-loop
+array-read-run-2 c = search needs
+
+run-requires-2 : tie.Need-run-requires-2 Inv-loop μ-loop
+run-requires-2 c κs = search needs
+
+add-i : tie.Need-add-i Inv-loop μ-loop
+add-i c = search needs
+
+loop-less : tie.Need-loop-less Inv-loop μ-loop
+loop-less c = search needs
+
+loop-again : tie.Need-loop-again Inv-loop μ-loop
+loop-again c = search needs
+
+returns : tie.Need-returns Inv-loop μ-loop
+returns c = search needs
+
+pub run-list-spec : {M : Type 1} → statement M
+run-list-spec =
+    tie.close
+    (tie.spec
+    Inv-loop
+    μ-loop
+    loop-holds
+    mul-run
+    array-read-run
+    run-requires
+    mul-run-2
+    array-read-run-2
+    run-requires-2
+    add-i
+    loop-less
+    loop-again
+    returns)

@@ -1,0 +1,65 @@
+use Prim.Native.Nat.{_-_}
+use borrow.Author.Needs.{needs}
+use Rattle.trials.proofs.runs.digest.Statement.{statement}
+use Rattle.trials.proofs.runs.digest.Tie as tie
+
+abbrev Inv-loop : tie.InvT-loop
+Inv-loop seed count stream₀ bench₀ sum₀ counter₀ stream bench sum counter = Unit
+
+abbrev μ-loop : tie.MeasureT-loop
+μ-loop seed count stream₀ bench₀ sum₀ counter₀ stream bench sum counter = count - counter
+
+start-requires : tie.Need-start-requires Inv-loop μ-loop
+start-requires c κs = search needs
+
+power-up-requires : tie.Need-power-up-requires Inv-loop μ-loop
+power-up-requires c κs = search needs
+
+loop-holds : tie.Need-loop-holds Inv-loop μ-loop
+loop-holds c = search needs
+
+next-requires : tie.Need-next-requires Inv-loop μ-loop
+next-requires c κs = search needs
+
+step-requires : tie.Need-step-requires Inv-loop μ-loop
+step-requires c κs = search needs
+
+outcome-mark-requires : tie.Need-outcome-mark-requires Inv-loop μ-loop
+outcome-mark-requires c κs = search needs
+
+add-requires : tie.Need-add-requires Inv-loop μ-loop
+add-requires c κs = search needs
+
+add-places-requires : tie.Need-add-places-requires Inv-loop μ-loop
+add-places-requires c κs = search needs
+
+add-counter : tie.Need-add-counter Inv-loop μ-loop
+add-counter c = search needs
+
+loop-less : tie.Need-loop-less Inv-loop μ-loop
+loop-less c = search needs
+
+loop-again : tie.Need-loop-again Inv-loop μ-loop
+loop-again c = search needs
+
+returns : tie.Need-returns Inv-loop μ-loop
+returns c = search needs
+
+pub digest-spec : {M : Type 1} → statement M
+digest-spec =
+    tie.close
+    (tie.spec
+    Inv-loop
+    μ-loop
+    start-requires
+    power-up-requires
+    loop-holds
+    next-requires
+    step-requires
+    outcome-mark-requires
+    add-requires
+    add-places-requires
+    add-counter
+    loop-less
+    loop-again
+    returns)

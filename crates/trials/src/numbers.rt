@@ -1,0 +1,36 @@
+// The numbers that the program is given.
+
+pub(crate) enum Number {
+    Whole(u64),
+    Unread,
+}
+
+// Beyond this no further digit is taken, so that what is read fits.
+const MOST: u64 = 1_000_000_000_000_000_000;
+
+pub(crate) fn decimal(text: &[u8]) -> Number {
+    if text.len() == 0 {
+        return Number::Unread;
+    }
+    let mut n: u64 = 0;
+    for i in 0..text.len() {
+        let digit = text[i];
+        if digit < b'0' {
+            return Number::Unread;
+        }
+        if b'9' < digit {
+            return Number::Unread;
+        }
+        if MOST < n {
+            return Number::Unread;
+        }
+        n = n * 10 + (digit - b'0') as u64;
+    }
+    Number::Whole(n)
+}
+
+pub(crate) fn argument(i: usize) -> Number {
+    let mut text = [0u8; 20];
+    let n = os::arg(i, &mut text);
+    decimal(&text[..n])
+}

@@ -1,0 +1,32 @@
+// A stream over a bench from power-up, and the digest of what is seen.
+use bench::Bench;
+use streams::Stream;
+
+// "for line 8 it is refusal 1 and answer FFF": one line more than there are.
+const LINES: u8 = 9;
+
+// "For each line 0 to 8 in order, its place in turn after the event."
+fn add_places(digest: u32, bench: Bench) -> u32 {
+    let mut sum = digest;
+    for line in 0..LINES {
+        sum = streams::add(sum, streams::place_mark(bench.place(line)));
+    }
+    sum
+}
+
+pub(crate) fn digest(seed: u32, count: u64) -> u32 {
+    let mut stream = Stream::start(seed);
+    let mut bench = Bench::power_up();
+    let mut sum: u32 = 0;
+    for _ in 0..count {
+        let made = stream.next();
+        stream = made.stream;
+        let record = made.record;
+        let outcome = bench.step(record.kind, record.seat, record.number, record.value);
+        bench = outcome.bench;
+        let answer = outcome.answer;
+        sum = streams::add(sum, streams::outcome_mark(answer, outcome.output));
+        sum = add_places(sum, bench);
+    }
+    sum
+}

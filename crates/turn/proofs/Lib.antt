@@ -1,0 +1,6 @@
+pub mod Keeps
+pub mod Writes
+pub mod Rising
+pub mod InTurn
+pub mod Lift
+pub mod Closed

@@ -1,0 +1,4 @@
+pub mod Runs
+pub mod Waiting
+pub mod Demand3
+pub mod RunLaws

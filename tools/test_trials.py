@@ -1,0 +1,63 @@
+"""Tests of tools/trials, with stand-ins for the toolchain and for both programs: the first difference is found."""
+import os
+import platform
+import subprocess
+from pathlib import Path
+
+from room import Room
+
+TOOLS = Path(__file__).parent
+
+# Writes its line for a stream; from event AT on it counts one more.
+PROGRAM = """\
+#!/bin/sh
+case $1 in
+generate) i=0; while [ $i -lt $3 ]; do echo record $i; i=$((i + 1)); done ;;
+show) cat ;;
+*) [ "$1" = trials ] && shift; echo $1 $2 $(($1 * 1000 + $2 + ($2 > AT))) ;;
+esac
+"""
+
+
+class Trials(Room):
+    def setUp(self):
+        super().setUp()
+        self.script("bin/rt", '#!/bin/sh\necho rt "$@"\nexit "${FAULT:-0}"\n')
+        self.script(f"on/{platform.machine()}/toolchain/lib/ld-linux-x86-64.so.2", '#!/bin/sh\nshift 2\nexec "$@"\n')
+        self.script("second/build", f'#!/bin/sh\ncp "{self.root}/other" "$1/second"\n')
+        for name in ("trials", "find-rt"):
+            self.script(f"tools/{name}", (TOOLS / name).read_text("utf-8"))
+        self.programs(1000000, 1000000)
+
+    def programs(self, proved, second):
+        self.script("target/bin/trials", PROGRAM.replace("AT", str(proved)))
+        self.script("other", PROGRAM.replace("AT", str(second)))
+
+    def run_it(self, *words, **settings):
+        """The status, and the lines written."""
+        setting = {**os.environ, **settings, "PATH": f"{self.root / 'bin'}:{os.environ['PATH']}"}
+        setting.pop("RATTLE_HOME", None)
+        done = subprocess.run([self.root / "tools/trials", *words], env=setting, stdout=subprocess.PIPE,
+                              stderr=subprocess.STDOUT, encoding="utf-8")
+        return done.returncode, done.stdout.splitlines()
+
+    def test_agreement(self):
+        status, said = self.run_it("3-5", "200")
+        self.assertEqual((status, said), (0, ["3 200 3200", "4 200 4200", "5 200 5200", "600 events, no difference"]))
+
+    def test_first_difference_is_found_wherever_it_stands(self):
+        for at in (0, 1, 41, 99):
+            self.programs(at, 1000000)
+            status, said = self.run_it("3", "100")
+            self.assertEqual(status, 1)
+            self.assertTrue(said[0].startswith(f"The digests differ from record {at} on"))
+            self.assertEqual(said[4:-1], [f"record {i}" for i in range(max(0, at - 19), at + 1)])
+
+    def test_faults_are_no_agreement(self):
+        self.assertEqual(self.run_it("3", "100", FAULT="1")[0], 2)
+        self.script("target/bin/trials", "#!/bin/sh\nexit 0\n")
+        self.assertEqual(self.run_it("3", "100")[0], 2)
+
+    def test_words_that_are_not_understood(self):
+        for words in ((), ("3",), ("5-3", "100"), ("4294967296", "1"), ("3", "-1"), ("x", "1")):
+            self.assertEqual(self.run_it(*words)[0], 2)
