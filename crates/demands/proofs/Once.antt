@@ -15,7 +15,7 @@ both-once : {A B : Type 0} (d : A) (e : B) → Once (λ (r : A × B). (r .0 ≡ 
 both-once d e x y p q = λ i. (once d (x .0) (y .0) (p .0) (q .0) i, once e (x .1) (y .1) (p .1) (q .1) i)
 
 -- the same where more is asked of the second
-lent-once : {A B : Type 0} (d : A) (e : B) (more : B → Type 0) → Once (λ (r : A × B). (r .0 ≡ d) × (r .1 ≡ e) × more (r .1))
+lent-once : {A B : Type 0} (d : A) (e : B) (more : B → Type 0) → Once (λ (r : A × B). (r .0 ≡ d) × ((r .1 ≡ e) × more (r .1)))
 lent-once d e more x y p q = both-once d e x y (p .0, p .1 .0) (q .0, q .1 .0)
 
 pub base-once : BaseOnce
