@@ -159,6 +159,6 @@ listing-once =
     record {
       listing·put-line = λ n place answer output d x y p q i. ((p .bytes ∙ sym (q .bytes)) i, (p .next ∙ sym (q .next)) i);
       listing·run = λ bench n input last d x y p q.
-        let same = runs-one bench n input last d (x .1) (y .1) (x .0) (y .0) p q in
-        λ i. (same .0 i, same .1 i);
+          let same = runs-one bench n input last d (x .1) (y .1) (x .0) (y .0) p q in
+          λ i. (same .0 i, same .1 i);
     }
