@@ -1,12 +1,15 @@
 -- Demand 2 holds.
-use mathlib.Core.List.{List, [], _∷_}
+use Prim.Native.Nat.{ℕ, suc}
+use mathlib.Core.List.{List, [], _∷_, _++_}
 use mathlib.Core.Path.{_≡_, refl, ap, ap₂, _∙_}
 use Rattle.bench.specs.declared.Bench.{Bench}
 use Rattle.bench.specs.declared.Outcome.{Outcome}
 use Rattle.bench.specs.Events.{Record}
 use Rattle.bench.specs.Runs.{afterAll, outcomes}
 use Rattle.bench.specs.Steps.{outcome}
-use Rattle.demands.specs.Demand2.{Step, Meets, run, ends, Demand2}
+use Rattle.listing.specs.Line.{line}
+use Rattle.listing.specs.Run.{listing}
+use Rattle.demands.specs.Demand2.{Step, Meets, run, ends, lists, Demand2, Demand2Listed}
 
 module _ (f : Step) (meets : Meets f) where
   runs : (b : Bench) (rs : List Record) → run f b rs ≡ outcomes b rs
@@ -20,3 +23,10 @@ module _ (f : Step) (meets : Meets f) where
 
 pub demand-2 : Demand2
 demand-2 f meets b rs = (runs f meets b rs, ended f meets b rs)
+
+pub demand-2-listed : Demand2Listed
+unfolding listing
+demand-2-listed f meets b n [] = refl
+demand-2-listed f meets b n (r ∷ rs) =
+    ap (λ (o : Outcome). line n (o .answer) (o .output) ++ lists f (o .bench) (suc n) rs) (meets b r)
+    ∙ ap (λ (l : List ℕ). line n (outcome b r .answer) (outcome b r .output) ++ l) (demand-2-listed f meets (outcome b r .bench) (suc n) rs)

@@ -1,6 +1,7 @@
 -- No second outcome: the one law, and each public call by it.
 use mathlib.Core.Path.{_≡_, sym, _∙_}
-use Rattle.demands.specs.Once.{Once, BaseOnce, QueueOnce, ReceiverOnce, TransmitterOnce, ChannelOnce, RankOnce, ControllerOnce, BenchOnce, EmbedOnce, RatesOnce, RegistersOnce, StreamsOnce}
+use Rattle.listing.specs.PartLaws.{runs-one}
+use Rattle.demands.specs.Once.{Once, BaseOnce, QueueOnce, ReceiverOnce, TransmitterOnce, ChannelOnce, RankOnce, ControllerOnce, BenchOnce, EmbedOnce, RatesOnce, RegistersOnce, StreamsOnce, ListingOnce}
 
 -- what equals one value is one
 once : {A : Type 0} (d : A) → Once (λ (r : A). r ≡ d)
@@ -166,4 +167,13 @@ streams-once =
       streams·add = λ digest v. once _;
       streams·outcome-mark = λ answer output. once _;
       streams·place-mark = λ place. once _;
+    }
+
+pub listing-once : ListingOnce
+listing-once =
+    record {
+      listing·put-line = λ n place answer output d x y p q i. ((p .bytes ∙ sym (q .bytes)) i, (p .next ∙ sym (q .next)) i);
+      listing·run = λ bench n input last d x y p q.
+          let same = runs-one bench n input last d (x .1) (y .1) (x .0) (y .0) p q in
+          λ i. (same .0 i, same .1 i);
     }

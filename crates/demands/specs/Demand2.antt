@@ -1,11 +1,14 @@
 -- Demand 2: whatever meets the step's contract gives, for every run, the answers, benches and outputs of the definitions.
-use mathlib.Core.List.{List, [], _∷_}
+use Prim.Native.Nat.{ℕ, suc}
+use mathlib.Core.List.{List, [], _∷_, _++_}
 use mathlib.Core.Path.{_≡_}
 use Rattle.bench.specs.declared.Bench.{Bench}
 use Rattle.bench.specs.declared.Outcome.{Outcome}
 use Rattle.bench.specs.Events.{Record}
 use Rattle.bench.specs.Runs.{afterAll, outcomes}
 use Rattle.bench.specs.Steps.{outcome}
+use Rattle.listing.specs.Line.{line}
+use Rattle.listing.specs.Run.{listing}
 
 -- a program's step: what it makes of a bench and a record
 abbrev pub Step : Type 0
@@ -29,3 +32,12 @@ ends f b (r ∷ rs) = ends f (f b r .bench) rs
 -- the first event and then pretends does not meet it
 abbrev pub Demand2 : Type 0
 Demand2 = (f : Step) → Meets f → (b : Bench) (rs : List Record) → (run f b rs ≡ outcomes b rs) × (ends f b rs ≡ afterAll b rs)
+
+-- the lines that such a step gives, of which the first has number n
+abbrev pub lists : Step → Bench → ℕ → List Record → List ℕ
+lists f b n [] = []
+lists f b n (r ∷ rs) = line n (f b r .answer) (f b r .output) ++ lists f (f b r .bench) (suc n) rs
+
+-- and its listing is the definition's, for every length
+abbrev pub Demand2Listed : Type 0
+Demand2Listed = (f : Step) → Meets f → (b : Bench) (n : ℕ) (rs : List Record) → lists f b n rs ≡ listing b n rs

@@ -1,7 +1,7 @@
 -- No second outcome: two results that meet the contract of a call are equal, for every public call. Each line has the contract's own words.
 use Prim.Native.Nat.{ℕ, _+_, _*_, _%_, _≤_}
 use mathlib.Core.Bool.{Bool, false}
-use mathlib.Core.List.{[], _∷_}
+use mathlib.Core.List.{List, [], _∷_}
 use mathlib.Core.Path.{_≡_}
 use Rattle.base.specs.declared.Answer.{Answer}
 use Rattle.base.specs.Answers.{refusalOf, valueOf}
@@ -41,6 +41,9 @@ use Rattle.bench.specs.Seats as bench
 use Rattle.rates.specs.Rates.{divisorOf}
 use Rattle.embed.specs.Word.{Tells, Told}
 use Rattle.embed.specs.Bytes.{benchBytes}
+use Rattle.listing.specs.declared.Ran.{Ran}
+use Rattle.listing.specs.Line.{Puts}
+use Rattle.listing.specs.Run.{Runs}
 
 -- "Show that no second outcome satisfies it"
 abbrev pub Once : {A : Type 0} → (A → Type 0) → Type 0
@@ -187,3 +190,9 @@ pub record StreamsOnce : Type 0 where
   pub streams·add : (digest v : ℕ) → Once (λ r. r ≡ (digest * 1000003 + v + 1) % 2147483647)
   pub streams·outcome-mark : (answer : Answer) (output : Bool) → Once (λ r. r ≡ refusalOf answer * 8192 + valueOf answer * 2 + digit output)
   pub streams·place-mark : (place : Answer) → Once (λ r. r ≡ refusalOf place * 4096 + valueOf place)
+
+-- ---- listing: a line and a run, each with the buffer that is lent back
+
+pub record ListingOnce : Type 0 where
+  pub listing·put-line : (n place : ℕ) (answer : Answer) (output : Bool) (d : List ℕ) → Once (λ (r : List ℕ × ℕ). Puts n answer output d (r .0) place (r .1))
+  pub listing·run : (bench : Bench) (n : ℕ) (input : List ℕ) (last : Bool) (d : List ℕ) → Once (λ (r : Ran × List ℕ). Runs bench n input last d (r .1) (r .0))
