@@ -8,15 +8,17 @@ use borrow.Author.Tests.{lt-ltb, le-ltb}
 use Rattle.base.specs.Pick.{pick}
 use Rattle.base.specs.PickLaws.{pick-true, pick-false, and-false}
 use Rattle.base.specs.Refusals.{firstHeld}
+use Rattle.base.specs.Answers.{valueOf}
 use Rattle.channel.specs.declared.SeatEvent.{SeatEvent}
 use Rattle.channel.specs.Steps as channel
 use Rattle.controller.specs.Turns.{settled}
 use Rattle.bench.specs.declared.Bench.{Bench}
+use Rattle.bench.specs.declared.Outcome.{Outcome}
 use Rattle.bench.specs.declared.Event.the-variants.{OfSeat, MasterReset}
 use Rattle.bench.specs.Events.{Record, whole, short, early, event, eventOf}
 use Rattle.bench.specs.Refusals.{refusal, grounds}
 use Rattle.bench.specs.Seats.{seat}
-use Rattle.bench.specs.Steps.{roomRefusal, after}
+use Rattle.bench.specs.Steps.{roomRefusal, after, answerTo, outcome}
 use Rattle.bench.specs.MeetLaws.{refused-early, refused-late}
 
 module _ (b : Bench) where
@@ -58,3 +60,8 @@ module _ (b : Bench) where
   pub reset-leaves : (after b MasterReset .controller .setup ≡ b .controller .setup) × (after b MasterReset .controller .operation ≡ b .controller .operation)
   unfolding after settled
   reset-leaves = (refl, refl)
+
+  -- "master reset of all eight seats": "000", whatever the other bytes
+  pub reset-answered : (s n v : ℕ) → valueOf (outcome b (whole 5 s n v) .answer) ≡ 0x000
+  unfolding outcome answerTo valueOf eventOf pick
+  reset-answered s n v = ap (λ (o : Outcome). valueOf (o .answer)) (pick-true _ _ _ (ap (λ (x : ℕ). eqb x 0) (reset-taken s n v)))

@@ -21,13 +21,11 @@ fn touch_seat(seat: Seat, controller: Controller, n: u8, e: SeatEvent) -> Touche
     ensures { λ r. ⌜ r ≡ touched seat controller n e ⌝ }
 {
     let held = seat.channel;
-    let stepped = channel::lent(held, e);
+    let stepped = lending::lent(held, e);
     let answer = stepped.answer;
-    let refused = answer.refusal();
-    if refused == 0 {
+    if answer.refusal() == 0 {
         let next = stepped.channel;
-        let high = next.line();
-        let levels = seats::with_line(controller.lines.levels, n, high);
+        let levels = seats::with_line(controller.lines.levels, n, next.line());
         let settled = controller.settle(levels);
         return Touched {
             seat: Seat { channel: next },
@@ -46,8 +44,7 @@ impl Bench {
     fn show(self, answer: Answer) -> Outcome
         ensures { λ r. ⌜ r ≡ shown self answer ⌝ }
     {
-        let controller = self.controller;
-        let output = controller.output();
+        let output = self.controller.output();
         Outcome {
             bench: self,
             answer,
@@ -58,12 +55,9 @@ impl Bench {
     fn meet_seat(mut self, n: u8, e: SeatEvent) -> Outcome
         ensures { λ r. ⌜ r ≡ met self (OfSeat n e) ⌝ }
     {
-        let seat = self.seat(n);
-        let controller = self.controller;
-        let touched = touch_seat(seat, controller, n, e);
+        let touched = touch_seat(self.seat(n), self.controller, n, e);
+        self = self.with_seat(n, touched.seat);
         let moved = touched.controller;
-        let next = touched.seat;
-        self = self.with_seat(n, next);
         self.controller = moved;
         let answer = touched.answer;
         self.show(answer)
@@ -74,27 +68,21 @@ impl Bench {
     {
         let before = self.seats;
         let fresh = seats::reset_all(before);
-        let levels = seats::lines(fresh);
-        let controller = self.controller;
-        let settled = controller.settle(levels);
         self.seats = fresh;
-        self.controller = settled;
+        self.controller = self.controller.settle(0);
         self.show(Answer::Done)
     }
 
     fn meet_read(self, port: u8) -> Outcome
         ensures { λ r. ⌜ r ≡ met self (ReadController port) ⌝ }
     {
-        let controller = self.controller;
-        let answer = controller.read(port);
-        self.show(answer)
+        self.show(self.controller.read(port))
     }
 
     fn meet_write(mut self, port: u8, byte: u8) -> Outcome
         ensures { λ r. ⌜ r ≡ met self (WriteController port byte) ⌝ }
     {
-        let controller = self.controller;
-        let stepped = controller.write(port, byte);
+        let stepped = self.controller.write(port, byte);
         let next = stepped.controller;
         self.controller = next;
         let answer = stepped.answer;
@@ -104,8 +92,7 @@ impl Bench {
     fn meet_acknowledge(mut self) -> Outcome
         ensures { λ r. ⌜ r ≡ met self Acknowledge ⌝ }
     {
-        let controller = self.controller;
-        let stepped = controller.acknowledge();
+        let stepped = self.controller.acknowledge();
         let next = stepped.controller;
         self.controller = next;
         let answer = stepped.answer;
@@ -144,14 +131,12 @@ impl Bench {
     pub fn place(self, line: u8) -> Answer
         ensures { λ r. ⌜ r ≡ placed (self .controller) line ⌝ }
     {
-        let controller = self.controller;
-        controller.place(line)
+        self.controller.place(line)
     }
 
     pub fn output(self) -> bool
         ensures { λ r. ⌜ r ≡ outputOf (self .controller) ⌝ }
     {
-        let controller = self.controller;
-        controller.output()
+        self.controller.output()
     }
 }

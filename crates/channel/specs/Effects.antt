@@ -1,10 +1,9 @@
 -- What an accepted event does to a channel, and what it is answered with.
 use Prim.Native.Nat.{ℕ}
 use mathlib.Core.Bool.{Bool, true, false, not, _&&_, _||_}
-use mathlib.Core.List.{[], _∷_}
 use lib.Dec.{eqb}
 use Rattle.base.specs.Pick.{pick}
-use Rattle.base.specs.Bits.{bit, bits}
+use Rattle.base.specs.Bits.{bit}
 use Rattle.base.specs.declared.Answer.{Answer}
 use Rattle.base.specs.declared.Answer.the-variants.{Byte, Done, Sent, Idle, Break}
 use Rattle.queue.specs.declared.Character.{Character}
@@ -17,7 +16,8 @@ use Rattle.registers.specs.declared.Register.{Register}
 use Rattle.registers.specs.declared.Register.the-variants.{RbrThr, Ier, IirFcr, Lcr, Mcr, Lsr, Msr, Scratch, Dll, Dlm}
 use Rattle.channel.specs.Parts.{withSettings, withReceiver, withTransmitter, withModem, fifo}
 use Rattle.registers.specs.Words.{cut}
-use Rattle.registers.specs.Registers.{ierKept, mcrKept, fcrKept, withIer, withFcr, withLcr, withMcr, withScratch, withDll, withDlm}
+use Rattle.registers.specs.Registers.{kept}
+use Rattle.registers.specs.Modem.{differ, changesAfter}
 use Rattle.channel.specs.Status.{lsr, msr, inputs, cause, iir}
 
 -- ---- reads
@@ -66,7 +66,7 @@ afterRead c Dlm = c
 unfoldable pub ierWritten : Channel → ℕ → Channel
 ierWritten c byte =
     record {
-      settings = withIer (c .settings) (ierKept byte);
+      settings = kept (c .settings) Ier byte;
       receiver = c .receiver;
       transmitter = pick (not (bit 1 (c .settings .ier)) && bit 1 byte) (enabled (c .transmitter)) (c .transmitter);
       modem = c .modem;
@@ -74,7 +74,7 @@ ierWritten c byte =
 
 -- "A changed bit 0 empties both"
 unfoldable pub modeChanged : Channel → ℕ → Bool
-modeChanged c byte = (fifo c && not (bit 0 byte)) || (not (fifo c) && bit 0 byte)
+modeChanged c byte = differ (fifo c) (bit 0 byte)
 
 -- "Bit 0 set": "bit 1 empties the receive queue"; "A changed bit 0 empties both and clears kept marks."
 unfoldable pub fcrReceiver : Channel → ℕ → Receiver
@@ -90,7 +90,7 @@ fcrTransmitter c byte = pick (modeChanged c byte || (bit 0 byte && bit 2 byte)) 
 unfoldable pub fcrWritten : Channel → ℕ → Channel
 fcrWritten c byte =
     record {
-      settings = withFcr (c .settings) (fcrKept byte);
+      settings = kept (c .settings) IirFcr byte;
       receiver = fcrReceiver c byte;
       transmitter = fcrTransmitter c byte;
       modem = c .modem;
@@ -101,34 +101,19 @@ unfoldable pub afterWrite : Channel → Register → ℕ → Channel
 afterWrite c RbrThr byte = withTransmitter c (written (fifo c) (c .transmitter) byte)
 afterWrite c Ier byte = ierWritten c byte
 afterWrite c IirFcr byte = fcrWritten c byte
-afterWrite c Lcr byte = withSettings c (withLcr (c .settings) byte)
-afterWrite c Mcr byte = withSettings c (withMcr (c .settings) (mcrKept byte))
+afterWrite c Lcr byte = withSettings c (kept (c .settings) Lcr byte)
+afterWrite c Mcr byte = withSettings c (kept (c .settings) Mcr byte)
 afterWrite c Lsr byte = c
 afterWrite c Msr byte = c
-afterWrite c Scratch byte = withSettings c (withScratch (c .settings) byte)
-afterWrite c Dll byte = withSettings c (withDll (c .settings) byte)
-afterWrite c Dlm byte = withSettings c (withDlm (c .settings) byte)
+afterWrite c Scratch byte = withSettings c (kept (c .settings) Scratch byte)
+afterWrite c Dll byte = withSettings c (kept (c .settings) Dll byte)
+afterWrite c Dlm byte = withSettings c (kept (c .settings) Dlm byte)
 
 -- ---- the wire
 
 -- "character arrives"
 unfoldable pub afterArrival : Channel → ℕ → ℕ → Channel
 afterArrival c marks byte = withReceiver c (received (fifo c) (c .receiver) (record { «data» = byte; marks = marks }))
-
--- one of the two is set
-abbrev pub differ : Bool → Bool → Bool
-differ a b = (a && not b) || (not a && b)
-
--- "bits 0, 1, 3 set when CTS, DSR, DCD change; bit 2 when RI goes from active to inactive": the changes that stand, with those from the
--- inputs before to the inputs after
-unfoldable pub changesAfter : ℕ → ℕ → ℕ → ℕ
-changesAfter changes before after =
-    bits
-    ((bit 0 changes || differ (bit 0 before) (bit 0 after))
-    ∷ (bit 1 changes || differ (bit 1 before) (bit 1 after))
-    ∷ (bit 2 changes || (bit 2 before && not (bit 2 after)))
-    ∷ (bit 3 changes || differ (bit 3 before) (bit 3 after))
-    ∷ [])
 
 -- "modem inputs": "levels (1 CTS, 2 DSR, 4 RI, 8 DCD; set = active)"
 unfoldable pub afterLevels : Channel → ℕ → Channel

@@ -7,7 +7,6 @@ pub mod StatusLaws
 pub mod StepLaws
 pub mod CauseLaws
 pub mod IirLaws
-pub mod ChangeLaws
 pub mod ModeLaws
 pub mod Moments
 pub mod MomentLaws

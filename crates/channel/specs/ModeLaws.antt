@@ -21,7 +21,7 @@ use Rattle.channel.specs.Parts.{fifo}
 use Rattle.registers.specs.Words.{trigger}
 use Rattle.registers.specs.Registers.{fcrKept}
 use Rattle.channel.specs.Effects.{ierWritten, modeChanged, fcrReceiver, fcrTransmitter, fcrWritten}
-use Rattle.channel.specs.ChangeLaws.{differ-xor}
+use Rattle.registers.specs.ModemLaws.{differ-xor}
 
 -- ---- what the FCR keeps
 

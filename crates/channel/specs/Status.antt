@@ -10,6 +10,7 @@ use Rattle.transmitter.specs.Transmitter.{noneWaiting, allSent}
 use Rattle.channel.specs.declared.Channel.{Channel}
 use Rattle.channel.specs.Parts.{fifo}
 use Rattle.registers.specs.Words.{trigger}
+use Rattle.registers.specs.Modem.{msrOf}
 
 -- "LSR: 0 queue not empty; 1 overrun; 2, 3, 4 parity, framing, break; 5 transmit queue empty; 6 that and the shift register empty; 7 in FIFO
 -- mode some queued character has a mark, else 0."
@@ -30,19 +31,9 @@ lsr c =
 abbrev pub inputs : Channel → ℕ
 inputs c = c .modem .levels
 
--- "MSR: bits 4-7 CTS, DSR, RI, DCD"; bits 0-3 are the changes that stand
+-- the MSR of those inputs, and of the changes that stand
 unfoldable pub msr : Channel → ℕ
-msr c =
-    bits
-    (bit 0 (c .modem .changes)
-    ∷ bit 1 (c .modem .changes)
-    ∷ bit 2 (c .modem .changes)
-    ∷ bit 3 (c .modem .changes)
-    ∷ bit 0 (inputs c)
-    ∷ bit 1 (inputs c)
-    ∷ bit 2 (inputs c)
-    ∷ bit 3 (inputs c)
-    ∷ [])
+msr c = msrOf (c .modem .changes) (inputs c)
 
 -- a cause of an interrupt: its code, whether IER enables it, and whether it stands
 pub record Cause : Type 0 where

@@ -15,16 +15,8 @@ use Rattle.receiver.specs.Receiver.{noneQueued, shownMarks, someMarked}
 use Rattle.transmitter.specs.Transmitter.{noneWaiting, allSent}
 use Rattle.channel.specs.declared.Channel.{Channel}
 use Rattle.channel.specs.Parts.{fifo}
+use Rattle.registers.specs.ModemLaws.{shows-changes, shows-inputs, msr-small}
 use Rattle.channel.specs.Status.{lsr, msr, causes, firstCause, cause, iir}
-
--- what holds at each number below four holds at every one
-pub below-four : (P : ℕ → Type 0) → P 0 → P 1 → P 2 → P 3 → (k : ℕ) → k < 4 → P k
-below-four P a b c d zero less = a
-below-four P a b c d (suc zero) less = b
-below-four P a b c d (suc (suc zero)) less = c
-below-four P a b c d (suc (suc (suc zero))) less = d
-below-four P a b c d (suc (suc (suc (suc k)))) less =
-    absurd (not-suc-le-zero (le-of-suc-le-suc (le-of-suc-le-suc (le-of-suc-le-suc (le-of-suc-le-suc less)))))
 
 module _ (c : Channel) where
   -- 0: the receive queue is not empty
@@ -78,17 +70,17 @@ module _ (c : Channel) where
   -- MSR bits 0 to 3 are the changes that stand
   pub msr-changes : (k : ℕ) → k < 4 → bit k (msr c) ≡ bit k (c .modem .changes)
   unfolding msr
-  msr-changes = below-four (λ k. bit k (msr c) ≡ bit k (c .modem .changes)) (bit-bits 0 _) (bit-bits 1 _) (bit-bits 2 _) (bit-bits 3 _)
+  msr-changes = shows-changes (c .modem .changes) (c .modem .levels)
 
   -- MSR bits 4 to 7 are the levels, CTS, DSR, RI and DCD
   pub msr-levels : (k : ℕ) → k < 4 → bit (4 + k) (msr c) ≡ bit k (c .modem .levels)
   unfolding msr
-  msr-levels = below-four (λ k. bit (4 + k) (msr c) ≡ bit k (c .modem .levels)) (bit-bits 4 _) (bit-bits 5 _) (bit-bits 6 _) (bit-bits 7 _)
+  msr-levels = shows-inputs (c .modem .changes) (c .modem .levels)
 
   -- and there are no more
   pub msr-byte : msr c < 0x100
   unfolding msr
-  msr-byte = bits-small _
+  msr-byte = msr-small (c .modem .changes) (c .modem .levels)
 
 -- no code is above 0C
 pub cause-small : (c : Channel) → cause c ≤ 12

@@ -73,11 +73,8 @@ impl Channel {
         self.settings.fcr = 0;
         self.settings.lcr = 0;
         self.settings.mcr = 0;
-        let heard = self.receiver;
-        let quiet = heard.restart();
-        self.receiver = quiet;
-        let still = Transmitter::power_up();
-        self.transmitter = still;
+        self.receiver = self.receiver.restart();
+        self.transmitter = Transmitter::power_up();
         self.modem.changes = 0;
         self
     }
@@ -93,21 +90,4 @@ impl Channel {
             SeatEvent::Time => self.character_time(),
         }
     }
-}
-
-// "Each call touches the one seat it names": the channel of that seat is lent, and what the by-value step makes of it is stored where it lies.
-pub fn touch(c: &mut Channel, e: SeatEvent) -> Answer
-    ensures { λ r. ⌜ (now (c .exit) ≡ stepped (now (c .entry)) e .channel) × (r ≡ stepped (now (c .entry)) e .answer) ⌝ }
-{
-    let s = (*c).step(e);
-    *c = s.channel;
-    s.answer
-}
-
-// The lender: a channel by value, lent to `touch` for the call, so that callers deal in values alone.
-pub fn lent(mut c: Channel, e: SeatEvent) -> Stepped
-    ensures { λ r. ⌜ r ≡ stepped c e ⌝ }
-{
-    let answer = touch(&mut c, e);
-    Stepped { channel: c, answer }
 }

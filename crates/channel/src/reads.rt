@@ -13,23 +13,15 @@ impl Channel {
     fn read_iir(mut self) -> Self
         ensures { λ r. ⌜ r ≡ iirRead self ⌝ }
     {
-        let named = self.cause();
-        if named == Channel::HOLDING_EMPTY {
-            let sending = self.transmitter;
-            let told = sending.clear_flag();
-            self.transmitter = told;
-            return self;
-        }
+        let named = self.cause() == Channel::HOLDING_EMPTY;
+        self.transmitter = self.transmitter.tell(named);
         self
     }
 
     fn read_lsr(mut self) -> Self
         ensures { λ r. ⌜ r ≡ lsrRead self ⌝ }
     {
-        let fifo = self.is_fifo();
-        let heard = self.receiver;
-        let shown = heard.look(fifo);
-        self.receiver = shown;
+        self.receiver = self.receiver.look(self.settings.is_fifo());
         self
     }
 
@@ -43,8 +35,7 @@ impl Channel {
     fn read_rbr(mut self) -> Self
         ensures { λ r. ⌜ r ≡ afterRead self RbrThr ⌝ }
     {
-        let heard = self.receiver;
-        let got = heard.get();
+        let got = self.receiver.get();
         let rest = got.receiver;
         self.receiver = rest;
         self
@@ -53,8 +44,7 @@ impl Channel {
     fn oldest_byte(self) -> u8
         ensures { λ r. ⌜ r ≡ byteAt self RbrThr ⌝ }
     {
-        let heard = self.receiver;
-        let got = heard.get();
+        let got = self.receiver.get();
         got.byte
     }
 
@@ -83,12 +73,7 @@ impl Channel {
             Register::IirFcr => self.read_iir(),
             Register::Lsr => self.read_lsr(),
             Register::Msr => self.read_msr(),
-            Register::Ier => self,
-            Register::Lcr => self,
-            Register::Mcr => self,
-            Register::Scratch => self,
-            Register::Dll => self,
-            Register::Dlm => self,
+            _ => self,
         }
     }
 
@@ -97,8 +82,7 @@ impl Channel {
     {
         let refused = self.refuse_read(number);
         if refused == 0 {
-            let settings = self.settings;
-            let register = settings.register(number);
+            let register = self.settings.register(number);
             let byte = self.byte_at(register);
             self = self.after_read(register);
             return Stepped {

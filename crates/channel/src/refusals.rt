@@ -28,11 +28,10 @@ impl Channel {
     pub(crate) fn refuse_write(self, number: u8, byte: u8) -> u8
         ensures { λ r. ⌜ r ≡ refusal self (Write number byte) ⌝ }
     {
-        let looped = base::bit(Settings::MCR_LOOP, byte);
         if 7 < number {
             return Channel::REGISTER_ABOVE;
         }
-        if (number == Settings::MCR) & looped {
+        if (number == Settings::MCR) & base::bit(Settings::MCR_LOOP, byte) {
             return Channel::NOT_SERVED;
         }
         0
@@ -41,13 +40,10 @@ impl Channel {
     pub(crate) fn refuse_arrival(self, marks: u8, byte: u8) -> u8
         ensures { λ r. ⌜ r ≡ refusal self (Arrival marks byte) ⌝ }
     {
-        let settings = self.settings;
-        let stopped = settings.no_divisor();
-        let bad = settings.is_bad_arrival(marks, byte);
-        if stopped {
+        if self.settings.no_divisor() {
             return Channel::NO_DIVISOR;
         }
-        if bad {
+        if self.settings.is_bad_arrival(marks, byte) {
             return Channel::BAD_ARRIVAL;
         }
         0
@@ -65,9 +61,7 @@ impl Channel {
     pub(crate) fn refuse_time(self) -> u8
         ensures { λ r. ⌜ r ≡ refusal self Time ⌝ }
     {
-        let settings = self.settings;
-        let stopped = settings.no_divisor();
-        if stopped {
+        if self.settings.no_divisor() {
             return Channel::NO_DIVISOR;
         }
         0

@@ -2,6 +2,8 @@
 use crate::Channel;
 use registers::Settings;
 ghost use mathlib.Core.Path.{_≡_};
+ghost use Rattle.receiver.specs.Receiver.{dataStands};
+ghost use Rattle.registers.specs.Words.{trigger};
 ghost use Rattle.channel.specs.Parts.{fifo};
 ghost use Rattle.channel.specs.Status.{lsr, msr, lineTrouble, modemChanged, cause, iir, line};
 
@@ -20,114 +22,68 @@ impl Channel {
 
     pub const FIFO_MARK: u8 = 0xC0;
 
-    pub(crate) fn is_fifo(self) -> bool
-        ensures { λ r. ⌜ r ≡ fifo self ⌝ }
-    {
-        let settings = self.settings;
-        settings.is_fifo()
-    }
-
     pub(crate) fn line_status(self) -> u8
         ensures { λ r. ⌜ r ≡ lsr self ⌝ }
     {
-        let fifo = self.is_fifo();
-        let heard = self.receiver;
-        let sending = self.transmitter;
-        let none = heard.is_empty();
-        let marks = heard.marks(fifo);
-        let parity = base::bit(0, marks);
-        let framing = base::bit(1, marks);
-        let broken = base::bit(2, marks);
-        let empty = sending.is_empty();
-        let idle = sending.is_idle();
-        let marked = heard.any_marked(fifo);
+        let fifo = self.settings.is_fifo();
+        let marks = self.receiver.marks(fifo);
         base::byte_of(
-            !none,
-            heard.overrun,
-            parity,
-            framing,
-            broken,
-            empty,
-            idle,
-            marked,
+            !self.receiver.is_empty(),
+            self.receiver.overrun,
+            base::bit(0, marks),
+            base::bit(1, marks),
+            base::bit(2, marks),
+            self.transmitter.is_empty(),
+            self.transmitter.is_idle(),
+            self.receiver.any_marked(fifo),
         )
     }
 
     pub(crate) fn modem_status(self) -> u8
         ensures { λ r. ⌜ r ≡ msr self ⌝ }
     {
-        let changes = self.modem.changes;
-        let levels = self.modem.levels;
-        let cts_changed = base::bit(0, changes);
-        let dsr_changed = base::bit(1, changes);
-        let ri_ended = base::bit(2, changes);
-        let dcd_changed = base::bit(3, changes);
-        let cts = base::bit(0, levels);
-        let dsr = base::bit(1, levels);
-        let ri = base::bit(2, levels);
-        let dcd = base::bit(3, levels);
-        base::byte_of(
-            cts_changed,
-            dsr_changed,
-            ri_ended,
-            dcd_changed,
-            cts,
-            dsr,
-            ri,
-            dcd,
-        )
+        registers::modem_status(self.modem.changes, self.modem.levels)
     }
 
     fn line_trouble(self) -> bool
         ensures { λ r. ⌜ r ≡ lineTrouble self ⌝ }
     {
         let status = self.line_status();
-        let overrun = base::bit(1, status);
-        let parity = base::bit(2, status);
-        let framing = base::bit(3, status);
-        let broken = base::bit(4, status);
-        overrun | parity | framing | broken
+        base::bit(1, status) | base::bit(2, status) | base::bit(3, status) | base::bit(4, status)
     }
 
     fn modem_changed(self) -> bool
         ensures { λ r. ⌜ r ≡ modemChanged self ⌝ }
     {
         let status = self.modem_status();
-        let cts = base::bit(0, status);
-        let dsr = base::bit(1, status);
-        let ri = base::bit(2, status);
-        let dcd = base::bit(3, status);
-        cts | dsr | ri | dcd
+        base::bit(0, status) | base::bit(1, status) | base::bit(2, status) | base::bit(3, status)
+    }
+
+    fn data_stands(self) -> bool
+        ensures { λ r. ⌜ r ≡ dataStands (fifo self) (trigger (self .settings .fcr)) (self .receiver) ⌝ }
+    {
+        self.receiver
+            .data(self.settings.is_fifo(), self.settings.trigger())
     }
 
     pub(crate) fn cause(self) -> u8
         ensures { λ r. ⌜ r ≡ cause self ⌝ }
     {
-        let settings = self.settings;
-        let heard = self.receiver;
-        let fifo = self.is_fifo();
-        let trigger = settings.trigger();
-        let line = base::bit(Settings::IER_LINE, settings.ier);
-        let data = base::bit(Settings::IER_DATA, settings.ier);
-        let holding = base::bit(Settings::IER_HOLDING, settings.ier);
-        let modem = base::bit(Settings::IER_MODEM, settings.ier);
-        let trouble = self.line_trouble();
-        let ready = heard.data(fifo, trigger);
-        let late = heard.timed_out();
-        let changed = self.modem_changed();
-        if line & trouble {
+        if base::bit(Settings::IER_LINE, self.settings.ier) & self.line_trouble() {
             return Channel::LINE_TROUBLE;
         }
-        if data & ready {
+        let data = base::bit(Settings::IER_DATA, self.settings.ier);
+        let late = self.receiver.timed_out();
+        if data & self.data_stands() {
             return Channel::DATA;
         }
         if data & late {
             return Channel::TIME_OUT;
         }
-        if holding & self.transmitter.flag {
+        if base::bit(Settings::IER_HOLDING, self.settings.ier) & self.transmitter.flag {
             return Channel::HOLDING_EMPTY;
         }
-        if modem & changed {
+        if base::bit(Settings::IER_MODEM, self.settings.ier) & self.modem_changed() {
             return Channel::MODEM;
         }
         Channel::NO_CAUSE
@@ -136,16 +92,12 @@ impl Channel {
     pub(crate) fn identify(self) -> u8
         ensures { λ r. ⌜ r ≡ iir self ⌝ }
     {
-        let named = self.cause();
-        let fifo = self.is_fifo();
-        named + base::pick_byte(fifo, Channel::FIFO_MARK, 0)
+        self.cause() + base::pick_byte(self.settings.is_fifo(), Channel::FIFO_MARK, 0)
     }
 
     pub fn line(self) -> bool
         ensures { λ r. ⌜ r ≡ line self ⌝ }
     {
-        let named = self.cause();
-        let wired = base::bit(Settings::MCR_LINE, self.settings.mcr);
-        !(named == Channel::NO_CAUSE) & wired
+        !(self.cause() == Channel::NO_CAUSE) & base::bit(Settings::MCR_LINE, self.settings.mcr)
     }
 }

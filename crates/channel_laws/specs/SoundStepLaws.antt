@@ -31,7 +31,7 @@ use Rattle.channel.specs.Effects.{iirRead, lsrRead, msrRead, afterRead, ierWrit
 use Rattle.channel.specs.Steps.{effect, stepped}
 use Rattle.channel.specs.Sound.{soundChannel}
 use Rattle.channel.specs.CauseLaws.{late-at-four}
-use Rattle.channel.specs.ChangeLaws.{differ-xor, changes-small}
+use Rattle.registers.specs.ModemLaws.{differ-xor, changes-small}
 use Rattle.channel.specs.ModeLaws.{fcr-off, mode-after}
 use Rattle.channel_laws.specs.RefusalLaws.{accepts, done, refused}
 use Rattle.channel_laws.specs.SoundLaws.{Sound, parts, whole, with-receiver, with-transmitter, with-modem, with-settings}

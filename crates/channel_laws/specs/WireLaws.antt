@@ -12,7 +12,8 @@ use Rattle.channel.specs.declared.SeatEvent.the-variants.{Levels, Time}
 use Rattle.channel.specs.Parts.{withSettings, withModem, divisor}
 use Rattle.registers.specs.Words.{cut}
 use Rattle.registers.specs.Registers.{withLcr}
-use Rattle.channel.specs.Effects.{changesAfter, afterLevels, afterTime, timeAnswer}
+use Rattle.registers.specs.Modem.{changesAfter}
+use Rattle.channel.specs.Effects.{afterLevels, afterTime, timeAnswer}
 use Rattle.channel.specs.Steps.{effect, stepped}
 use Rattle.channel_laws.specs.RefusalLaws.{done}
 

@@ -1,7 +1,7 @@
 -- No second outcome: the one law, and each public call by it.
 use mathlib.Core.Path.{_≡_, sym, _∙_}
 use Rattle.listing.specs.PartLaws.{runs-one}
-use Rattle.demands.specs.Once.{Once, BaseOnce, QueueOnce, ReceiverOnce, TransmitterOnce, ChannelOnce, RankOnce, ControllerOnce, BenchOnce, EmbedOnce, RatesOnce, RegistersOnce, StreamsOnce, ListingOnce}
+use Rattle.demands.specs.Once.{Once, BaseOnce, QueueOnce, ReceiverOnce, TransmitterOnce, ChannelOnce, LendingOnce, RankOnce, ControllerOnce, BenchOnce, EmbedOnce, RatesOnce, RegistersOnce, StreamsOnce, ListingOnce}
 
 -- what equals one value is one
 once : {A : Type 0} (d : A) → Once (λ (r : A). r ≡ d)
@@ -58,8 +58,7 @@ receiver-once =
       receiver·Receiver·any-marked = λ self fifo. once _;
       receiver·Receiver·look = λ self fifo. once _;
       receiver·Receiver·wait = λ self fifo. once _;
-      receiver·Receiver·clear = λ self. once _;
-      receiver·Receiver·turn = λ self. once _;
+      receiver·Receiver·command = λ self changed asked. once _;
       receiver·Receiver·restart = λ self. once _;
       receiver·Receiver·data = λ self fifo trigger. once _;
       receiver·Receiver·timed-out = λ self. once _;
@@ -71,11 +70,11 @@ transmitter-once =
       transmitter·Transmitter·power-up = once _;
       transmitter·Transmitter·is-empty = λ self. once _;
       transmitter·Transmitter·is-idle = λ self. once _;
-      transmitter·Transmitter·clear-flag = λ self. once _;
+      transmitter·Transmitter·tell = λ self named. once _;
       transmitter·Transmitter·write = λ self fifo byte. once _;
-      transmitter·Transmitter·clear = λ self. once _;
+      transmitter·Transmitter·command = λ self asked. once _;
       transmitter·Transmitter·shift = λ self. once _;
-      transmitter·Transmitter·enable = λ self. once _;
+      transmitter·Transmitter·enable = λ self rise. once _;
     }
 
 pub channel-once : ChannelOnce
@@ -84,14 +83,19 @@ channel-once =
       channel·Channel·power-up = once _;
       channel·Channel·master-reset = λ self. once _;
       channel·Channel·step = λ self e. once _;
-      channel·touch = λ c e. both-once _ _;
-      channel·lent = λ c e. once _;
       channel·Channel·read = λ self number. once _;
       channel·Channel·line = λ self. once _;
       channel·Channel·arrive = λ self marks byte. once _;
       channel·Channel·modem-inputs = λ self levels. once _;
       channel·Channel·character-time = λ self. once _;
       channel·Channel·write = λ self number byte. once _;
+    }
+
+pub lending-once : LendingOnce
+lending-once =
+    record {
+      lending·touch = λ c e. both-once _ _;
+      lending·lent = λ c e. once _;
     }
 
 pub rank-once : RankOnce
@@ -154,7 +158,10 @@ registers-once =
       registers·Settings·is-fifo = λ self. once _;
       registers·Settings·trigger = λ self. once _;
       registers·Settings·register = λ self number. once _;
-      registers·Settings·fcr-kept = λ byte. once _;
+      registers·Settings·changes-mode = λ self byte. once _;
+      registers·Settings·write = λ self register byte. once _;
+      registers·changes-after = λ changes before after. once _;
+      registers·modem-status = λ changes inputs. once _;
       registers·Settings·no-divisor = λ self. once _;
       registers·Settings·cut = λ self byte. once _;
       registers·Settings·is-bad-arrival = λ self marks byte. once _;

@@ -8,7 +8,9 @@ use Rattle.base.specs.Answers.{refusalOf, valueOf}
 use Rattle.base.specs.Bits.{bit, digit, bits}
 use lib.Dec.{eqb}
 use Rattle.registers.specs.declared.Settings.{Settings}
-use Rattle.registers.specs.Registers.{fcrKept, registerAt}
+use Rattle.registers.specs.Registers.{kept, registerAt}
+use Rattle.registers.specs.Modem.{changesAfter, differ, msrOf}
+use Rattle.registers.specs.declared.Register.{Register}
 use Rattle.registers.specs.Words.{badArrival, cut, trigger}
 use Rattle.streams.specs.declared.Stream.{Stream}
 use Rattle.base.specs.Pick.{pick}
@@ -81,9 +83,12 @@ pub record RegistersOnce : Type 0 where
   pub registers·Settings·is-fifo : (self : Settings) → Once (λ r. r ≡ bit 0 (self .fcr))
   pub registers·Settings·trigger : (self : Settings) → Once (λ r. r ≡ trigger (self .fcr))
   pub registers·Settings·register : (self : Settings) (number : ℕ) → Once (λ r. r ≡ registerAt (bit 7 (self .lcr)) number)
-  pub registers·Settings·fcr-kept : (byte : ℕ) → Once (λ r. r ≡ fcrKept byte)
+  pub registers·Settings·changes-mode : (self : Settings) (byte : ℕ) → Once (λ r. r ≡ differ (bit 0 (self .fcr)) (bit 0 byte))
+  pub registers·Settings·write : (self : Settings) (register : Register) (byte : ℕ) → Once (λ r. r ≡ kept self register byte)
   pub registers·Settings·no-divisor : (self : Settings) → Once (λ r. r ≡ eqb (self .dll + 256 * self .dlm) 0)
   pub registers·Settings·cut : (self : Settings) (byte : ℕ) → Once (λ r. r ≡ cut (self .lcr) byte)
+  pub registers·changes-after : (changes before after : ℕ) → Once (λ r. r ≡ changesAfter changes before after)
+  pub registers·modem-status : (changes inputs : ℕ) → Once (λ r. r ≡ msrOf changes inputs)
   pub registers·Settings·is-bad-arrival : (self : Settings) (marks byte : ℕ) → Once (λ r. r ≡ badArrival (self .lcr) marks byte)
 
 -- ---- receiver: a receive side
@@ -97,8 +102,7 @@ pub record ReceiverOnce : Type 0 where
   pub receiver·Receiver·any-marked : (self : Receiver) (fifo : Bool) → Once (λ r. r ≡ someMarked fifo self)
   pub receiver·Receiver·look : (self : Receiver) (fifo : Bool) → Once (λ r. r ≡ looked fifo self)
   pub receiver·Receiver·wait : (self : Receiver) (fifo : Bool) → Once (λ r. r ≡ waited fifo self)
-  pub receiver·Receiver·clear : (self : Receiver) → Once (λ r. r ≡ cleared self)
-  pub receiver·Receiver·turn : (self : Receiver) → Once (λ r. r ≡ turned self)
+  pub receiver·Receiver·command : (self : Receiver) (changed asked : Bool) → Once (λ r. r ≡ pick changed (turned self) (pick asked (cleared self) self))
   pub receiver·Receiver·restart : (self : Receiver) → Once (λ r. r ≡ restarted self)
   pub receiver·Receiver·data : (self : Receiver) (fifo : Bool) (trigger : ℕ) → Once (λ r. r ≡ dataStands fifo trigger self)
   pub receiver·Receiver·timed-out : (self : Receiver) → Once (λ r. r ≡ timeoutStands self)
@@ -109,11 +113,11 @@ pub record TransmitterOnce : Type 0 where
   pub transmitter·Transmitter·power-up : Once (λ r. r ≡ still)
   pub transmitter·Transmitter·is-empty : (self : Transmitter) → Once (λ r. r ≡ noneWaiting self)
   pub transmitter·Transmitter·is-idle : (self : Transmitter) → Once (λ r. r ≡ allSent self)
-  pub transmitter·Transmitter·clear-flag : (self : Transmitter) → Once (λ r. r ≡ flagCleared self)
+  pub transmitter·Transmitter·tell : (self : Transmitter) (named : Bool) → Once (λ r. r ≡ pick named (flagCleared self) self)
   pub transmitter·Transmitter·write : (self : Transmitter) (fifo : Bool) (byte : ℕ) → Once (λ r. r ≡ written fifo self byte)
-  pub transmitter·Transmitter·clear : (self : Transmitter) → Once (λ r. r ≡ emptied self)
+  pub transmitter·Transmitter·command : (self : Transmitter) (asked : Bool) → Once (λ r. r ≡ pick asked (emptied self) self)
   pub transmitter·Transmitter·shift : (self : Transmitter) → Once (λ r. r ≡ shifted self)
-  pub transmitter·Transmitter·enable : (self : Transmitter) → Once (λ r. r ≡ enabled self)
+  pub transmitter·Transmitter·enable : (self : Transmitter) (rise : Bool) → Once (λ r. r ≡ pick rise (enabled self) self)
 
 -- ---- channel: a channel
 
@@ -121,15 +125,19 @@ pub record ChannelOnce : Type 0 where
   pub channel·Channel·power-up : Once (λ r. r ≡ channel.powerUp)
   pub channel·Channel·master-reset : (self : Channel) → Once (λ r. r ≡ masterReset self)
   pub channel·Channel·step : (self : Channel) (e : SeatEvent) → Once (λ r. r ≡ stepped self e)
-  -- what it lends back, and what it answers
-  pub channel·touch : (c : Channel) (e : SeatEvent) → Once (λ (r : Channel × Answer). (r .0 ≡ stepped c e .channel) × (r .1 ≡ stepped c e .answer))
-  pub channel·lent : (c : Channel) (e : SeatEvent) → Once (λ r. r ≡ stepped c e)
   pub channel·Channel·read : (self : Channel) (number : ℕ) → Once (λ r. r ≡ stepped self (Read number))
   pub channel·Channel·line : (self : Channel) → Once (λ r. r ≡ line self)
   pub channel·Channel·arrive : (self : Channel) (marks byte : ℕ) → Once (λ r. r ≡ stepped self (Arrival marks byte))
   pub channel·Channel·modem-inputs : (self : Channel) (levels : ℕ) → Once (λ r. r ≡ stepped self (Levels levels))
   pub channel·Channel·character-time : (self : Channel) → Once (λ r. r ≡ stepped self Time)
   pub channel·Channel·write : (self : Channel) (number byte : ℕ) → Once (λ r. r ≡ stepped self (Write number byte))
+
+-- ---- lending: a channel lent
+
+pub record LendingOnce : Type 0 where
+  -- what it lends back, and what it answers
+  pub lending·touch : (c : Channel) (e : SeatEvent) → Once (λ (r : Channel × Answer). (r .0 ≡ stepped c e .channel) × (r .1 ≡ stepped c e .answer))
+  pub lending·lent : (c : Channel) (e : SeatEvent) → Once (λ r. r ≡ stepped c e)
 
 -- ---- rank: sets and places of lines
 

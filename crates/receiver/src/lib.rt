@@ -3,6 +3,7 @@
 use queue::Character;
 use queue::Queue;
 ghost use mathlib.Core.Path.{_≡_};
+ghost use Rattle.base.specs.Pick.{pick};
 ghost use Rattle.receiver.specs.Receiver.{quiet, noneQueued, received, got, shownMarks, someMarked, looked, waited, cleared, turned, restarted, dataStands, timeoutStands};
 
 #[repr(C)]
@@ -118,7 +119,7 @@ impl Receiver {
         self
     }
 
-    pub fn clear(mut self) -> Self
+    fn clear(mut self) -> Self
         ensures { λ r. ⌜ r ≡ cleared self ⌝ }
     {
         let waiting = self.queue;
@@ -128,12 +129,25 @@ impl Receiver {
         self
     }
 
-    pub fn turn(self) -> Self
+    fn turn(self) -> Self
         ensures { λ r. ⌜ r ≡ turned self ⌝ }
     {
         let mut next = self.clear();
         next.kept = 0;
         next
+    }
+
+    // The FCR is written: its bit 0 changed, or it asks for an empty queue.
+    pub fn command(self, changed: bool, asked: bool) -> Self
+        ensures { λ r. ⌜ r ≡ pick changed (turned self) (pick asked (cleared self) self) ⌝ }
+    {
+        if changed {
+            return self.turn();
+        }
+        if asked {
+            return self.clear();
+        }
+        self
     }
 
     pub fn restart(self) -> Self

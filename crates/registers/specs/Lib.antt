@@ -1,4 +1,6 @@
 pub mod Registers
 pub mod Words
+pub mod Modem
 pub mod RegisterLaws
 pub mod WordLaws
+pub mod ModemLaws

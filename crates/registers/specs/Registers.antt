@@ -60,3 +60,17 @@ withDll s b = record { ier = s .ier; fcr = s .fcr; lcr = s .lcr; mcr = s .mcr; s
 
 abbrev pub withDlm : Settings → ℕ → Settings
 withDlm s b = record { ier = s .ier; fcr = s .fcr; lcr = s .lcr; mcr = s .mcr; scratch = s .scratch; dll = s .dll; dlm = b }
+
+-- what the settings are once a byte is written to a register; RBR/THR is no setting, and "Writes to LSR and MSR are accepted and change
+-- nothing."
+abbrev pub kept : Settings → Register → ℕ → Settings
+kept s RbrThr byte = s
+kept s Ier byte = withIer s (ierKept byte)
+kept s IirFcr byte = withFcr s (fcrKept byte)
+kept s Lcr byte = withLcr s byte
+kept s Mcr byte = withMcr s (mcrKept byte)
+kept s Lsr byte = s
+kept s Msr byte = s
+kept s Scratch byte = withScratch s byte
+kept s Dll byte = withDll s byte
+kept s Dlm byte = withDlm s byte

@@ -1,10 +1,15 @@
 // The settings of a channel: its registers by name, the mode, the trigger, the divisor and the word length.
+mod modem;
+
+pub use modem::changes_after;
+pub use modem::modem_status;
 ghost use mathlib.Core.Path.{_≡_};
 ghost use Prim.Native.Nat.{_+_, _*_};
 ghost use lib.Dec.{eqb};
 ghost use Rattle.base.specs.Bits.{bit};
 ghost use Rattle.registers.specs.Words.{trigger, cut};
-ghost use Rattle.registers.specs.Registers.{plainRegister, registerAt, fcrKept};
+ghost use Rattle.registers.specs.Registers.{plainRegister, registerAt, fcrKept, kept};
+ghost use Rattle.registers.specs.Modem.{differ};
 ghost use Rattle.registers.specs.Words.{beyondWord, badArrival};
 
 #[repr(C)]
@@ -78,6 +83,13 @@ impl Settings {
         base::bit(Settings::FCR_FIFO, self.fcr)
     }
 
+    // Whether a byte written to the FCR changes the mode.
+    pub fn changes_mode(self, byte: u8) -> bool
+        ensures { λ r. ⌜ r ≡ differ (bit 0 (self .fcr)) (bit 0 byte) ⌝ }
+    {
+        modem::differ(self.is_fifo(), base::bit(Settings::FCR_FIFO, byte))
+    }
+
     pub fn trigger(self) -> u8
         ensures { λ r. ⌜ r ≡ trigger (self .fcr) ⌝ }
     {
@@ -121,7 +133,44 @@ impl Settings {
         Settings::plain_register(number)
     }
 
-    pub fn fcr_kept(byte: u8) -> u8
+    // A byte is written: what the settings keep of it, whichever register it goes to.
+    pub fn write(mut self, register: Register, byte: u8) -> Self
+        ensures { λ r. ⌜ r ≡ kept self register byte ⌝ }
+    {
+        match register {
+            Register::Ier => {
+                self.ier = byte % 16;
+                self
+            }
+            Register::IirFcr => {
+                self.fcr = Settings::fcr_kept(byte);
+                self
+            }
+            Register::Lcr => {
+                self.lcr = byte;
+                self
+            }
+            Register::Mcr => {
+                self.mcr = byte % 32;
+                self
+            }
+            Register::Scratch => {
+                self.scratch = byte;
+                self
+            }
+            Register::Dll => {
+                self.dll = byte;
+                self
+            }
+            Register::Dlm => {
+                self.dlm = byte;
+                self
+            }
+            _ => self,
+        }
+    }
+
+    fn fcr_kept(byte: u8) -> u8
         ensures { λ r. ⌜ r ≡ fcrKept byte ⌝ }
     {
         let on = base::bit(Settings::FCR_FIFO, byte);

@@ -3,6 +3,7 @@
 use queue::Character;
 use queue::Queue;
 ghost use mathlib.Core.Path.{_≡_};
+ghost use Rattle.base.specs.Pick.{pick};
 ghost use Rattle.transmitter.specs.Transmitter.{still, noneWaiting, allSent, flagSetIf, flagCleared, written, emptied, next, shifted, enabled, loaded};
 
 #[repr(C)]
@@ -48,10 +49,20 @@ impl Transmitter {
         self
     }
 
-    pub fn clear_flag(mut self) -> Self
+    fn clear_flag(mut self) -> Self
         ensures { λ r. ⌜ r ≡ flagCleared self ⌝ }
     {
         self.flag = false;
+        self
+    }
+
+    // The IIR is read, and named the flag or did not.
+    pub fn tell(self, named: bool) -> Self
+        ensures { λ r. ⌜ r ≡ pick named (flagCleared self) self ⌝ }
+    {
+        if named {
+            return self.clear_flag();
+        }
         self
     }
 
@@ -72,7 +83,7 @@ impl Transmitter {
         self
     }
 
-    pub fn clear(mut self) -> Self
+    fn clear(mut self) -> Self
         ensures { λ r. ⌜ r ≡ emptied self ⌝ }
     {
         let none = self.is_empty();
@@ -80,6 +91,16 @@ impl Transmitter {
         let empty = waiting.emptied();
         self.queue = empty;
         self.set_flag_if(!none)
+    }
+
+    // The FCR is written, and empties the queue or does not.
+    pub fn command(self, asked: bool) -> Self
+        ensures { λ r. ⌜ r ≡ pick asked (emptied self) self ⌝ }
+    {
+        if asked {
+            return self.clear();
+        }
+        self
     }
 
     fn load(mut self) -> Self
@@ -114,10 +135,13 @@ impl Transmitter {
         self.next()
     }
 
-    pub fn enable(self) -> Self
-        ensures { λ r. ⌜ r ≡ enabled self ⌝ }
+    // The IER is written, and turns its bit 1 on or does not.
+    pub fn enable(self, rise: bool) -> Self
+        ensures { λ r. ⌜ r ≡ pick rise (enabled self) self ⌝ }
     {
-        let none = self.is_empty();
-        self.set_flag_if(none)
+        if rise {
+            return self.set_flag_if(self.is_empty());
+        }
+        self
     }
 }

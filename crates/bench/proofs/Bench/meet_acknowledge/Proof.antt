@@ -15,7 +15,7 @@ show-requires c κs = search needs
 
 returns : tie.Need-returns
 returns c =
-    let b = c .before .before .before .before .args .self in
+    let b = c .before .before .before .args .self in
     c .show .ensures ∙ ap (λ (s : Stepped). shown (withController b (s .controller)) (s .answer)) (c .before .before .acknowledge .ensures)
     ∙ acknowledge-met b
 

@@ -13,8 +13,8 @@ show-requires c κs = search needs
 
 returns : tie.Need-returns
 returns c =
-    let b = c .before .before .before .args .self in
-    c .show .ensures ∙ ap (shown b) (c .before .read .ensures) ∙ read-met b (c .before .before .before .args .port)
+    let b = c .before .before .args .self in
+    c .show .ensures ∙ ap (shown b) (c .before .read .ensures) ∙ read-met b (c .before .before .args .port)
 
 pub meet-read-spec : {M : Type 1} → statement M
 meet-read-spec = tie.close (tie.spec read-requires show-requires returns)

@@ -1,15 +1,18 @@
-use mathlib.Core.Path.{refl, sym}
+use mathlib.Core.List.{List}
+use mathlib.Core.Path.{refl, ap, ap₂, sym, _∙_}
 use Rattle.base.specs.PickLaws.{pick-true}
-use Rattle.bench.specs.Steps.{met, roomRefusal, after, answerTo}
+use Rattle.base.specs.declared.Answer.the-variants.{Done}
+use Rattle.controller.specs.declared.Controller.{Controller}
+use Rattle.controller.specs.Turns.{settled}
+use Rattle.bench.specs.declared.Seat.{Seat}
+use Rattle.bench.specs.Steps.{met, roomRefusal, after, answerTo, shown}
+use Rattle.bench.specs.LevelLaws.{reset-silent}
 use borrow.Author.Needs.{needs}
 use Rattle.bench.proofs.Bench.meet_reset.Statement.{statement}
 use Rattle.bench.proofs.Bench.meet_reset.Tie as tie
 
 reset-all-requires : tie.Need-reset-all-requires
 reset-all-requires c κs = search needs
-
-lines-requires : tie.Need-lines-requires
-lines-requires c κs = search needs
 
 settle-requires : tie.Need-settle-requires
 settle-requires c κs = search needs
@@ -20,8 +23,11 @@ show-requires c κs = search needs
 returns : tie.Need-returns
 unfolding met roomRefusal after answerTo
 returns c =
-    simp (c .show .ensures, c .before .settle .ensures, c .before .before .before .lines .ensures, c .before .before .before .before .reset-all .ensures) (sym (pick-true _ _ _ refl))
+    let b = c .before .before .before .before .args .self in
+    c .show .ensures
+    ∙ ap₂ (λ (seats : List Seat) (k : Controller). shown (record { seats = seats; controller = k }) Done) (c .before .before .reset-all .ensures)
+    (c .before .settle .ensures ∙ ap (settled (b .controller)) (sym (reset-silent (b .seats))))
+    ∙ sym (pick-true _ _ _ refl)
 
 pub meet-reset-spec : {M : Type 1} → statement M
-meet-reset-spec =
-    tie.close (tie.spec reset-all-requires lines-requires settle-requires show-requires returns)
+meet-reset-spec = tie.close (tie.spec reset-all-requires settle-requires show-requires returns)

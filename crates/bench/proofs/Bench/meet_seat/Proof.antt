@@ -22,11 +22,11 @@ show-requires c κs = search needs
 
 returns : tie.Need-returns
 returns c =
-    let a = c .before .before .before .before .before .before .before .args in
-    let t = c .before .before .before .before .touch-seat .result in
+    let a = c .before .before .before .before .before .args in
+    let t = c .before .before .before .touch-seat .result in
     c .show .ensures
-    ∙ ap (λ (d : Bench). shown (withController d (t .controller)) (t .answer)) (c .before .with-seat .ensures)
-    ∙ ap (stored (a .self) (a .n)) (c .before .before .before .before .touch-seat .ensures ∙ ap (λ (s : Seat). touched s (a .self .controller) (a .n) (a .e)) (c .before .before .before .before .before .before .seat .ensures))
+    ∙ ap (λ (d : Bench). shown (withController d (t .controller)) (t .answer)) (c .before .before .with-seat .ensures)
+    ∙ ap (stored (a .self) (a .n)) (c .before .before .before .touch-seat .ensures ∙ ap (λ (s : Seat). touched s (a .self .controller) (a .n) (a .e)) (c .before .before .before .before .seat .ensures))
     ∙ seat-met (a .self) (a .n) (a .e)
 
 pub meet-seat-spec : {M : Type 1} → statement M

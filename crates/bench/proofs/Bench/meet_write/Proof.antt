@@ -15,9 +15,9 @@ show-requires c κs = search needs
 
 returns : tie.Need-returns
 returns c =
-    let b = c .before .before .before .before .args .self in
+    let b = c .before .before .before .args .self in
     c .show .ensures ∙ ap (λ (s : Stepped). shown (withController b (s .controller)) (s .answer)) (c .before .before .write .ensures)
-    ∙ write-met b (c .before .before .before .before .args .port) (c .before .before .before .before .args .byte)
+    ∙ write-met b (c .before .before .before .args .port) (c .before .before .before .args .byte)
 
 pub meet-write-spec : {M : Type 1} → statement M
 meet-write-spec = tie.close (tie.spec write-requires show-requires returns)

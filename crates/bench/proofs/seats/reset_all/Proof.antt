@@ -1,86 +1,76 @@
-use mathlib.Core.List.{map}
-use mathlib.Core.Path.{_≡_, ap}
-use lib.ListN.{length}
-use Rattle.base.specs.ListLaws.{written-out}
-use Rattle.bench.specs.Seats.{noSeat, seatReset}
+use Prim.Native.Nat.{ℕ, suc, _+_, _-_, _≤_}
+use mathlib.Core.Path.{_≡_, refl, ap, _∙_}
+use native.Mathlib.Omega.{arith}
+use mathlib.Core.List.{List}
+use lib.ListN.{length, getD, set}
 use borrow.Author.Needs.{needs}
+use Rattle.bench.specs.declared.Seat.{Seat}
+use Rattle.bench.specs.Seats.{noSeat, seatReset}
+use Rattle.bench.proofs.Resets.{resetFirst, reset-one, reset-whole}
 use Rattle.bench.proofs.seats.reset_all.Statement.{statement}
 use Rattle.bench.proofs.seats.reset_all.Tie as tie
 
-array-copy-out-reset : tie.Need-array-copy-out-reset
-array-copy-out-reset c = search needs
+abbrev Inv-loop : tie.InvT-loop
+Inv-loop s₀ i₀ s i = (i ≤ 8) × (s ≡ resetFirst i s₀)
 
-reset-requires : tie.Need-reset-requires
+abbrev μ-loop : tie.MeasureT-loop
+μ-loop s₀ i₀ s i = 8 - i
+
+loop-holds : tie.Need-loop-holds Inv-loop μ-loop
+loop-holds c = (omega arith, refl)
+
+mul-seat : tie.Need-mul-seat Inv-loop μ-loop
+mul-seat c = search needs
+
+array-copy-out-seat : tie.Need-array-copy-out-seat Inv-loop μ-loop
+array-copy-out-seat c = search needs
+
+reset-requires : tie.Need-reset-requires Inv-loop μ-loop
 reset-requires c κs = search needs
 
-array-copy-out-reset-2 : tie.Need-array-copy-out-reset-2
-array-copy-out-reset-2 c = search needs
+mul-s : tie.Need-mul-s Inv-loop μ-loop
+mul-s c = search needs
 
-reset-requires-2 : tie.Need-reset-requires-2
-reset-requires-2 c κs = search needs
+array-set-from-s : tie.Need-array-set-from-s Inv-loop μ-loop
+array-set-from-s c = search needs
 
-array-copy-out-reset-3 : tie.Need-array-copy-out-reset-3
-array-copy-out-reset-3 c = search needs
+add-i : tie.Need-add-i Inv-loop μ-loop
+add-i c = omega arith
 
-reset-requires-3 : tie.Need-reset-requires-3
-reset-requires-3 c κs = search needs
+loop-less : tie.Need-loop-less Inv-loop μ-loop
+loop-less c = omega arith
 
-array-copy-out-reset-4 : tie.Need-array-copy-out-reset-4
-array-copy-out-reset-4 c = search needs
+loop-again : tie.Need-loop-again Inv-loop μ-loop
+loop-again c =
+    let a = c .before .before .before in
+    let l : length (a .before .args .t1) ≡ 8 = search needs in
+    let one : suc (a .loop .i) ≡ a .loop .i + 1 = omega arith in
+    let e : set (a .loop .s) (a .loop .i) (c .reset .result) ≡ resetFirst (a .loop .i + 1) (a .before .args .t1) =
+    ap (set (a .loop .s) (a .loop .i)) (c .reset .ensures)
+    ∙ ap (λ (s : List Seat). set s (a .loop .i) (seatReset (getD s (a .loop .i) noSeat))) (a .loop .inv .1)
+    ∙ reset-one (a .before .args .t1) (a .loop .i) noSeat (omega (arith, l))
+    ∙ ap (λ (n : ℕ). resetFirst n (a .before .args .t1)) one in
+    (omega arith, e)
 
-reset-requires-4 : tie.Need-reset-requires-4
-reset-requires-4 c κs = search needs
-
-array-copy-out-reset-5 : tie.Need-array-copy-out-reset-5
-array-copy-out-reset-5 c = search needs
-
-reset-requires-5 : tie.Need-reset-requires-5
-reset-requires-5 c κs = search needs
-
-array-copy-out-reset-6 : tie.Need-array-copy-out-reset-6
-array-copy-out-reset-6 c = search needs
-
-reset-requires-6 : tie.Need-reset-requires-6
-reset-requires-6 c κs = search needs
-
-array-copy-out-reset-7 : tie.Need-array-copy-out-reset-7
-array-copy-out-reset-7 c = search needs
-
-reset-requires-7 : tie.Need-reset-requires-7
-reset-requires-7 c κs = search needs
-
-array-copy-out-reset-8 : tie.Need-array-copy-out-reset-8
-array-copy-out-reset-8 c = search needs
-
-reset-requires-8 : tie.Need-reset-requires-8
-reset-requires-8 c κs = search needs
-
-eight : (c : tie.Start) → length (c .args .t1) ≡ 8
-eight c = search needs
-
-returns : tie.Need-returns
+returns : tie.Need-returns Inv-loop μ-loop
 returns c =
-    simp (c .reset8 .ensures, c .before .before .reset7 .ensures, c .before .before .before .before .reset6 .ensures, c .before .before .before .before .before .before .reset5 .ensures, c .before .before .before .before .before .before .before .before .reset4 .ensures, c .before .before .before .before .before .before .before .before .before .before .reset3 .ensures, c .before .before .before .before .before .before .before .before .before .before .before .before .reset2 .ensures, c .before .before .before .before .before .before .before .before .before .before .before .before .before .before .reset .ensures)
-    (ap (map seatReset) (written-out 8 (c .before .before .before .before .before .before .before .before .before .before .before .before .before .before .before .before .args .t1) noSeat (eight (c .before .before .before .before .before .before .before .before .before .before .before .before .before .before .before .before))))
+    let a = c .before in
+    let l : length (a .before .args .t1) ≡ 8 = search needs in
+    a .loop .inv .1 ∙ reset-whole (a .before .args .t1) (a .loop .i) (omega (arith, l))
 
 pub reset-all-spec : {M : Type 1} → statement M
 reset-all-spec =
     tie.close
     (tie.spec
-    array-copy-out-reset
+    Inv-loop
+    μ-loop
+    loop-holds
+    mul-seat
+    array-copy-out-seat
     reset-requires
-    array-copy-out-reset-2
-    reset-requires-2
-    array-copy-out-reset-3
-    reset-requires-3
-    array-copy-out-reset-4
-    reset-requires-4
-    array-copy-out-reset-5
-    reset-requires-5
-    array-copy-out-reset-6
-    reset-requires-6
-    array-copy-out-reset-7
-    reset-requires-7
-    array-copy-out-reset-8
-    reset-requires-8
+    mul-s
+    array-set-from-s
+    add-i
+    loop-less
+    loop-again
     returns)

@@ -12,7 +12,7 @@ receive-requires c κs = search needs
 
 returns : tie.Need-returns
 unfolding afterArrival
-returns c = simp (← c .receive .ensures, ← c .before .before .is-fifo .ensures, pick-true, pick-false)
+returns c = simp (← c .receive .ensures, ← c .before .is-fifo .ensures, pick-true, pick-false)
 
 pub after-arrival-spec : {M : Type 1} → statement M
 after-arrival-spec = tie.close (tie.spec is-fifo-requires receive-requires returns)

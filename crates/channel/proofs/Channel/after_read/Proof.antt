@@ -1,3 +1,12 @@
+use Prim.Native.Nat.{ℕ}
+use mathlib.Core.List.{List, [], _∷_}
+use mathlib.Core.Path.{_≡_, refl}
+use types.Run.{OneOf, miss}
+use denote.Enum.Declared.{tagOf}
+use Rattle.registers.proofs.Register.{the-type}
+use Rattle.registers.specs.declared.Register.{Register}
+use Rattle.registers.specs.declared.Register.the-variants.{RbrThr, Ier, IirFcr, Lcr, Mcr, Lsr, Msr, Scratch, Dll, Dlm}
+use Rattle.channel.specs.declared.Channel.{Channel}
 use Rattle.base.specs.PickLaws.{pick-true, pick-false}
 use Rattle.channel.specs.Effects.{afterRead}
 use borrow.Author.Needs.{needs}
@@ -28,24 +37,6 @@ enum-told-4 c = search needs
 read-msr-requires : tie.Need-read-msr-requires
 read-msr-requires c κs = search needs
 
-enum-told-5 : tie.Need-enum-told-5
-enum-told-5 c = search needs
-
-enum-told-6 : tie.Need-enum-told-6
-enum-told-6 c = search needs
-
-enum-told-7 : tie.Need-enum-told-7
-enum-told-7 c = search needs
-
-enum-told-8 : tie.Need-enum-told-8
-enum-told-8 c = search needs
-
-enum-told-9 : tie.Need-enum-told-9
-enum-told-9 c = search needs
-
-enum-told-10 : tie.Need-enum-told-10
-enum-told-10 c = search needs
-
 returns : tie.Need-returns
 unfolding afterRead
 returns c = simp (c .before .enum-told .given .1, ← c .read-rbr .ensures, pick-true, pick-false)
@@ -62,29 +53,25 @@ returns-4 : tie.Need-returns-4
 unfolding afterRead
 returns-4 c = simp (c .before .enum-told4 .given .1, ← c .read-msr .ensures, pick-true, pick-false)
 
+-- the variants that the last arm takes, by their numbers
+abbrev rest : List ℕ
+rest = 1 ∷ 3 ∷ 4 ∷ 7 ∷ 8 ∷ 9 ∷ []
+
+others : (c : Channel) (r : Register) → OneOf rest (tagOf the-type r) → c ≡ afterRead c r
+unfolding afterRead
+others c RbrThr k = absurd (miss rest 0 tt k)
+others c Ier k = refl
+others c IirFcr k = absurd (miss rest 2 tt k)
+others c Lcr k = refl
+others c Mcr k = refl
+others c Lsr k = absurd (miss rest 5 tt k)
+others c Msr k = absurd (miss rest 6 tt k)
+others c Scratch k = refl
+others c Dll k = refl
+others c Dlm k = refl
+
 returns-5 : tie.Need-returns-5
-unfolding afterRead
-returns-5 c = simp (c .enum-told5 .given .1, pick-true, pick-false)
-
-returns-6 : tie.Need-returns-6
-unfolding afterRead
-returns-6 c = simp (c .enum-told6 .given .1, pick-true, pick-false)
-
-returns-7 : tie.Need-returns-7
-unfolding afterRead
-returns-7 c = simp (c .enum-told7 .given .1, pick-true, pick-false)
-
-returns-8 : tie.Need-returns-8
-unfolding afterRead
-returns-8 c = simp (c .enum-told8 .given .1, pick-true, pick-false)
-
-returns-9 : tie.Need-returns-9
-unfolding afterRead
-returns-9 c = simp (c .enum-told9 .given .1, pick-true, pick-false)
-
-returns-10 : tie.Need-returns-10
-unfolding afterRead
-returns-10 c = simp (c .enum-told10 .given .1, pick-true, pick-false)
+returns-5 c = others (c .before .args .self) (c .before .args .register) (c .match .keys5)
 
 pub after-read-spec : {M : Type 1} → statement M
 after-read-spec =
@@ -98,19 +85,8 @@ after-read-spec =
     read-lsr-requires
     enum-told-4
     read-msr-requires
-    enum-told-5
-    enum-told-6
-    enum-told-7
-    enum-told-8
-    enum-told-9
-    enum-told-10
     returns
     returns-2
     returns-3
     returns-4
-    returns-5
-    returns-6
-    returns-7
-    returns-8
-    returns-9
-    returns-10)
+    returns-5)

@@ -1,3 +1,14 @@
+use Prim.Native.Nat.{ℕ}
+use mathlib.Core.List.{List, [], _∷_}
+use mathlib.Core.Path.{_≡_, refl, ap, _∙_}
+use types.Run.{OneOf, miss}
+use denote.Enum.Declared.{tagOf}
+use Rattle.registers.proofs.Register.{the-type}
+use Rattle.registers.specs.Registers.{kept}
+use Rattle.registers.specs.declared.Register.{Register}
+use Rattle.registers.specs.declared.Register.the-variants.{RbrThr, Ier, IirFcr, Lcr, Mcr, Lsr, Msr, Scratch, Dll, Dlm}
+use Rattle.channel.specs.declared.Channel.{Channel}
+use Rattle.channel.specs.Parts.{withSettings}
 use Rattle.base.specs.PickLaws.{pick-true, pick-false}
 use Rattle.channel.specs.Effects.{afterWrite}
 use borrow.Author.Needs.{needs}
@@ -22,26 +33,8 @@ enum-told-3 c = search needs
 write-fcr-requires : tie.Need-write-fcr-requires
 write-fcr-requires c κs = search needs
 
-enum-told-4 : tie.Need-enum-told-4
-enum-told-4 c = search needs
-
-enum-told-5 : tie.Need-enum-told-5
-enum-told-5 c = search needs
-
-enum-told-6 : tie.Need-enum-told-6
-enum-told-6 c = search needs
-
-enum-told-7 : tie.Need-enum-told-7
-enum-told-7 c = search needs
-
-enum-told-8 : tie.Need-enum-told-8
-enum-told-8 c = search needs
-
-enum-told-9 : tie.Need-enum-told-9
-enum-told-9 c = search needs
-
-enum-told-10 : tie.Need-enum-told-10
-enum-told-10 c = search needs
+write-requires : tie.Need-write-requires
+write-requires c κs = search needs
 
 returns : tie.Need-returns
 unfolding afterWrite
@@ -55,33 +48,28 @@ returns-3 : tie.Need-returns-3
 unfolding afterWrite
 returns-3 c = simp (c .before .enum-told3 .given .1, ← c .write-fcr .ensures, pick-true, pick-false)
 
+-- the variants that the last arm takes, by their numbers
+abbrev rest : List ℕ
+rest = 3 ∷ 4 ∷ 5 ∷ 6 ∷ 7 ∷ 8 ∷ 9 ∷ []
+
+others : (c : Channel) (r : Register) (byte : ℕ) → OneOf rest (tagOf the-type r) → withSettings c (kept (c .settings) r byte) ≡ afterWrite c r byte
+unfolding afterWrite
+others c RbrThr byte k = absurd (miss rest 0 tt k)
+others c Ier byte k = absurd (miss rest 1 tt k)
+others c IirFcr byte k = absurd (miss rest 2 tt k)
+others c Lcr byte k = refl
+others c Mcr byte k = refl
+others c Lsr byte k = refl
+others c Msr byte k = refl
+others c Scratch byte k = refl
+others c Dll byte k = refl
+others c Dlm byte k = refl
+
 returns-4 : tie.Need-returns-4
-unfolding afterWrite
-returns-4 c = simp (c .before .enum-told4 .given .1, pick-true, pick-false)
-
-returns-5 : tie.Need-returns-5
-unfolding afterWrite
-returns-5 c = simp (c .before .enum-told5 .given .1, pick-true, pick-false)
-
-returns-6 : tie.Need-returns-6
-unfolding afterWrite
-returns-6 c = simp (c .enum-told6 .given .1, pick-true, pick-false)
-
-returns-7 : tie.Need-returns-7
-unfolding afterWrite
-returns-7 c = simp (c .enum-told7 .given .1, pick-true, pick-false)
-
-returns-8 : tie.Need-returns-8
-unfolding afterWrite
-returns-8 c = simp (c .before .enum-told8 .given .1, pick-true, pick-false)
-
-returns-9 : tie.Need-returns-9
-unfolding afterWrite
-returns-9 c = simp (c .before .enum-told9 .given .1, pick-true, pick-false)
-
-returns-10 : tie.Need-returns-10
-unfolding afterWrite
-returns-10 c = simp (c .before .enum-told10 .given .1, pick-true, pick-false)
+returns-4 c =
+    let s : tie.Start = c .before .before in
+    ap (withSettings (s .args .self)) (c .write .ensures)
+    ∙ others (s .args .self) (s .args .register) (s .args .byte) (c .before .match .keys4)
 
 pub after-write-spec : {M : Type 1} → statement M
 after-write-spec =
@@ -93,20 +81,8 @@ after-write-spec =
     write-ier-requires
     enum-told-3
     write-fcr-requires
-    enum-told-4
-    enum-told-5
-    enum-told-6
-    enum-told-7
-    enum-told-8
-    enum-told-9
-    enum-told-10
+    write-requires
     returns
     returns-2
     returns-3
-    returns-4
-    returns-5
-    returns-6
-    returns-7
-    returns-8
-    returns-9
-    returns-10)
+    returns-4)

@@ -7,11 +7,11 @@ use Rattle.channel.proofs.Channel.line_status.Tie as tie
 is-fifo-requires : tie.Need-is-fifo-requires
 is-fifo-requires c κs = search needs
 
-is-empty-requires : tie.Need-is-empty-requires
-is-empty-requires c κs = search needs
-
 marks-requires : tie.Need-marks-requires
 marks-requires c κs = search needs
+
+is-empty-requires : tie.Need-is-empty-requires
+is-empty-requires c κs = search needs
 
 bit-requires : tie.Need-bit-requires
 bit-requires c κs = search needs
@@ -36,15 +36,15 @@ byte-of-requires c κs = search needs
 
 returns : tie.Need-returns
 unfolding lsr
-returns c = simp (← c .byte-of .ensures, ← c .before .any-marked .ensures, ← c .before .before .is-idle .ensures, ← c .before .before .before .is-empty2 .ensures, ← c .before .before .before .before .bit3 .ensures, ← c .before .before .before .before .before .bit2 .ensures, ← c .before .before .before .before .before .before .bit .ensures, ← c .before .before .before .before .before .before .before .marks .ensures, ← c .before .before .before .before .before .before .before .before .is-empty .ensures, ← c .before .before .before .before .before .before .before .before .before .before .before .is-fifo .ensures, pick-true, pick-false)
+returns c = simp (← c .byte-of .ensures, ← c .before .any-marked .ensures, ← c .before .before .is-idle .ensures, ← c .before .before .before .is-empty2 .ensures, ← c .before .before .before .before .bit3 .ensures, ← c .before .before .before .before .before .bit2 .ensures, ← c .before .before .before .before .before .before .bit .ensures, ← c .before .before .before .before .before .before .before .is-empty .ensures, ← c .before .before .before .before .before .before .before .before .marks .ensures, ← c .before .before .before .before .before .before .before .before .before .is-fifo .ensures, pick-true, pick-false)
 
 pub line-status-spec : {M : Type 1} → statement M
 line-status-spec =
     tie.close
     (tie.spec
     is-fifo-requires
-    is-empty-requires
     marks-requires
+    is-empty-requires
     bit-requires
     bit-requires-2
     bit-requires-3

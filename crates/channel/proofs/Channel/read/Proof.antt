@@ -19,7 +19,7 @@ after-read-requires c κs = search needs
 
 returns : tie.Need-returns
 unfolding stepped effect
-returns c = simp (← c .after-read .ensures, ← c .before .byte-at .ensures, ← c .before .before .register .ensures, ← c .before .before .before .before .before .refuse-read .ensures, eq-eqb _ _ (c .before .before .before .before .if1 .taken), pick-true, pick-false)
+returns c = simp (← c .after-read .ensures, ← c .before .byte-at .ensures, ← c .before .before .register .ensures, ← c .before .before .before .before .refuse-read .ensures, eq-eqb _ _ (c .before .before .before .if1 .taken), pick-true, pick-false)
 
 returns-2 : tie.Need-returns-2
 unfolding stepped

@@ -12,7 +12,7 @@ look-requires c κs = search needs
 
 returns : tie.Need-returns
 unfolding lsrRead
-returns c = simp (← c .look .ensures, ← c .before .before .is-fifo .ensures, pick-true, pick-false)
+returns c = simp (← c .look .ensures, ← c .before .is-fifo .ensures, pick-true, pick-false)
 
 pub read-lsr-spec : {M : Type 1} → statement M
 read-lsr-spec = tie.close (tie.spec is-fifo-requires look-requires returns)

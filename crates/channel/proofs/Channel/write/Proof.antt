@@ -16,10 +16,10 @@ after-write-requires c κs = search needs
 
 returns : tie.Need-returns
 unfolding stepped effect
-returns c = simp (← c .after-write .ensures, ← c .before .register .ensures, ← c .before .before .before .before .refuse-write .ensures, eq-eqb _ _ (c .before .before .before .if1 .taken), pick-true, pick-false)
+returns c = simp (← c .after-write .ensures, ← c .before .register .ensures, ← c .before .before .before .refuse-write .ensures, eq-eqb _ _ (c .before .before .if1 .taken), pick-true, pick-false)
 
 returns-2 : tie.Need-returns-2
-unfolding stepped effect
+unfolding stepped
 returns-2 c = simp (← c .before .refuse-write .ensures, ne-eqb _ _ (c .if1 .left), pick-true, pick-false)
 
 pub write-spec : {M : Type 1} → statement M

@@ -10,16 +10,16 @@ bit-requires c κs = search needs
 bit-requires-2 : tie.Need-bit-requires-2
 bit-requires-2 c κs = search needs
 
+write-requires : tie.Need-write-requires
+write-requires c κs = search needs
+
 enable-requires : tie.Need-enable-requires
 enable-requires c κs = search needs
 
 returns : tie.Need-returns
 unfolding ierWritten
-returns c = simp (← c .enable .ensures, ← c .before .before .before .before .bit2 .ensures, ← c .before .before .before .before .before .bit .ensures, c .before .before .if1 .taken, pick-true, pick-false)
-
-returns-2 : tie.Need-returns-2
-unfolding ierWritten
-returns-2 c = simp (← c .before .before .bit2 .ensures, ← c .before .before .before .bit .ensures, c .if1 .left, pick-true, pick-false)
+returns c = simp (← c .enable .ensures, ← c .before .write .ensures, ← c .before .before .bit2 .ensures, ← c .before .before .before .bit .ensures, pick-true, pick-false)
 
 pub write-ier-spec : {M : Type 1} → statement M
-write-ier-spec = tie.close (tie.spec bit-requires bit-requires-2 enable-requires returns returns-2)
+write-ier-spec =
+    tie.close (tie.spec bit-requires bit-requires-2 write-requires enable-requires returns)

@@ -12,7 +12,7 @@ write-requires c κs = search needs
 
 returns : tie.Need-returns
 unfolding afterWrite
-returns c = simp (← c .write .ensures, ← c .before .before .is-fifo .ensures, pick-true, pick-false)
+returns c = simp (← c .write .ensures, ← c .before .is-fifo .ensures, pick-true, pick-false)
 
 pub write-thr-spec : {M : Type 1} → statement M
 write-thr-spec = tie.close (tie.spec is-fifo-requires write-requires returns)

@@ -1,13 +1,22 @@
--- The change bits of the modem inputs, bit by bit.
-use Prim.Native.Nat.{ℕ, _^_, _<_}
+-- The MSR and its change bits, bit by bit.
+use Prim.Native.Nat.{ℕ, zero, suc, _+_, _^_, _<_}
 use mathlib.Core.Bool.{Bool, true, false, not, _&&_, _||_, xor}
 use mathlib.Core.Path.{_≡_, refl, ap, sym, _∙_}
+use native.Mathlib.Nat.{le-of-suc-le-suc, not-suc-le-zero}
 use lib.Dec.{eqb}
 use Rattle.base.specs.Bits.{bit}
 use Rattle.base.specs.BitLaws.{bit-bits, bits-small}
 use Rattle.base.specs.PickLaws.{never}
-use Rattle.channel.specs.Effects.{differ, changesAfter}
-use Rattle.channel.specs.StatusLaws.{below-four}
+use Rattle.registers.specs.Modem.{differ, changesAfter, msrOf}
+
+-- what holds at each number below four holds at every one
+pub below-four : (P : ℕ → Type 0) → P 0 → P 1 → P 2 → P 3 → (k : ℕ) → k < 4 → P k
+below-four P a b c d zero less = a
+below-four P a b c d (suc zero) less = b
+below-four P a b c d (suc (suc zero)) less = c
+below-four P a b c d (suc (suc (suc zero))) less = d
+below-four P a b c d (suc (suc (suc (suc k)))) less =
+    absurd (not-suc-le-zero (le-of-suc-le-suc (le-of-suc-le-suc (le-of-suc-le-suc (le-of-suc-le-suc less)))))
 
 -- exactly one of the two
 pub differ-xor : (a b : Bool) → differ a b ≡ xor a b
@@ -37,3 +46,19 @@ module _ (changes before after : ℕ) where
   pub changes-small : changesAfter changes before after < 2 ^ 4
   unfolding changesAfter
   changes-small = bits-small _
+
+module _ (changes inputs : ℕ) where
+  -- MSR bits 0 to 3 are the changes that stand
+  pub shows-changes : (k : ℕ) → k < 4 → bit k (msrOf changes inputs) ≡ bit k changes
+  unfolding msrOf
+  shows-changes = below-four (λ k. bit k (msrOf changes inputs) ≡ bit k changes) (bit-bits 0 _) (bit-bits 1 _) (bit-bits 2 _) (bit-bits 3 _)
+
+  -- MSR bits 4 to 7 are CTS, DSR, RI and DCD
+  pub shows-inputs : (k : ℕ) → k < 4 → bit (4 + k) (msrOf changes inputs) ≡ bit k inputs
+  unfolding msrOf
+  shows-inputs = below-four (λ k. bit (4 + k) (msrOf changes inputs) ≡ bit k inputs) (bit-bits 4 _) (bit-bits 5 _) (bit-bits 6 _) (bit-bits 7 _)
+
+  -- and there are no more
+  pub msr-small : msrOf changes inputs < 0x100
+  unfolding msrOf
+  msr-small = bits-small _

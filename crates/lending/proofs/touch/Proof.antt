@@ -37,26 +37,26 @@ use denote.Triple.Table.{entered, cited}
 use denote.Triple.Walked.{says, Stays, stay-ref, stay-none, walkOf, AllGo, goes-none, goes-ref, Walks, ends-at, walked, walk-meets}
 use denote.Triple.Clauses.{ensured, lasts}
 use denote.Exit.{yes}
 use Rattle.channel.specs.Steps.{stepped}
 use Rattle.channel.specs.declared.Channel.{Channel}
 use Rattle.channel.specs.declared.SeatEvent.{SeatEvent}
 use Rattle.channel.specs.declared.Stepped.{Stepped}
 use Rattle.channel.proofs.Channel as C
 use Rattle.channel.proofs.Channel.Laws as C′
 use Rattle.channel.proofs.SeatEvent as E
 use Rattle.channel.proofs.SeatEvent.Laws as E′
 use Rattle.channel.proofs.Stepped as S
 use Rattle.channel.proofs.Stepped.Laws as S′
 use Rattle.base.proofs.Answer as A′
 use Rattle.base.proofs.Answer.Laws as A″
 use Rattle.channel.proofs.Channel.step as step
 use Rattle.channel.proofs.Channel.step.Symbol as step-def
 use Rattle.channel.proofs.Channel.step.Symbol.{name as #channel·step}
 use Rattle.channel.proofs.Channel.step.Met as step-thm
-use Rattle.channel.proofs.touch.Key.{name as #channel·touch}
-use Rattle.channel.proofs.touch as f
-use Rattle.channel.proofs.touch.Statement as stated
-use Rattle.channel.proofs.touch.Code as code
+use Rattle.lending.proofs.touch.Key.{name as #lending·touch}
+use Rattle.lending.proofs.touch as f
+use Rattle.lending.proofs.touch.Statement as stated
+use Rattle.lending.proofs.touch.Code as code
 
 abbrev stayed : Stays (f.ended .signature .params) (f.ended .kept)
 stayed = (stay-ref (0 ∷ []) tt (plain (λ _. C.the-row)), (stay-none (λ _. E.the-row) yes, tt))
@@ -152,6 +152,6 @@ pub touch-spec : {M : Type 1} → stated.statement M
 unfolding code.routine tablesOf
 touch-spec 𝓤 H 𝓜 𝓖 𝓡 =
     entered 𝓤 H (tripleOf 𝓤 H (𝓖 .A) f.signature (f.spec 𝓤 H (𝓖 .A) (𝓜 .mem) (𝓡 .run)))
-    (tables 𝓤 H 𝓜 𝓡 code.env .C) (tables 𝓤 H 𝓜 𝓡 code.env .Λ) #channel·touch code.function (code.unfolded 𝓤 H 𝓜 𝓡)
+    (tables 𝓤 H 𝓜 𝓡 code.env .C) (tables 𝓤 H 𝓜 𝓡 code.env .Λ) #lending·touch code.function (code.unfolded 𝓤 H 𝓜 𝓡)
     (touch-meets 𝓤 H (𝓖 .A) (givenOf 𝓤 H 𝓜 𝓖) (𝓜 .mem) (𝓡 .run) (tablesOf 𝓤 H 𝓜 (tables 𝓤 H 𝓜 𝓡 code.env))
     (cited 𝓤 H (Step 𝓤 H (𝓖 .A) (𝓜 .mem) (𝓡 .run)) 𝓜 𝓡 code.env #channel·step step-def.routine code.calls-channel·Channel·step (step-thm.met 𝓤 H 𝓜 𝓖 𝓡)))

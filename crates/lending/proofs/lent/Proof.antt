@@ -38,27 +38,27 @@ use denote.Triple.Table.{entered, cited}
 use denote.Triple.Walked.{says, Stays, stay-none, walkOf, AllGo, goes-none, Walks, ends-at, walked, walk-meets}
 use denote.Triple.Clauses.{ensured, lasts}
 use denote.Exit.{yes}
 use Rattle.channel.specs.Steps.{stepped}
 use Rattle.channel.specs.declared.Channel.{Channel}
 use Rattle.channel.specs.declared.SeatEvent.{SeatEvent}
 use Rattle.channel.specs.declared.Stepped.{Stepped}
 use Rattle.channel.proofs.Channel as C
 use Rattle.channel.proofs.Channel.Laws as C′
 use Rattle.channel.proofs.SeatEvent as E
 use Rattle.channel.proofs.SeatEvent.Laws as E′
 use Rattle.channel.proofs.Stepped as S
 use Rattle.channel.proofs.Stepped.Laws as S′
 use Rattle.base.proofs.Answer as A′
 use Rattle.base.proofs.Answer.Laws as A″
 use Rattle.base.specs.declared.Answer.{Answer}
-use Rattle.channel.proofs.touch as touch
-use Rattle.channel.proofs.touch.Symbol as touch-def
-use Rattle.channel.proofs.touch.Symbol.{name as #channel·touch}
-use Rattle.channel.proofs.touch.Met as touch-thm
-use Rattle.channel.proofs.lent.Key.{name as #channel·lent}
-use Rattle.channel.proofs.lent as f
-use Rattle.channel.proofs.lent.Statement as stated
-use Rattle.channel.proofs.lent.Code as code
+use Rattle.lending.proofs.touch as touch
+use Rattle.lending.proofs.touch.Symbol as touch-def
+use Rattle.lending.proofs.touch.Symbol.{name as #lending·touch}
+use Rattle.lending.proofs.touch.Met as touch-thm
+use Rattle.lending.proofs.lent.Key.{name as #lending·lent}
+use Rattle.lending.proofs.lent as f
+use Rattle.lending.proofs.lent.Statement as stated
+use Rattle.lending.proofs.lent.Code as code
 
 abbrev stayed : Stays (f.ended .signature .params) (f.ended .kept)
 stayed = (stay-none (λ _. C.the-row) yes, (stay-none (λ _. E.the-row) yes, tt))
@@ -130,7 +130,7 @@ module _ {M : Type 1} (𝓤 : URA M) (H : Heap 𝓤) (A : Atoms 𝓤) (W : Given
       qed W (‵ (flft (ν ∷ []) fullShare) ∷ ‵ (MutRef (named 0) (ν ∷ []) C.the-row .own (loan b γ) (vptr b 0 ∷ [])) ∷ []) ∵ move ! (1 ∷ 0 ∷ []) $ nothing ! $ owned ! E.the-row (Is E.the-row) (EL.makes E.the-type E′.the-plain 𝓤 H A) e _ ge $ fjoin ! $
       move ! (1 ∷ 0 ∷ []) $ fjoin ! $ move ! (1 ∷ 0 ∷ []) $ nothing ! $ move ! (1 ∷ 0 ∷ []) $ join ! $ join ! $ frame ! $ done !
 
-  module _ (Cs : Calls 𝓤 H) (Λ : Loops 𝓤 H) (fm : FmC 𝓤 H (W .laws) Cs) (known : Triple 𝓤 (Cs #channel·touch) (Touch 𝓤 H A at-mem run)) where
+  module _ (Cs : Calls 𝓤 H) (Λ : Loops 𝓤 H) (fm : FmC 𝓤 H (W .laws) Cs) (known : Triple 𝓤 (Cs #lending·touch) (Touch 𝓤 H A at-mem run)) where
     walk : ent 𝓤 (onEntry 𝓤 H A f.signature tt tt x at) (WpFn 𝓤 H Cs Λ code.function (channel h ∷ event e ∷ []) Post)
     walk =
         qed W (‵ ftrue ∷ ‵ (owns (C.the-row ∷ E.the-row ∷ []) x at) ∷ []) ∵ enter ! Cs Λ code.function (channel h ∷ event e ∷ []) _ $
@@ -161,14 +161,14 @@ module _ {M : Type 1} (𝓤 : URA M) (H : Heap 𝓤) (A : Atoms 𝓤) (W : Given
         keep ! (1 ∷ []) $ by ! (exits (both (zs .0) r) (is-both (zs .0) r w is-c is) (λ i. both (eq .0 i) (eq .1 i))))))))))))))))))
 
 module _ {M : Type 1} (𝓤 : URA M) (H : Heap 𝓤) (A : Atoms 𝓤) (W : Given 𝓤 H A) (at-mem : Memory → SProp 𝓤) (run : Routine → Fun 𝓤) where
-  lent-walks : (Cs : Calls 𝓤 H) (Λ : Loops 𝓤 H) → FmC 𝓤 H (W .laws) Cs → Triple 𝓤 (Cs #channel·touch) (Touch 𝓤 H A at-mem run) → Walks 𝓤 H A f.ended stayed (WpFn 𝓤 H Cs Λ code.function) (f.clauses 𝓤 H A at-mem run)
+  lent-walks : (Cs : Calls 𝓤 H) (Λ : Loops 𝓤 H) → FmC 𝓤 H (W .laws) Cs → Triple 𝓤 (Cs #lending·touch) (Touch 𝓤 H A at-mem run) → Walks 𝓤 H A f.ended stayed (WpFn 𝓤 H Cs Λ code.function) (f.clauses 𝓤 H A at-mem run)
   lent-walks Cs Λ fm known = walked 𝓤 H A f.ended stayed (f.clauses 𝓤 H A at-mem run) (WpFn 𝓤 H Cs Λ code.function) (λ κs. (LL.vals C.the-type C′.the-laws, (EL.vals E.the-type E′.the-laws, tt))) (λ κs. (LL.tells C.the-type C′.the-laws, (EL.tells E.the-type E′.the-laws, tt)))
       (λ κs qs bounds a _ are. via 𝓤 _ (fst∗ 𝓤 _ (emp 𝓤)) (walk 𝓤 H A W at-mem run (a .0) (a .1 .0) (are .0) (are .1 .0) Cs Λ fm known))
 
   goes : AllGo 𝓤 H A W 0 (f.signature .params) (f.ended .kept) stayed
   goes = (goes-none 𝓤 H A W 0 (λ _. C.the-row) yes (λ κs x f. refl), (goes-none 𝓤 H A W 0 (λ _. E.the-row) yes (λ κs x f. refl), tt))
 
-lent-meets : {M : Type 1} (𝓤 : URA M) (H : Heap 𝓤) (A : Atoms 𝓤) → Given 𝓤 H A → (at-mem : Memory → SProp 𝓤) (run : Routine → Fun 𝓤) (𝓣 : Tables 𝓤 H) → Triple 𝓤 (𝓣 .C #channel·touch) (Touch 𝓤 H A at-mem run)
+lent-meets : {M : Type 1} (𝓤 : URA M) (H : Heap 𝓤) (A : Atoms 𝓤) → Given 𝓤 H A → (at-mem : Memory → SProp 𝓤) (run : Routine → Fun 𝓤) (𝓣 : Tables 𝓤 H) → Triple 𝓤 (𝓣 .C #lending·touch) (Touch 𝓤 H A at-mem run)
     → Meets 𝓤 H A f.signature (WpFn 𝓤 H (𝓣 .C) (𝓣 .Λ) code.function) (f.spec 𝓤 H A at-mem run)
 lent-meets 𝓤 H A W at-mem run 𝓣 known = walk-meets 𝓤 H A f.ended stayed W (goes 𝓤 H A W at-mem run) (f.clauses 𝓤 H A at-mem run) (WpFn 𝓤 H (𝓣 .C) (𝓣 .Λ) code.function) (WpFn-mono 𝓤 H (W .laws) 𝓣 code.function) (lent-walks 𝓤 H A W at-mem run (𝓣 .C) (𝓣 .Λ) (fmOf 𝓤 H (W .laws) 𝓣) known)
 
@@ -176,6 +176,6 @@ pub lent-spec : {M : Type 1} → stated.statement M
 unfolding code.routine tablesOf
 lent-spec 𝓤 H 𝓜 𝓖 𝓡 =
     entered 𝓤 H (tripleOf 𝓤 H (𝓖 .A) f.signature (f.spec 𝓤 H (𝓖 .A) (𝓜 .mem) (𝓡 .run)))
-    (tables 𝓤 H 𝓜 𝓡 code.env .C) (tables 𝓤 H 𝓜 𝓡 code.env .Λ) #channel·lent code.function (code.unfolded 𝓤 H 𝓜 𝓡)
+    (tables 𝓤 H 𝓜 𝓡 code.env .C) (tables 𝓤 H 𝓜 𝓡 code.env .Λ) #lending·lent code.function (code.unfolded 𝓤 H 𝓜 𝓡)
     (lent-meets 𝓤 H (𝓖 .A) (givenOf 𝓤 H 𝓜 𝓖) (𝓜 .mem) (𝓡 .run) (tablesOf 𝓤 H 𝓜 (tables 𝓤 H 𝓜 𝓡 code.env))
-    (cited 𝓤 H (Touch 𝓤 H (𝓖 .A) (𝓜 .mem) (𝓡 .run)) 𝓜 𝓡 code.env #channel·touch touch-def.routine code.calls-channel·touch (touch-thm.met 𝓤 H 𝓜 𝓖 𝓡)))
+    (cited 𝓤 H (Touch 𝓤 H (𝓖 .A) (𝓜 .mem) (𝓡 .run)) 𝓜 𝓡 code.env #lending·touch touch-def.routine code.calls-lending·touch (touch-thm.met 𝓤 H 𝓜 𝓖 𝓡)))

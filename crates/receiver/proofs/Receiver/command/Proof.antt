@@ -1,0 +1,22 @@
+use Rattle.base.specs.PickLaws.{pick-true, pick-false}
+use borrow.Author.Needs.{needs}
+use Rattle.receiver.proofs.Receiver.command.Statement.{statement}
+use Rattle.receiver.proofs.Receiver.command.Tie as tie
+
+turn-requires : tie.Need-turn-requires
+turn-requires c κs = search needs
+
+returns : tie.Need-returns
+returns c = simp (← c .turn .ensures, c .before .if1 .taken, pick-true, pick-false)
+
+clear-requires : tie.Need-clear-requires
+clear-requires c κs = search needs
+
+returns-2 : tie.Need-returns-2
+returns-2 c = simp (← c .clear .ensures, c .before .if2 .taken, c .before .before .if1 .left, pick-true, pick-false)
+
+returns-3 : tie.Need-returns-3
+returns-3 c = simp (c .if2 .left, c .before .if1 .left, pick-true, pick-false)
+
+pub command-spec : {M : Type 1} → statement M
+command-spec = tie.close (tie.spec turn-requires returns clear-requires returns-2 returns-3)

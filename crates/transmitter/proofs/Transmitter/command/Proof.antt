@@ -1,0 +1,16 @@
+use Rattle.base.specs.PickLaws.{pick-true, pick-false}
+use borrow.Author.Needs.{needs}
+use Rattle.transmitter.proofs.Transmitter.command.Statement.{statement}
+use Rattle.transmitter.proofs.Transmitter.command.Tie as tie
+
+clear-requires : tie.Need-clear-requires
+clear-requires c κs = search needs
+
+returns : tie.Need-returns
+returns c = simp (← c .clear .ensures, c .before .if1 .taken, pick-true, pick-false)
+
+returns-2 : tie.Need-returns-2
+returns-2 c = simp (c .if1 .left, pick-true, pick-false)
+
+pub command-spec : {M : Type 1} → statement M
+command-spec = tie.close (tie.spec clear-requires returns returns-2)
