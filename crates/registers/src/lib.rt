@@ -1,10 +1,9 @@
 // The settings of a channel: its registers by name, the mode, the trigger, the divisor and the word length.
 ghost use mathlib.Core.Path.{_≡_};
-ghost use Prim.Native.Nat.{_+_, _*_};
 ghost use lib.Dec.{eqb};
 ghost use Rattle.base.specs.Bits.{bit};
 ghost use Rattle.registers.specs.Words.{trigger, cut};
-ghost use Rattle.registers.specs.Registers.{plainRegister, registerAt, fcrKept};
+ghost use Rattle.registers.specs.Registers.{plainRegister, registerAt, fcrKept, divisor};
 ghost use Rattle.registers.specs.Words.{beyondWord, badArrival};
 
 #[repr(C)]
@@ -135,7 +134,7 @@ impl Settings {
     }
 
     pub fn no_divisor(self) -> bool
-        ensures { λ r. ⌜ r ≡ eqb (self .dll + 256 * self .dlm) 0 ⌝ }
+        ensures { λ r. ⌜ r ≡ eqb (divisor self) 0 ⌝ }
     {
         self.dll as u16 + 256 * self.dlm as u16 == 0
     }
