@@ -1,32 +1,37 @@
--- Sending over a channel: what is written to the THR leaves in order, each byte once, a character time later than the first looks for it.
+-- Sending over a channel: after one idle character time what was written to the THR leaves in that order, each byte once, cut to the word length.
 use Prim.Native.Nat.{ℕ, zero, suc, _+_, _<_, _≤_}
 use mathlib.Core.Bool.{Bool, true, false}
 use mathlib.Core.List.{List, [], _∷_, _++_, map, map-map, map-append}
 use mathlib.Core.Path.{_≡_, refl, ap, ap₂, sym, _∙_}
 use mathlib.Core.Logic.{⊎-elim}
+use native.Mathlib.Omega.{arith}
 use lib.Dec.{leb}
 use lib.ListN.{length, replicate}
+use Rattle.base.specs.Pick.{pick}
 use Rattle.base.specs.PickLaws.{pick-true, pick-false, either-way}
-use Rattle.base.specs.Bits.{bit}
+use Rattle.base.specs.Bits.{bit, digit, bits}
 use Rattle.base.specs.declared.Answer.{Answer}
 use Rattle.base.specs.declared.Answer.the-variants.{Byte, Done, Sent, Idle, Break, Vector, Spurious, Place, Divisor, Refused}
 use Rattle.queue.specs.Queue.{capacity}
 use Rattle.registers.specs.Words.{cut}
+use Rattle.registers.specs.Registers.{fcrKept}
 use Rattle.transmitter.specs.declared.Transmitter.{Transmitter}
-use Rattle.transmitter.specs.Transmitter.{allSent, written, shifted}
+use Rattle.transmitter.specs.Transmitter.{noneWaiting, allSent, written, shifted}
 use Rattle.transmitter.specs.Sending.{writtenAll, leaving, afterTimes}
 use Rattle.transmitter.specs.Sending as side
+use Rattle.transmitter.specs.SoundLaws as still
+use Rattle.receiver.specs.SoundLaws as heard
 use Rattle.transmitter.specs.SendingLaws.{sends-in-order, idle-at-last, flag-at-last}
 use Rattle.receiver.specs.Receiver.{waited}
 use Rattle.channel.specs.declared.Channel.{Channel}
 use Rattle.channel.specs.declared.Stepped.{Stepped}
 use Rattle.channel.specs.declared.SeatEvent.{SeatEvent}
 use Rattle.channel.specs.declared.SeatEvent.the-variants.{Write, Time}
-use Rattle.channel.specs.Parts.{withTransmitter, divisorShown, fifo}
+use Rattle.channel.specs.Parts.{powerUp, withSettings, withTransmitter, divisorShown, fifo}
 use Rattle.channel.specs.Sound.{soundChannel}
 use Rattle.channel.specs.Steps.{stepped}
 use Rattle.channel_laws.specs.RefusalLaws.{undivided}
-use Rattle.channel_laws.specs.SoundLaws.{parts}
+use Rattle.channel_laws.specs.SoundLaws.{parts, whole}
 use Rattle.channel_laws.specs.WireLaws.{broken, sent, idle}
 use Rattle.channel_laws.specs.SideLaws.{thr-writes, time-shifts}
 use Rattle.channel_laws.specs.Sends.{afterEvents, answersTo, sending}
@@ -167,3 +172,29 @@ pub flag-sent : (c : Channel) (byte : ℕ) (bytes : List ℕ) → soundChannel c
 flag-sent c byte bytes sound at-rest going plain fits k =
     ap (λ (t : Transmitter). t .flag) (sides-after c sound at-rest going plain (byte ∷ bytes) fits k)
     ∙ flag-at-last (fifo c) (c .transmitter) byte bytes (parts c sound .transmitter) at-rest fits k
+
+-- ---- there is such a channel
+
+-- FIFO mode, words of five bits, divisor 12
+abbrev five : Channel
+five = withSettings powerUp (record { ier = 0; fcr = 0x81; lcr = 0x00; mcr = 0; scratch = 0; dll = 12; dlm = 0 })
+
+five-sound : soundChannel five ≡ true
+unfolding fcrKept bits digit bit pick
+five-sound =
+    whole five
+    (record {
+      enables = omega arith;
+      modes = refl;
+      outputs = omega arith;
+      levels = omega arith;
+      changes = omega arith;
+      receiver = heard.power-up-sound (fifo five);
+      transmitter = still.power-up-sound (fifo five);
+    })
+
+-- three bytes leave it by their five lower bits
+pub five-bits : answersTo five (sending (0x41 ∷ 0x20 ∷ 0x1F ∷ []) 5)
+    ≡ Done ∷ Done ∷ Done ∷ Idle ∷ Sent 0x01 ∷ Sent 0x00 ∷ Sent 0x1F ∷ Idle ∷ []
+unfolding allSent noneWaiting capacity cut bit pick
+five-bits = sends five five-sound refl refl refl (0x41 ∷ 0x20 ∷ 0x1F ∷ []) (omega arith) refl 1
