@@ -3,7 +3,6 @@ use Prim.Native.Nat.{ℕ, _+_}
 use mathlib.Core.List.{[], _∷_, map}
 use mathlib.Core.Path.{_≡_, refl}
 use Rattle.base.specs.Answers.{refusalOf, valueOf}
-use Rattle.base.specs.declared.Answer.{Answer}
 use Rattle.base.specs.declared.Answer.the-variants.{Byte, Done, Sent, Idle, Break, Vector, Spurious, Place, Divisor, Refused}
 
 -- "read register", "read controller": "the byte"

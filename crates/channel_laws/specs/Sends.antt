@@ -1,5 +1,5 @@
 -- A channel by itself, over some events.
-use Prim.Native.Nat.{ℕ, suc}
+use Prim.Native.Nat.{ℕ}
 use mathlib.Core.List.{List, [], _∷_, _++_, map}
 use lib.ListN.{replicate}
 use Rattle.base.specs.declared.Answer.{Answer}

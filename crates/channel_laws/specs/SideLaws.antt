@@ -1,9 +1,8 @@
--- What reaches the two sides of a channel: each of these events is one call of a side, and nothing else moves.
+-- What reaches the two register-0 of a channel: each of these events is one call of a side, and nothing else moves.
 use Prim.Native.Nat.{ℕ}
 use mathlib.Core.Bool.{Bool, true, false, not}
 use mathlib.Core.Path.{_≡_, refl, ap}
 use Rattle.base.specs.Pick.{pick}
-use Rattle.base.specs.Bits.{bit}
 use Rattle.base.specs.declared.Answer.the-variants.{Byte, Done}
 use Rattle.receiver.specs.Receiver.{received, got, waited}
 use Rattle.transmitter.specs.Transmitter.{written, shifted}
@@ -36,17 +35,17 @@ module _ (c : Channel) where
 
   -- with LCR bit 7 clear, register 0 is the RBR for reads and the THR for writes
   module _ (plain : divisorShown c ≡ false) where
-    sides : registerAt (divisorShown c) 0 ≡ RbrThr
+    register-0 : registerAt (divisorShown c) 0 ≡ RbrThr
     unfolding registerAt plainRegister pick
-    sides = ap (λ (shown : Bool). registerAt shown 0) plain
+    register-0 = ap (λ (shown : Bool). registerAt shown 0) plain
 
     -- "THR write queues the byte and clears the holding-empty flag."
     pub thr-writes : (byte : ℕ)
         → stepped c (Write 0 byte) ≡ record { channel = withTransmitter c (written (fifo c) (c .transmitter) byte); answer = Done }
     unfolding afterWrite
-    thr-writes byte = write-at c 0 byte RbrThr refl sides
+    thr-writes byte = write-at c 0 byte RbrThr refl register-0
 
     -- "RBR read takes the oldest character and sets the time-out count to 0."
     pub rbr-gets : stepped c (Read 0) ≡ record { channel = withReceiver c (got (c .receiver) .receiver); answer = Byte (got (c .receiver) .byte) }
     unfolding afterRead byteAt
-    rbr-gets = read-at c 0 RbrThr refl sides
+    rbr-gets = read-at c 0 RbrThr refl register-0
