@@ -1,6 +1,6 @@
 -- A channel and its parts: what stands in it at power-up, and its modes.
 use Prim.Native.Nat.{ℕ, _+_, _*_}
-use mathlib.Core.Bool.{Bool, true, false, not}
+use mathlib.Core.Bool.{Bool, true, false}
 use Rattle.base.specs.Pick.{pick}
 use Rattle.base.specs.Bits.{bit}
 use Rattle.receiver.specs.declared.Receiver.{Receiver}
@@ -52,11 +52,3 @@ fifo c = bit 0 (c .settings .fcr)
 -- "With LCR bit 7 set, 0 and 1 are DLL and DLM"
 abbrev pub divisorShown : Channel → Bool
 divisorShown c = bit 7 (c .settings .lcr)
-
--- the divisor is the sixteen bits of DLM and DLL
-abbrev pub divisor : Channel → ℕ
-divisor c = c .settings .dll + 256 * c .settings .dlm
-
--- parity is off where LCR bit 3 is clear
-abbrev pub parityOff : ℕ → Bool
-parityOff lcr = not (bit 3 lcr)

@@ -12,9 +12,9 @@ use Rattle.channel.specs.declared.Channel.{Channel}
 use Rattle.channel.specs.declared.Stepped.{Stepped}
 use Rattle.channel.specs.declared.SeatEvent.{SeatEvent}
 use Rattle.channel.specs.declared.SeatEvent.the-variants.{Read, Write, Arrival, Levels, Time}
-use Rattle.channel.specs.Parts.{divisor, divisorShown}
+use Rattle.channel.specs.Parts.{divisorShown}
 use Rattle.registers.specs.Words.{badArrival}
-use Rattle.registers.specs.Registers.{registerAt}
+use Rattle.registers.specs.Registers.{registerAt, divisor}
 use Rattle.channel.specs.Effects.{byteAt, afterRead, afterWrite, afterArrival, afterLevels, afterTime, timeAnswer}
 
 -- "register above 7, port above 1": of a seat, the register
@@ -29,9 +29,9 @@ registerAbove Time = false
 unfoldable pub noDivisor : Channel → SeatEvent → Bool
 noDivisor c (Read n) = false
 noDivisor c (Write n byte) = false
-noDivisor c (Arrival marks byte) = eqb (divisor c) 0
+noDivisor c (Arrival marks byte) = eqb (divisor (c .settings)) 0
 noDivisor c (Levels levels) = false
-noDivisor c Time = eqb (divisor c) 0
+noDivisor c Time = eqb (divisor (c .settings)) 0
 
 -- refusal 6 is of arrivals alone
 unfoldable pub arrivalWrong : Channel → SeatEvent → Bool

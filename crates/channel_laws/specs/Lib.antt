@@ -6,3 +6,7 @@ pub mod ResetLaws
 pub mod WireLaws
 pub mod SoundLaws
 pub mod SoundStepLaws
+pub mod SideLaws
+pub mod AnswerLaws
+pub mod Sends
+pub mod SendingLaws

@@ -14,8 +14,8 @@ use Rattle.base.specs.declared.Answer.the-variants.{Refused}
 use Rattle.channel.specs.declared.Channel.{Channel}
 use Rattle.channel.specs.declared.SeatEvent.{SeatEvent}
 use Rattle.channel.specs.declared.SeatEvent.the-variants.{Read, Write, Arrival, Levels, Time}
-use Rattle.channel.specs.Parts.{divisor}
 use Rattle.registers.specs.Words.{wordBits}
+use Rattle.registers.specs.RegisterLaws.{divisor-none}
 use Rattle.channel.specs.Steps.{registerAbove, noDivisor, arrivalWrong, levelsAbove, loopAsked, grounds, refusal, effect, stepped}
 use Rattle.registers.specs.Words.{badArrival}
 
@@ -49,17 +49,21 @@ none-held : (c : Channel) (e : SeatEvent) → eqb (refusal c e) 0 ≡ noneHolds 
 unfolding refusal grounds
 none-held c e = none-given (grounds c e) refl
 
+-- "while the divisor is 0": nothing in either of its two registers
+abbrev pub undivided : Channel → Bool
+undivided c = eqb (c .settings .dll) 0 && eqb (c .settings .dlm) 0
+
 -- what a seat accepts, told the other way round: a register below 8, and no MCR write with bit 4; levels below 16; with a divisor, a character
 -- time, and an arrival with marks below 8, within the word length, whose parity mark wants parity and whose break wants data 0
 abbrev pub accepts : Channel → SeatEvent → Bool
 accepts c (Read n) = ltb n 8
 accepts c (Write n byte) = ltb n 8 && not (eqb n 4 && bit 4 byte)
 accepts c (Arrival marks byte) =
-    not (eqb (divisor c) 0)
+    not (undivided c)
     && (ltb marks 8 && ltb byte (2 ^ wordBits (c .settings .lcr)) && (not (bit 0 marks) || bit 3 (c .settings .lcr))
     && (not (bit 2 marks) || eqb byte 0))
 accepts c (Levels levels) = ltb levels 16
-accepts c Time = not (eqb (divisor c) 0)
+accepts c Time = not (undivided c)
 
 below : (a b : ℕ) → not (leb b a) ≡ ltb a b
 below a b =
@@ -86,11 +90,11 @@ accepted c (Write n byte) = none-held c (Write n byte) ∙ ap₂ _&&_ (below n 8
 accepted c (Arrival marks byte) =
     let lcr = c .settings .lcr in
     none-held c (Arrival marks byte)
-    ∙ ap (λ (b : Bool). not (eqb (divisor c) 0) && b)
+    ∙ ap₂ (λ (a b : Bool). not a && b) (divisor-none (c .settings))
     (and-true _ ∙ unhindered (ltb 7 marks) (leb (2 ^ wordBits lcr) byte) (bit 0 marks) (bit 3 lcr) (bit 2 marks) (eqb byte 0)
     ∙ (λ i. below marks 8 i && below byte (2 ^ wordBits lcr) i && (not (bit 0 marks) || bit 3 lcr) && (not (bit 2 marks) || eqb byte 0)))
 accepted c (Levels levels) = none-held c (Levels levels) ∙ and-true _ ∙ below levels 16
-accepted c Time = none-held c Time ∙ and-true _
+accepted c Time = none-held c Time ∙ and-true _ ∙ ap not (divisor-none (c .settings))
 
 -- what is accepted is done
 pub done : (c : Channel) (e : SeatEvent) → accepts c e ≡ true → stepped c e ≡ effect c e

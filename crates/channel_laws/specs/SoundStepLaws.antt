@@ -24,7 +24,7 @@ use Rattle.registers.specs.declared.Register.{Register}
 use Rattle.registers.specs.declared.Register.the-variants.{RbrThr, Ier, IirFcr, Lcr, Mcr, Lsr, Msr, Scratch, Dll, Dlm}
 use Rattle.channel.specs.declared.SeatEvent.{SeatEvent}
 use Rattle.channel.specs.declared.SeatEvent.the-variants.{Read, Write, Arrival, Levels, Time}
-use Rattle.channel.specs.Parts.{divisorShown, divisor, fifo}
+use Rattle.channel.specs.Parts.{divisorShown, fifo}
 use Rattle.registers.specs.Registers.{plainRegister, registerAt, fcrKept}
 use Rattle.channel.specs.Status.{cause}
 use Rattle.channel.specs.Effects.{iirRead, lsrRead, msrRead, afterRead, ierWritten, modeChanged, fcrReceiver, fcrTransmitter, fcrWritten, afterWrite, afterArrival, afterLevels, afterTime}
@@ -33,7 +33,7 @@ use Rattle.channel.specs.Sound.{soundChannel}
 use Rattle.channel.specs.CauseLaws.{late-at-four}
 use Rattle.registers.specs.ModemLaws.{differ-xor, changes-small}
 use Rattle.channel.specs.ModeLaws.{fcr-off, mode-after}
-use Rattle.channel_laws.specs.RefusalLaws.{accepts, done, refused}
+use Rattle.channel_laws.specs.RefusalLaws.{undivided, accepts, done, refused}
 use Rattle.channel_laws.specs.SoundLaws.{Sound, parts, whole, with-receiver, with-transmitter, with-modem, with-settings}
 
 -- ---- reads
@@ -206,7 +206,7 @@ effect-sound c (Read n) fine s = read-sound c (registerAt (divisorShown c) n) s
 effect-sound c (Write n byte) fine s =
     write-sound c (registerAt (divisorShown c) n) byte (register-taken n byte (both-hold (ltb n 8) _ fine .1) (divisorShown c)) s
 effect-sound c (Arrival marks byte) fine s =
-    let all = both-hold (not (eqb (divisor c) 0)) _ fine .1 in
+    let all = both-hold (not (undivided c)) _ fine .1 in
     let small : marks < 8 = ltb-true _ _ (both-hold _ _ (both-hold _ _ (both-hold _ _ all .0) .0) .0) in
     with-receiver c _ s (heard.receive-sound (fifo c) (c .receiver) (record { «data» = byte; marks = marks }) (s .receiver) small)
 effect-sound c (Levels levels) fine s = with-modem c _ s (ltb-true levels 16 fine) (changes-small (c .modem .changes) (c .modem .levels) levels)

@@ -2,22 +2,21 @@
 use Prim.Native.Nat.{ℕ, _<_}
 use mathlib.Core.Bool.{true, false, not}
 use mathlib.Core.Path.{_≡_, refl, ap, _∙_}
-use lib.Dec.{eqb}
 use borrow.Author.Tests.{lt-ltb}
 use Rattle.base.specs.PickLaws.{pick-true, pick-false}
 use Rattle.base.specs.Bits.{bit}
 use Rattle.base.specs.declared.Answer.the-variants.{Done, Sent, Idle, Break}
 use Rattle.channel.specs.declared.Channel.{Channel}
 use Rattle.channel.specs.declared.SeatEvent.the-variants.{Levels, Time}
-use Rattle.channel.specs.Parts.{withSettings, withModem, divisor}
+use Rattle.channel.specs.Parts.{withSettings, withModem}
 use Rattle.registers.specs.Words.{cut}
 use Rattle.registers.specs.Registers.{withLcr}
 use Rattle.registers.specs.Modem.{changesAfter}
 use Rattle.channel.specs.Effects.{afterLevels, afterTime, timeAnswer}
 use Rattle.channel.specs.Steps.{effect, stepped}
-use Rattle.channel_laws.specs.RefusalLaws.{done}
+use Rattle.channel_laws.specs.RefusalLaws.{undivided, done}
 
-module _ (c : Channel) (going : eqb (divisor c) 0 ≡ false) where
+module _ (c : Channel) (going : undivided c ≡ false) where
   answered : stepped c Time .answer ≡ timeAnswer c
   unfolding effect
   answered = ap (λ s. s .answer) (done c Time (ap not going))

@@ -8,7 +8,7 @@ use Rattle.base.specs.Answers.{refusalOf, valueOf}
 use Rattle.base.specs.Bits.{bit, digit, bits}
 use lib.Dec.{eqb}
 use Rattle.registers.specs.declared.Settings.{Settings}
-use Rattle.registers.specs.Registers.{kept, registerAt}
+use Rattle.registers.specs.Registers.{divisor, kept, registerAt}
 use Rattle.registers.specs.Modem.{changesAfter, differ, msrOf}
 use Rattle.registers.specs.declared.Register.{Register}
 use Rattle.registers.specs.Words.{badArrival, cut, trigger}
@@ -85,7 +85,7 @@ pub record RegistersOnce : Type 0 where
   pub registers·Settings·register : (self : Settings) (number : ℕ) → Once (λ r. r ≡ registerAt (bit 7 (self .lcr)) number)
   pub registers·Settings·changes-mode : (self : Settings) (byte : ℕ) → Once (λ r. r ≡ differ (bit 0 (self .fcr)) (bit 0 byte))
   pub registers·Settings·write : (self : Settings) (register : Register) (byte : ℕ) → Once (λ r. r ≡ kept self register byte)
-  pub registers·Settings·no-divisor : (self : Settings) → Once (λ r. r ≡ eqb (self .dll + 256 * self .dlm) 0)
+  pub registers·Settings·no-divisor : (self : Settings) → Once (λ r. r ≡ eqb (divisor self) 0)
   pub registers·Settings·cut : (self : Settings) (byte : ℕ) → Once (λ r. r ≡ cut (self .lcr) byte)
   pub registers·changes-after : (changes before after : ℕ) → Once (λ r. r ≡ changesAfter changes before after)
   pub registers·modem-status : (changes inputs : ℕ) → Once (λ r. r ≡ msrOf changes inputs)

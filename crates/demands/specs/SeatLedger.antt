@@ -52,7 +52,8 @@ queuedAt n b = queued (side (seat b n .channel))
 abbrev pub SoundAt : ℕ → Bench → Type 0
 SoundAt n b = soundReceiver (fifo (seat b n .channel)) (seat b n .channel .receiver) ≡ true
 
--- from any bench of eight seats on: what is read, and then what still waits, came in that order; and every character is accounted for
+-- from any bench of eight seats on, where the receive side of seat n is sound: what is read, and then what still waits, came in that order; and
+-- every character is accounted for
 pub record Kept (n : ℕ) (b : Bench) (rs : List Record) : Type 0 where
   pub in-order : Subsequence (readAt n b rs ++ queuedAt n (afterAll b rs)) (queuedAt n b ++ arrivedAt n b rs)
   pub balanced : length (arrivedAt n b rs) + length (queuedAt n b)

@@ -11,6 +11,7 @@ use borrow.Author.Tests.{ltb-true, ltb-false, ne-eqb}
 use Rattle.base.specs.Pick.{pick}
 use Rattle.base.specs.PickLaws.{pick-true, pick-false, either-way}
 use Rattle.base.specs.EveryLaws.{equal-at}
+use Rattle.base.specs.Bits.{digit}
 use Rattle.base.specs.Answers.{refusalOf, valueOf}
 use Rattle.base.specs.declared.Answer.{Answer}
 use Rattle.bench.specs.Events.{Record}
@@ -83,6 +84,22 @@ decimal-leads =
     (λ n h first some.
     rw (decimal-large n h, first-stays (decimal (n / 10)) (numeral (n % 10) ∷ []) (some-digit (n / 10))) (first (omega arith)))
 
+-- a number in decimal: digits that denote it, with no zero in front, but of the number 0 one
+pub record Decimal (n : ℕ) (l : List ℕ) : Type 0 where
+  pub digits : Digits l
+  pub denotes : denoted 0 l ≡ n
+  pub leads : 0 < n → 48 < getD l 0 0
+  pub none : n ≡ 0 → l ≡ 48 ∷ []
+
+decimal-form : (n : ℕ) → Decimal n (decimal n)
+decimal-form n =
+    record {
+      digits = decimal-digits n;
+      denotes = decimal-denotes n;
+      leads = decimal-leads n;
+      none = λ (e : n ≡ 0). ap decimal e ∙ decimal-small 0 (omega arith);
+    }
+
 -- ---- hexadecimal capitals
 
 -- the digit that a capital denotes
@@ -116,8 +133,16 @@ value-denoted v h =
 
 -- ---- the form of a line
 
--- digits, a space, digits, a space, three capitals, a space, 0 or 1, the line's end
-pub record Form (l : List ℕ) : Type 0 where
+-- the output is shown as 1 exactly if it is high
+pub output-shown : (o : Bool) → outputDigit o ≡ 48 + digit o
+unfolding outputDigit digit pick
+output-shown true = refl
+output-shown false = refl
+
+-- "A line each: record number in decimal from 0, refusal number (0 for none), answer in three hex capitals, output after the event; single
+-- spaces, no header.": a number in decimal, a space, another, a space, three capitals, a space, 0 or 1, the line's end; and what each of them
+-- denotes, which for an answer is a value of three digits
+pub record Form (n : ℕ) (a : Answer) (o : Bool) (l : List ℕ) : Type 0 where
   pub number : List ℕ
   pub refusal : List ℕ
   pub high : ℕ
@@ -125,17 +150,13 @@ pub record Form (l : List ℕ) : Type 0 where
   pub low : ℕ
   pub output : ℕ
   pub is : l ≡ number ++ (32 ∷ (refusal ++ (32 ∷ high ∷ middle ∷ low ∷ 32 ∷ output ∷ 10 ∷ [])))
-  pub number-digits : Digits number
-  pub refusal-digits : Digits refusal
+  pub number-denotes : Decimal n number
+  pub refusal-denotes : Decimal (refusalOf a) refusal
   pub capitals : Capital high × Capital middle × Capital low
-  pub binary : (48 ≤ output) × (output ≤ 49)
+  pub capitals-denote : valueOf a < 4096 → 256 * hexDenoted high + 16 * hexDenoted middle + hexDenoted low ≡ valueOf a
+  pub output-denotes : output ≡ 48 + digit o
 
-output-binary : (o : Bool) → (48 ≤ outputDigit o) × (outputDigit o ≤ 49)
-unfolding outputDigit pick
-output-binary true = (omega arith, omega arith)
-output-binary false = (omega arith, omega arith)
-
-pub line-form : (n : ℕ) (a : Answer) (o : Bool) → Form (line n a o)
+pub line-form : (n : ℕ) (a : Answer) (o : Bool) → Form n a o (line n a o)
 unfolding line
 line-form n a o = record {
   number = decimal n;
@@ -145,10 +166,11 @@ line-form n a o = record {
   low = capital (valueOf a % 16);
   output = outputDigit o;
   is = refl;
-  number-digits = decimal-digits n;
-  refusal-digits = decimal-digits (refusalOf a);
+  number-denotes = decimal-form n;
+  refusal-denotes = decimal-form (refusalOf a);
   capitals = (capital-form _ (omega arith), capital-form _ (omega arith), capital-form _ (omega arith));
-  binary = output-binary o;
+  capitals-denote = value-denoted (valueOf a);
+  output-denotes = output-shown o;
 }
 
 -- ---- a line for each record
@@ -184,21 +206,21 @@ ending-ends : (high middle low output : ℕ) → 10 < high → 10 < middle → 1
 ending-ends high middle low output h m l o =
     no-end 32 _ (omega arith) ∙ no-end high _ h ∙ no-end middle _ m ∙ no-end low _ l ∙ no-end 32 _ (omega arith) ∙ no-end output _ o ∙ one-ends
 
-form-ends : (l : List ℕ) → Form l → lineEnds l ≡ 1
-form-ends l f =
+form-ends : (n : ℕ) (a : Answer) (o : Bool) (l : List ℕ) → Form n a o l → lineEnds l ≡ 1
+form-ends n a o l f =
     let c : _ = f .capitals in
     let e : lineEnds (32 ∷ f .high ∷ f .middle ∷ f .low ∷ 32 ∷ f .output ∷ 10 ∷ []) ≡ 1 =
     ending-ends (f .high) (f .middle) (f .low) (f .output)
-    (omega (arith, c .0 .0)) (omega (arith, c .1 .0)) (omega (arith, c .2 .0)) (omega (arith, f .binary .0)) in
+    (omega (arith, c .0 .0)) (omega (arith, c .1 .0)) (omega (arith, c .2 .0)) (omega (arith, f .output-denotes)) in
     let g : lineEnds (32 ∷ (f .refusal ++ (32 ∷ f .high ∷ f .middle ∷ f .low ∷ 32 ∷ f .output ∷ 10 ∷ []))) ≡ 1 =
     no-end 32 _ (omega arith)
     ∙ ends-append (f .refusal) _
-    ∙ rw (digits-end (f .refusal) (f .refusal-digits), e) in
-    ap lineEnds (f .is) ∙ ends-append (f .number) _ ∙ rw (digits-end (f .number) (f .number-digits), g)
+    ∙ rw (digits-end (f .refusal) (f .refusal-denotes .digits), e) in
+    ap lineEnds (f .is) ∙ ends-append (f .number) _ ∙ rw (digits-end (f .number) (f .number-denotes .digits), g)
 
 pub line-each : (b : Bench) (n : ℕ) (rs : List Record) → lineEnds (listing b n rs) ≡ length rs
 unfolding listing
 line-each b n [] = none-ends
 line-each b n (r ∷ rs) =
     ends-append (lineOf b n r) _
-    ∙ rw (form-ends (lineOf b n r) (line-form n _ _), line-each (outcome b r .bench) (suc n) rs) (omega arith)
+    ∙ rw (form-ends n _ _ (lineOf b n r) (line-form n _ _), line-each (outcome b r .bench) (suc n) rs) (omega arith)

@@ -1,5 +1,5 @@
 -- Which register a number names, and what a register keeps of a byte.
-use Prim.Native.Nat.{ℕ, _%_, _^_}
+use Prim.Native.Nat.{ℕ, _+_, _*_, _%_, _^_}
 use mathlib.Core.Bool.{Bool, true, false}
 use mathlib.Core.List.{[], _∷_}
 use lib.Dec.{eqb}
@@ -38,6 +38,10 @@ mcrKept byte = byte % 2 ^ 5
 unfoldable pub fcrKept : ℕ → ℕ
 fcrKept byte =
     pick (bit 0 byte) (bits (true ∷ false ∷ false ∷ bit 3 byte ∷ false ∷ false ∷ bit 6 byte ∷ bit 7 byte ∷ [])) 0
+
+-- the divisor is the sixteen bits of DLM and DLL
+abbrev pub divisor : Settings → ℕ
+divisor s = s .dll + 256 * s .dlm
 
 -- the settings with another register
 abbrev pub withIer : Settings → ℕ → Settings

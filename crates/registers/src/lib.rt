@@ -4,11 +4,10 @@ mod modem;
 pub use modem::changes_after;
 pub use modem::modem_status;
 ghost use mathlib.Core.Path.{_≡_};
-ghost use Prim.Native.Nat.{_+_, _*_};
 ghost use lib.Dec.{eqb};
 ghost use Rattle.base.specs.Bits.{bit};
 ghost use Rattle.registers.specs.Words.{trigger, cut};
-ghost use Rattle.registers.specs.Registers.{plainRegister, registerAt, fcrKept, kept};
+ghost use Rattle.registers.specs.Registers.{plainRegister, registerAt, fcrKept, kept, divisor};
 ghost use Rattle.registers.specs.Modem.{differ};
 ghost use Rattle.registers.specs.Words.{beyondWord, badArrival};
 
@@ -184,7 +183,7 @@ impl Settings {
     }
 
     pub fn no_divisor(self) -> bool
-        ensures { λ r. ⌜ r ≡ eqb (self .dll + 256 * self .dlm) 0 ⌝ }
+        ensures { λ r. ⌜ r ≡ eqb (divisor self) 0 ⌝ }
     {
         self.dll as u16 + 256 * self.dlm as u16 == 0
     }

@@ -19,7 +19,7 @@ use Rattle.queue.specs.AcceptLaws.{capacity-small}
 use Rattle.transmitter.specs.declared.Transmitter.{Transmitter}
 use Rattle.transmitter.specs.Transmitter.{allSent, written, shifted}
 use Rattle.transmitter.specs.Sending.{toSend, writtenAll, leaving, sending, afterTimes}
-use Rattle.transmitter.specs.CallLaws.{write-room, shift-none, shift-last, shift-more}
+use Rattle.transmitter.specs.CallLaws.{all-sent, write-room, shift-none, shift-last, shift-more}
 use Rattle.transmitter.specs.Sound.{soundTransmitter}
 use Rattle.transmitter.specs.SoundLaws.{idle-holds}
 
@@ -95,6 +95,15 @@ all-leave (byte ∷ bytes) t k fits held =
     ∙ ap₂ (λ (a : Answer) (l : List Answer). a ∷ l) (pick-true _ _ _ (m .busy) ∙ ap Sent (m .shift))
     (all-leave bytes (shifted t) k (omega arith) (m .queue))
 
+-- one character time for each that waits, and one for the last to leave
+all-out : (bytes : List ℕ) (t : Transmitter) → length bytes ≤ 16 → t .queue ≡ holding (map toSend bytes)
+    → allSent (afterTimes (suc (length bytes)) t) ≡ true
+unfolding afterTimes
+all-out [] t fits held = ap allSent (shift-none t held) ∙ all-sent _ [] refl
+all-out (byte ∷ bytes) t fits held =
+    let n = length-map bytes toSend in
+    all-out bytes (shifted t) (omega arith) (moves-in t (toSend byte) (map toSend bytes) held (omega (arith, n)) .queue)
+
 module _ (fifo : Bool) (t : Transmitter) (sound : soundTransmitter fifo t ≡ true) (idle : allSent t ≡ true)
     (bytes : List ℕ) (fits : length bytes ≤ capacity fifo) where
   -- as many bytes as the queue takes, written to an idle send side: idle at the first character time, then each byte in its turn, then idle again
@@ -108,6 +117,12 @@ module _ (fifo : Bool) (t : Transmitter) (sound : soundTransmitter fifo t ≡ tr
       ap (λ (n : ℕ). sending n (writtenAll fifo t bytes)) one
       ∙ ap₂ (λ (a : Answer) (l : List Answer). a ∷ l) (leaves-idle (writtenAll fifo t bytes) (w .busy ∙ start .1))
       (all-leave bytes (writtenAll fifo t bytes) k (omega arith) (w .queue))
+
+  -- and by the character time at which the last byte left, all is sent
+  pub idle-at-last : allSent (afterTimes (suc (length bytes)) (writtenAll fifo t bytes)) ≡ true
+  idle-at-last =
+      let w = all-wait fifo t [] bytes (idle-holds fifo t sound idle .0) (omega arith) in
+      all-out bytes (writtenAll fifo t bytes) (omega (arith, capacity-small fifo)) (w .queue)
 
 -- ---- the flag
 
