@@ -1,0 +1,4 @@
+pub mod Text
+pub mod Fault
+pub mod Place
+pub mod Lesson
