@@ -14,7 +14,7 @@ use Rattle.lesson.specs.declared.faults.Found.{Found}
 use Rattle.lesson.specs.declared.faults.Found.the-variants.{At, Nowhere}
 use Rattle.lesson.specs.declared.Lesson.{Lesson}
 use Rattle.lesson.specs.declared.Lesson.the-variants.{Bytes, TooLong}
-use Rattle.lesson.proofs.Walks.{pair-count}
+use Rattle.lesson.specs.TextLaws.{pair-count}
 
 module _ (text d : List ℕ) where
   pub too-long : longest < length text → Reads text d d TooLong

@@ -1,5 +1,5 @@
 -- One character further along a text: what each loop keeps.
-use Prim.Native.Nat.{ℕ, suc, _+_, _*_, _/_, _≤_, _<_}
+use Prim.Native.Nat.{ℕ, suc, _+_, _*_, _≤_, _<_}
 use mathlib.Core.Bool.{Bool, true, false}
 use mathlib.Core.List.{List, [], _∷_, _++_}
 use mathlib.Core.Path.{_≡_, refl, sym, ap, _∙_}
@@ -97,12 +97,6 @@ module _ (comment : Bool) (text : List ℕ) (i : ℕ) (inside : i < length text)
 pub digits-end : (comment : Bool) (text : List ℕ) (i : ℕ) → length text ≤ i → digitsFrom comment text i ≡ []
 unfolding told worths
 digits-end comment text i h = rw (drop-of-length-le text h)
-
-pub pair-count : (l : List ℕ) → length (paired l) ≡ length l / 2
-unfolding paired
-pair-count [] = refl
-pair-count (a ∷ []) = refl
-pair-count (a ∷ b ∷ l) = let e : length (paired l) ≡ length l / 2 = pair-count l in omega arith
 
 -- ---- the bytes in a buffer
 

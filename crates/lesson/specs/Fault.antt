@@ -1,5 +1,5 @@
 -- The faults of a text, by the rules at the head of Text.
-use Prim.Native.Nat.{ℕ, suc, _+_, _%_, _≤_}
+use Prim.Native.Nat.{ℕ, suc, _+_, _%_}
 use mathlib.Core.Bool.{Bool, true, false, not}
 use mathlib.Core.List.{List, [], _∷_}
 use lib.Dec.{ltb, eqb}
@@ -40,8 +40,3 @@ faultFrom s at (c ∷ rest) = pick (faulty s c) (At at) (faultFrom (after s c) (
 
 unfoldable pub faultOf : List ℕ → Found
 faultOf text = faultFrom start 0 text
-
--- a fault stands in the text, or right behind it
-abbrev pub Within : Found → ℕ → Type 0
-Within (At at) length = at ≤ length
-Within Nowhere length = Unit {0}

@@ -2,3 +2,8 @@ pub mod Text
 pub mod Fault
 pub mod Place
 pub mod Lesson
+pub mod Plain
+pub mod TextLaws
+pub mod FaultLaws
+pub mod PlaceLaws
+pub mod LessonLaws

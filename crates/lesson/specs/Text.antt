@@ -2,8 +2,8 @@
 --
 -- A lesson is written in an editor, and its text goes by these rules:
 --  1. A byte is two hexadecimal digits, capital or small, that stand together. A record is four bytes.
---  2. Space, tab, carriage return and line feed are white space. It may stand between records, and all of it but the line feed between the
---     bytes of one record.
+--  2. Space, tab, carriage return and line feed are white space. It may stand between records; and, but for the line feed, between the bytes
+--     of one record.
 --  3. A number sign begins a comment, which runs to the end of the line.
 --  4. A record stands on one line. Where a line ends within a record, with or without a comment, the next digit of the text is a fault.
 --     But the text may end within a record: what there is of it goes to the bench, which refuses it by number 4.
@@ -42,9 +42,12 @@ digit c = pick (within 48 57 c) (c - 48) (pick (within 65 70 c) (c - 65 + 10) (p
 abbrev pub isDigit : ℕ → Bool
 isDigit c = ltb (digit c) 16
 
+abbrev pub white : ℕ → Bool
+white c = eqb c space || eqb c tab || eqb c carriageReturn || eqb c lineFeed
+
 -- what may stand between two bytes: white space, and the number sign
 unfoldable pub apart : ℕ → Bool
-apart c = eqb c space || eqb c tab || eqb c carriageReturn || eqb c lineFeed || eqb c numberSign
+apart c = white c || eqb c numberSign
 
 -- ---- comments
 

@@ -1,9 +1,7 @@
 // The first fault of a text.
 use crate::characters;
 ghost use mathlib.Core.Path.{_≡_};
-ghost use Prim.Native.Nat.{_≤_};
-ghost use lib.ListN.{length};
-ghost use Rattle.lesson.specs.Fault.{faultOf, faulty, next, Within};
+ghost use Rattle.lesson.specs.Fault.{faultOf, faulty, next};
 ghost use Rattle.lesson.specs.Fault.{after as Fault·after};
 
 // Where reading stands: how many digits of the record are read, whether a line has ended since its first, and whether a comment
@@ -73,7 +71,7 @@ impl Reading {
 }
 
 pub(crate) fn first_fault(text: &[u8]) -> Found
-    ensures { λ r. ⌜ (r ≡ faultOf (now (text .entry))) × Within r (length (now (text .entry))) ⌝ }
+    ensures { λ r. ⌜ r ≡ faultOf (now (text .entry)) ⌝ }
 {
     let mut reading = Reading {
         digits: 0,

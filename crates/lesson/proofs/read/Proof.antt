@@ -1,6 +1,6 @@
 use mathlib.Core.Path.{_≡_, subst, sym, _∙_}
 use Rattle.lesson.proofs.Ends.{too-long, faulted, no-room, handed, byte-count}
-use Rattle.lesson.specs.Fault.{Within}
+use Rattle.lesson.specs.FaultLaws.{Within, fault-within}
 use Rattle.lesson.specs.Text.{bytesOf}
 use native.Mathlib.Omega.{arith}
 use lib.Seq.{length-take-le}
@@ -21,16 +21,16 @@ enum-known-at c = search needs
 
 slice-aggregate-place-behind : tie.Need-slice-aggregate-place-behind
 slice-aggregate-place-behind c =
-    let inside : c .before .before .at .given .0 .0 ≤ length (c .before .before .before .before .before .before .before .before .args .text .now) = subst (λ f. Within f (length (c .before .before .before .before .before .before .before .before .args .text .now))) (c .before .before .at .given .1) (c .before .before .before .before .first-fault .ensures .1) in
+    let inside : c .before .before .at .given .0 .0 ≤ length (c .before .before .before .before .before .before .before .before .args .text .now) = subst (λ f. Within f (length (c .before .before .before .before .before .before .before .before .args .text .now))) (sym (c .before .before .before .before .first-fault .ensures) ∙ c .before .before .at .given .1) (fault-within (c .before .before .before .before .before .before .before .before .args .text .now)) in
     sym (length-take-le _ _ inside)
 
 place-behind-requires : tie.Need-place-behind-requires
 place-behind-requires c κs =
-    let inside : c .before .before .at .given .0 .0 ≤ length (c .before .before .before .before .before .before .before .before .args .text .now) = subst (λ f. Within f (length (c .before .before .before .before .before .before .before .before .args .text .now))) (c .before .before .at .given .1) (c .before .before .before .before .first-fault .ensures .1) in
+    let inside : c .before .before .at .given .0 .0 ≤ length (c .before .before .before .before .before .before .before .before .args .text .now) = subst (λ f. Within f (length (c .before .before .before .before .before .before .before .before .args .text .now))) (sym (c .before .before .before .before .first-fault .ensures) ∙ c .before .before .at .given .1) (fault-within (c .before .before .before .before .before .before .before .before .args .text .now)) in
     omega (arith, length-take-le _ (c .before .before .before .before .before .before .before .before .args .text .now) inside)
 
 returns-2 : tie.Need-returns-2
-returns-2 c = rw (c .place-behind .ensures) (faulted _ _ (c .before .before .before .before .before .before .if1 .left) _ (sym (c .before .before .before .before .before .first-fault .ensures .0) ∙ c .before .before .before .at .given .1))
+returns-2 c = rw (c .place-behind .ensures) (faulted _ _ (c .before .before .before .before .before .before .if1 .left) _ (sym (c .before .before .before .before .before .first-fault .ensures) ∙ c .before .before .before .at .given .1))
 
 enum-told : tie.Need-enum-told
 enum-told c = search needs
@@ -39,7 +39,7 @@ count-digits-requires : tie.Need-count-digits-requires
 count-digits-requires c κs = search needs
 
 returns-3 : tie.Need-returns-3
-returns-3 c = no-room _ _ (c .before .before .before .before .before .if1 .left) (sym (c .before .before .before .before .first-fault .ensures .0) ∙ c .before .before .enum-told .given .1) (omega (arith, c .before .count-digits .ensures, byte-count (c .before .before .before .before .before .before .before .before .args .text .now)))
+returns-3 c = no-room _ _ (c .before .before .before .before .before .if1 .left) (sym (c .before .before .before .before .first-fault .ensures) ∙ c .before .before .enum-told .given .1) (omega (arith, c .before .count-digits .ensures, byte-count (c .before .before .before .before .before .before .before .before .args .text .now)))
 
 put-bytes-requires : tie.Need-put-bytes-requires
 put-bytes-requires c κs = omega (arith, c .before .before .count-digits .ensures, byte-count (c .before .before .before .before .before .before .before .before .before .args .text .now))
@@ -50,7 +50,7 @@ same-length c = search needs
 returns-4 : tie.Need-returns-4
 returns-4 c =
     let count : length (bytesOf (c .before .before .before .before .before .before .before .before .before .before .before .before .args .text .now)) ≡ c .before .before .before .before .before .count-digits .result / 2 = byte-count (c .before .before .before .before .before .before .before .before .before .before .before .before .args .text .now) ∙ rw (c .before .before .before .before .before .count-digits .ensures) in
-    rw (c .before .before .put-bytes .ensures, ← count) (handed _ _ (c .before .before .before .before .before .before .before .before .before .if1 .left) (sym (c .before .before .before .before .before .before .before .before .first-fault .ensures .0) ∙ c .before .before .before .before .before .before .enum-told .given .1) (omega arith))
+    rw (c .before .before .put-bytes .ensures, ← count) (handed _ _ (c .before .before .before .before .before .before .before .before .before .if1 .left) (sym (c .before .before .before .before .before .before .before .before .first-fault .ensures) ∙ c .before .before .before .before .before .before .enum-told .given .1) (omega arith))
 
 pub read-spec : {M : Type 1} → statement M
 read-spec =

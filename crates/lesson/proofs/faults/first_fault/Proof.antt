@@ -28,10 +28,7 @@ is-faulty-requires : tie.Need-is-faulty-requires Inv-loop μ-loop
 is-faulty-requires c κs = search needs
 
 returns : tie.Need-returns Inv-loop μ-loop
-returns c = (
-  sym (c .before .before .before .before .loop .inv .2 ∙ fault-here (c .before .before .before .before .loop .reading) (c .before .before .before .before .before .before .args .text .now) (c .before .before .before .before .loop .i) (omega arith) (sym (c .before .is-faulty .ensures) ∙ c .if1 .taken)),
-  omega arith,
-)
+returns c = sym (c .before .before .before .before .loop .inv .2 ∙ fault-here (c .before .before .before .before .loop .reading) (c .before .before .before .before .before .before .args .text .now) (c .before .before .before .before .loop .i) (omega arith) (sym (c .before .is-faulty .ensures) ∙ c .if1 .taken))
 
 after-requires : tie.Need-after-requires Inv-loop μ-loop
 after-requires c κs = search needs
@@ -52,12 +49,12 @@ loop-again c = (
 returns-2 : tie.Need-returns-2 Inv-loop μ-loop
 returns-2 c =
     let done : c .before .before .before .loop .i ≡ length (c .before .before .before .before .before .args .text .now) = omega arith in
-    (sym (c .before .before .before .loop .inv .2 ∙ fault-end (c .before .before .before .loop .reading) (c .before .before .before .before .before .args .text .now) (c .before .before .before .loop .i) (omega arith) ∙ pick-true _ _ _ (eq-eqb _ _ (c .if2 .taken)) ∙ ap At done), omega arith)
+    sym (c .before .before .before .loop .inv .2 ∙ fault-end (c .before .before .before .loop .reading) (c .before .before .before .before .before .args .text .now) (c .before .before .before .loop .i) (omega arith) ∙ pick-true _ _ _ (eq-eqb _ _ (c .if2 .taken)) ∙ ap At done)
 
 returns-3 : tie.Need-returns-3 Inv-loop μ-loop
 returns-3 c =
     let done : c .before .before .before .loop .i ≡ length (c .before .before .before .before .before .args .text .now) = omega arith in
-    (sym (c .before .before .before .loop .inv .2 ∙ fault-end (c .before .before .before .loop .reading) (c .before .before .before .before .before .args .text .now) (c .before .before .before .loop .i) (omega arith) ∙ pick-false _ _ _ (ne-eqb _ _ (c .if2 .left))), tt)
+    sym (c .before .before .before .loop .inv .2 ∙ fault-end (c .before .before .before .loop .reading) (c .before .before .before .before .before .args .text .now) (c .before .before .before .loop .i) (omega arith) ∙ pick-false _ _ _ (ne-eqb _ _ (c .if2 .left)))
 
 pub first-fault-spec : {M : Type 1} → statement M
 first-fault-spec =
