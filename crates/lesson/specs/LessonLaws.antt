@@ -2,14 +2,15 @@
 use Prim.Native.Nat.{ℕ, zero, suc, _+_, _*_, _/_, _%_, _≤_, _<_}
 use mathlib.Core.Bool.{Bool, false}
 use mathlib.Core.List.{List, [], _∷_, _++_, append-assoc}
-use mathlib.Core.Path.{_≡_, refl, ap, _∙_}
+use mathlib.Core.Path.{_≡_, refl, sym, ap, subst, _∙_}
 use mathlib.Core.Logic.{_⊎_}
 use native.Mathlib.Omega.{arith}
+use lib.Dec.{ltb}
 use lib.ListN.{length, take, length-append}
 use lib.Seq.{sets, take-at}
-use borrow.Author.Tests.{le-ltb}
+use borrow.Author.Tests.{le-ltb, ltb-false}
 use Rattle.base.specs.Pick.{pick}
-use Rattle.base.specs.PickLaws.{pick-false}
+use Rattle.base.specs.PickLaws.{pick-false, pick-either, pick-cases}
 use Rattle.lesson.specs.Text.{lineFeed, digit, isDigit, apart, commented, bytesOf}
 use Rattle.lesson.specs.TextLaws.{letter-worth, plain-back, feed-no-digit}
 use Rattle.lesson.specs.Fault.{start, faulty, next, after, faultFrom, faultOf}
@@ -19,9 +20,10 @@ use Rattle.lesson.specs.Lesson.{longest, answerBy, lessonOf, handedOut, 
 use Rattle.lesson.specs.Plain.{letter, two, plain, Digits, OneLine, feeds}
 use Rattle.lesson.specs.Plain as plain-form
 use Rattle.lesson.specs.declared.faults.Reading.{Reading}
+use Rattle.lesson.specs.declared.faults.Found.{Found}
 use Rattle.lesson.specs.declared.faults.Found.the-variants.{At, Nowhere}
 use Rattle.lesson.specs.declared.Lesson.{Lesson}
-use Rattle.lesson.specs.declared.Lesson.the-variants.{Bytes, Fault}
+use Rattle.lesson.specs.declared.Lesson.the-variants.{Bytes, Fault, TooLong}
 
 -- ---- the plain form has no fault
 
@@ -114,6 +116,26 @@ reads-back small bs d d′ r all room short reads =
     ∙ pick-false _ _ _ (le-ltb longest (length (plain small bs)) short)
     ∙ rw (good, same) (pick-false _ _ _ (le-ltb (length d) (length bs) room)) in
     (is, reads .bytes ∙ rw (is, same))
+
+-- as many bytes as an answer tells, or more, were lent
+abbrev pub Fits : Lesson → ℕ → Type 0
+Fits (Bytes n) room = n ≤ room
+Fits (Fault line column) room = Unit {0}
+Fits TooLong room = Unit {0}
+
+answer-fits : (f : Found) (text : List ℕ) (room : ℕ) → Fits (answerBy f text room) room
+unfolding answerBy
+answer-fits (At at) text room = tt
+answer-fits Nowhere text room =
+    pick-cases (λ (r : Lesson). Fits r room) (ltb room (length (bytesOf text))) TooLong (Bytes (length (bytesOf text)))
+    (λ more. tt)
+    (λ less. ltb-false room (length (bytesOf text)) less)
+
+pub bytes-fit : (text d d′ : List ℕ) (n : ℕ) → Reads text d d′ (Bytes n) → n ≤ length d
+unfolding lessonOf
+bytes-fit text d d′ n reads =
+    subst (λ (r : Lesson). Fits r (length d)) (sym (reads .told))
+    (pick-either (λ (r : Lesson). Fits r (length d)) (ltb longest (length text)) _ _ tt (answer-fits (faultOf text) text (length d)))
 
 digits-line : (ds : List ℕ) → Digits ds → OneLine ds
 digits-line [] all = tt
