@@ -33,7 +33,7 @@ fn fault(path: &[u8], line: usize, column: usize) {
     io::print_decimal(STDERR_FILENO, column as u64);
     io::write_all(
         STDERR_FILENO,
-        b": no lesson goes on like this; nothing was run\n",
+        b": the text is at fault here; nothing was run\n",
     );
 }
 
