@@ -7,3 +7,4 @@ pub mod TextLaws
 pub mod FaultLaws
 pub mod PlaceLaws
 pub mod LessonLaws
+pub mod EvenLaws

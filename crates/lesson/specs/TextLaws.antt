@@ -1,17 +1,17 @@
 -- What is written in digits is read back, whatever stands in comments.
-use Prim.Native.Nat.{ℕ, suc, _+_, _*_, _/_, _%_, _≤_, _<_}
+use Prim.Native.Nat.{ℕ, suc, _+_, _-_, _*_, _/_, _%_, _≤_, _<_}
 use mathlib.Core.Bool.{Bool, true, false, _||_}
 use mathlib.Core.List.{List, [], _∷_, _++_, append-assoc}
 use mathlib.Core.Path.{_≡_, refl, sym, ap, subst, _∙_}
 use mathlib.Core.Logic.{_⊎_, inl, inr, ⊎-elim}
 use native.Mathlib.Omega.{arith}
-use lib.Dec.{ltb, eqb}
+use lib.Dec.{ltb, leb, eqb}
 use lib.ListN.{length}
-use borrow.Author.Tests.{lt-ltb, le-ltb, ne-eqb, eqb-true}
+use borrow.Author.Tests.{lt-ltb, le-ltb, leb-true, ne-eqb, eqb-true}
 use Rattle.base.specs.Pick.{pick}
-use Rattle.base.specs.PickLaws.{pick-true, pick-false, pick-same, pick-either}
+use Rattle.base.specs.PickLaws.{pick-true, pick-false, pick-same, pick-either, pick-cases, both-hold}
 use Rattle.base.specs.EveryLaws.{equal-at}
-use Rattle.lesson.specs.Text.{lineFeed, numberSign, digit, white, commented, told, worths, paired, digitsOf, bytesOf}
+use Rattle.lesson.specs.Text.{lineFeed, numberSign, within, digit, white, commented, told, worths, paired, digitsOf, bytesOf}
 use Rattle.lesson.specs.Plain.{letter, two, plain, Bytes, OneLine, comment}
 
 -- ---- characters
@@ -21,6 +21,39 @@ pub letter-worth : (small : Bool) (d : ℕ) → d < 16 → digit (letter small d
 unfolding digit pick
 letter-worth true = equal-at 16 (λ d. digit (letter true d)) (λ d. d) tt
 letter-worth false = equal-at 16 (λ d. digit (letter false d)) (λ d. d) tt
+
+pub inside : (low high c : ℕ) → within low high c ≡ true → (low ≤ c) × (c ≤ high)
+inside low high c e =
+    let both : _ = both-hold (leb low c) (leb c high) e in
+    (leb-true low c (both .0), leb-true c high (both .1))
+
+number-letter : (c : ℕ) → (48 ≤ c) × (c ≤ 57) → c ≡ letter false (c - 48)
+number-letter c h =
+    let same : 48 + (c - 48) ≡ c = omega arith in sym (pick-true _ _ _ (lt-ltb (c - 48) 10 (omega arith)) ∙ same)
+
+past-numbers : (small : Bool) (d : ℕ) → 10 ≤ d → letter small d ≡ pick small (87 + d) (55 + d)
+past-numbers small d h = pick-false _ _ _ (le-ltb d 10 h)
+
+capital-letter : (c : ℕ) → (65 ≤ c) × (c ≤ 70) → c ≡ letter false (c - 65 + 10)
+capital-letter c h =
+    let same : 55 + (c - 65 + 10) ≡ c = omega arith in
+    sym (past-numbers false (c - 65 + 10) (omega arith) ∙ pick-false _ _ _ refl ∙ same)
+
+small-letter : (c : ℕ) → (97 ≤ c) × (c ≤ 102) → c ≡ letter true (c - 97 + 10)
+small-letter c h =
+    let same : 87 + (c - 97 + 10) ≡ c = omega arith in
+    sym (past-numbers true (c - 97 + 10) (omega arith) ∙ pick-true _ _ _ refl ∙ same)
+
+-- and no other character is a digit
+pub digit-letter : (c : ℕ) → digit c < 16 → (c ≡ letter false (digit c)) ⊎ (c ≡ letter true (digit c))
+unfolding digit
+digit-letter c =
+    pick-cases Of (within 48 57 c) _ _ (λ yes h. inl (number-letter c (inside 48 57 c yes)))
+    (λ no. pick-cases Of (within 65 70 c) _ _ (λ yes h. inl (capital-letter c (inside 65 70 c yes)))
+    (λ no. pick-cases Of (within 97 102 c) _ _ (λ yes h. inr (small-letter c (inside 97 102 c yes))) (λ no h. absurd (omega arith))))
+  where
+    Of : ℕ → Type 0
+    Of d = d < 16 → (c ≡ letter false d) ⊎ (c ≡ letter true d)
 
 pub sign-no-digit : digit numberSign ≡ 16
 unfolding digit pick

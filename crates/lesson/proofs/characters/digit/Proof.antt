@@ -1,4 +1,4 @@
-use Rattle.lesson.proofs.Ranges.{inside}
+use Rattle.lesson.specs.TextLaws.{inside}
 use Rattle.lesson.specs.Text.{digit}
 use Rattle.base.specs.PickLaws.{pick-true, pick-false}
 use native.Mathlib.Omega.{arith}
