@@ -1,7 +1,9 @@
 -- No second outcome: the one law, and each public call by it.
-use mathlib.Core.Path.{_≡_, sym, _∙_}
+use mathlib.Core.Path.{_≡_, sym, ap, _∙_}
 use Rattle.listing.specs.PartLaws.{runs-one}
-use Rattle.demands.specs.Once.{Once, BaseOnce, QueueOnce, ReceiverOnce, TransmitterOnce, ChannelOnce, LendingOnce, RankOnce, ControllerOnce, BenchOnce, EmbedOnce, RatesOnce, RegistersOnce, StreamsOnce, ListingOnce}
+use Rattle.lesson.specs.Lesson.{handedOut}
+use Rattle.lesson.specs.declared.Lesson.{Lesson}
+use Rattle.demands.specs.Once.{Once, BaseOnce, QueueOnce, ReceiverOnce, TransmitterOnce, ChannelOnce, LendingOnce, RankOnce, ControllerOnce, BenchOnce, EmbedOnce, RatesOnce, RegistersOnce, StreamsOnce, ListingOnce, LessonOnce}
 
 -- what equals one value is one
 once : {A : Type 0} (d : A) → Once (λ (r : A). r ≡ d)
@@ -183,4 +185,13 @@ listing-once =
       listing·run = λ bench n input last d x y p q.
           let same = runs-one bench n input last d (x .1) (y .1) (x .0) (y .0) p q in
           λ i. (same .0 i, same .1 i);
+    }
+
+pub lesson-once : LessonOnce
+lesson-once =
+    record {
+      lesson·read = λ text d x y p q.
+          let same : x .0 ≡ y .0 = p .told ∙ sym (q .told) in
+          let left : x .1 ≡ y .1 = p .bytes ∙ ap (λ (r : Lesson). handedOut r text d) same ∙ sym (q .bytes) in
+          λ i. (same i, left i);
     }

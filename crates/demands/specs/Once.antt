@@ -46,6 +46,8 @@ use Rattle.embed.specs.Bytes.{benchBytes}
 use Rattle.listing.specs.declared.Ran.{Ran}
 use Rattle.listing.specs.Line.{Puts}
 use Rattle.listing.specs.Run.{Runs}
+use Rattle.lesson.specs.declared.Lesson.{Lesson}
+use Rattle.lesson.specs.Lesson.{Reads}
 
 -- "Show that no second outcome satisfies it"
 abbrev pub Once : {A : Type 0} → (A → Type 0) → Type 0
@@ -204,3 +206,8 @@ pub record StreamsOnce : Type 0 where
 pub record ListingOnce : Type 0 where
   pub listing·put-line : (n place : ℕ) (answer : Answer) (output : Bool) (d : List ℕ) → Once (λ (r : List ℕ × ℕ). Puts n answer output d (r .0) place (r .1))
   pub listing·run : (bench : Bench) (n : ℕ) (input : List ℕ) (last : Bool) (d : List ℕ) → Once (λ (r : Ran × List ℕ). Runs bench n input last d (r .1) (r .0))
+
+-- ---- lesson: a text, with the buffer that is lent back
+
+pub record LessonOnce : Type 0 where
+  pub lesson·read : (text d : List ℕ) → Once (λ (r : Lesson × List ℕ). Reads text d (r .1) (r .0))

@@ -7,8 +7,8 @@ use mathlib.Core.Path.{refl, sym}
 use native.Mathlib.Omega.{arith}
 use borrow.Author.Needs.{needs}
 use Rattle.bench_main.proofs.Blocks.{Between}
-use Rattle.bench_main.proofs.main.Statement.{statement}
-use Rattle.bench_main.proofs.main.Tie as tie
+use Rattle.bench_main.proofs.records.run.Statement.{statement}
+use Rattle.bench_main.proofs.records.run.Tie as tie
 
 abbrev Inv-loop : tie.InvT-loop
 Inv-loop input₀ out₀ bench₀ number₀ start₀ end₀ reads₀ input out bench number start end reads = Between input out number start end reads
@@ -19,8 +19,8 @@ abbrev μ-loop : tie.MeasureT-loop
 large-buffer-requires : tie.Need-large-buffer-requires Inv-loop μ-loop
 large-buffer-requires c κs = search needs
 
-text-requires : tie.Need-text-requires Inv-loop μ-loop
-text-requires c κs = search needs
+lines-requires : tie.Need-lines-requires Inv-loop μ-loop
+lines-requires c κs = search needs
 
 power-up-requires : tie.Need-power-up-requires Inv-loop μ-loop
 power-up-requires c κs = search needs
@@ -28,7 +28,7 @@ power-up-requires c κs = search needs
 loop-holds : tie.Need-loop-holds Inv-loop μ-loop
 loop-holds c = record {
   block = sym (c .before .before .large-buffer .ensures);
-  room = sym (c .before .text .ensures);
+  room = sym (c .before .lines .ensures);
   numbers = omega arith;
   even = refl;
   order = omega arith;
@@ -147,14 +147,14 @@ loop-again-2 c =
 returns-4 : tie.Need-returns-4 Inv-loop μ-loop
 returns-4 c = search needs
 
-pub main-spec : {M : Type 1} → statement M
-main-spec =
+pub run-spec : {M : Type 1} → statement M
+run-spec =
     tie.close
     (tie.spec
     Inv-loop
     μ-loop
     large-buffer-requires
-    text-requires
+    lines-requires
     power-up-requires
     loop-holds
     sub-reads

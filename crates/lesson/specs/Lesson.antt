@@ -1,0 +1,42 @@
+-- What reading a text answers, and what it leaves in the buffer.
+use Prim.Native.Nat.{ℕ}
+use mathlib.Core.List.{List}
+use mathlib.Core.Path.{_≡_}
+use lib.Dec.{ltb}
+use lib.ListN.{length, take}
+use lib.Seq.{sets}
+use Rattle.base.specs.Pick.{pick}
+use Rattle.lesson.specs.Text.{bytesOf}
+use Rattle.lesson.specs.Fault.{faultOf}
+use Rattle.lesson.specs.Place.{placeBehind}
+use Rattle.lesson.specs.declared.faults.Found.{Found}
+use Rattle.lesson.specs.declared.faults.Found.the-variants.{At, Nowhere}
+use Rattle.lesson.specs.declared.Lesson.{Lesson}
+use Rattle.lesson.specs.declared.Lesson.the-variants.{Bytes, Fault, TooLong}
+use Rattle.lesson.specs.declared.places.Place.{Place}
+
+-- no longer text is read, so that each line and column is a number that there is
+abbrev pub longest : ℕ
+longest = 4294967295
+
+abbrev pub faultAt : Place → Lesson
+faultAt p = Fault (p .line) (p .column)
+
+-- a text with a fault is answered by its place; one without is its bytes, where they fit
+unfoldable pub answerBy : Found → List ℕ → ℕ → Lesson
+answerBy (At at) text room = faultAt (placeBehind (take at text))
+answerBy Nowhere text room = pick (ltb room (length (bytesOf text))) TooLong (Bytes (length (bytesOf text)))
+
+unfoldable pub lessonOf : List ℕ → ℕ → Lesson
+lessonOf text room = pick (ltb longest (length text)) TooLong (answerBy (faultOf text) text room)
+
+-- what is handed out: the bytes, from the buffer's start on; where there is a fault or no room, nothing
+unfoldable pub handedOut : Lesson → List ℕ → List ℕ → List ℕ
+handedOut (Bytes n) text d = sets d 0 (bytesOf text)
+handedOut (Fault line column) text d = d
+handedOut TooLong text d = d
+
+-- a text is read into the buffer d, which is d′ then
+pub record Reads (text d d′ : List ℕ) (r : Lesson) : Type 0 where
+  pub told : r ≡ lessonOf text (length d)
+  pub bytes : d′ ≡ handedOut r text d

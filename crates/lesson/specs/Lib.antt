@@ -1,0 +1,11 @@
+pub mod Text
+pub mod Fault
+pub mod Place
+pub mod Lesson
+pub mod Plain
+pub mod TextLaws
+pub mod FaultLaws
+pub mod PlaceLaws
+pub mod LessonLaws
+pub mod EvenLaws
+pub mod WrittenLaws

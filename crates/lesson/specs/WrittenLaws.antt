@@ -1,0 +1,22 @@
+-- Two lessons, character by character: no name stands between the reader and the codes that an editor writes.
+use mathlib.Core.List.{[], _∷_}
+use mathlib.Core.Path.{_≡_, refl}
+use lib.Dec.{ltb, leb, eqb}
+use Rattle.base.specs.Pick.{pick}
+use Rattle.lesson.specs.Text.{digit, apart, commented, told, worths, paired, digitsOf, bytesOf}
+use Rattle.lesson.specs.Fault.{faulty, next, after, faultFrom, faultOf}
+use Rattle.lesson.specs.Place.{onward, placeFrom, placeBehind}
+use Rattle.lesson.specs.Lesson.{answerBy, lessonOf}
+use Rattle.lesson.specs.declared.Lesson.the-variants.{Bytes, Fault}
+
+-- 08, a space, 0a, a tab, 00F0, a space, a number sign, a space, 9, a carriage return, a line feed: one record, and a comment
+pub written-record :
+    (lessonOf (48 ∷ 56 ∷ 32 ∷ 48 ∷ 97 ∷ 9 ∷ 48 ∷ 48 ∷ 70 ∷ 48 ∷ 32 ∷ 35 ∷ 32 ∷ 57 ∷ 13 ∷ 10 ∷ []) 4 ≡ Bytes 4)
+    × (bytesOf (48 ∷ 56 ∷ 32 ∷ 48 ∷ 97 ∷ 9 ∷ 48 ∷ 48 ∷ 70 ∷ 48 ∷ 32 ∷ 35 ∷ 32 ∷ 57 ∷ 13 ∷ 10 ∷ []) ≡ 0x08 ∷ 0x0A ∷ 0x00 ∷ 0xF0 ∷ [])
+unfolding lessonOf answerBy faultOf faultFrom faulty next after bytesOf digitsOf paired worths told commented apart digit pick
+written-record = (refl, refl)
+
+-- 080000, a line feed, a space, 08: a byte is forgotten, and the second line's second column tells it
+pub written-fault : lessonOf (48 ∷ 56 ∷ 48 ∷ 48 ∷ 48 ∷ 48 ∷ 10 ∷ 32 ∷ 48 ∷ 56 ∷ []) 4 ≡ Fault 2 2
+unfolding lessonOf answerBy faultOf faultFrom faulty next after placeBehind placeFrom onward bytesOf digitsOf paired worths told commented apart digit pick
+written-fault = refl

@@ -1,0 +1,61 @@
+// The bytes of a text that has no fault.
+use crate::characters;
+ghost use mathlib.Core.Path.{_≡_};
+ghost use Prim.Native.Nat.{_≤_};
+ghost use lib.ListN.{length};
+ghost use lib.Seq.{sets};
+ghost use Rattle.base.specs.Pick.{pick};
+ghost use Rattle.lesson.specs.Text.{bytesOf, digitsOf, digit};
+
+// There is none yet: what no digit is worth.
+const NONE: u8 = 16;
+
+// What the character is worth where it is a digit and no comment has it.
+fn worth(comment: bool, c: u8) -> u8
+    ensures { λ r. ⌜ (r ≡ pick comment 16 (digit c)) × (r ≤ 16) ⌝ }
+{
+    if comment {
+        return NONE;
+    }
+    characters::digit(c)
+}
+
+pub(crate) fn count_digits(text: &[u8]) -> usize
+    ensures { λ r. ⌜ r ≡ length (digitsOf (now (text .entry))) ⌝ }
+{
+    let mut comment = false;
+    let mut count: usize = 0;
+    for i in 0..text.len() {
+        let c = text[i];
+        comment = characters::is_commented(comment, c);
+        if 15 < worth(comment, c) {
+            continue;
+        }
+        count += 1;
+    }
+    count
+}
+
+pub(crate) fn put_bytes(text: &[u8], out: &mut [u8])
+    requires { ⌜ length (bytesOf (now text)) ≤ length (now out) ⌝ }
+    ensures { λ r. ⌜ now (out .exit) ≡ sets (now (out .entry)) 0 (bytesOf (now (text .entry))) ⌝ }
+{
+    let mut comment = false;
+    let mut high = NONE;
+    let mut at: usize = 0;
+    for i in 0..text.len() {
+        let c = text[i];
+        comment = characters::is_commented(comment, c);
+        let low = worth(comment, c);
+        if 15 < low {
+            continue;
+        }
+        if 15 < high {
+            high = low;
+            continue;
+        }
+        out[at] = 16 * high + low;
+        at += 1;
+        high = NONE;
+    }
+}

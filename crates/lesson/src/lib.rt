@@ -1,0 +1,40 @@
+// Lessons as text: what a teacher writes in an editor goes in, the bytes of its records come out, or the place of its first fault.
+mod bytes;
+mod characters;
+mod faults;
+mod places;
+
+use faults::Found;
+use places::Place;
+ghost use Rattle.lesson.specs.Lesson.{Reads};
+
+// Of a text that is not longer, every line and column is a number that there is.
+const LONGEST: usize = 4294967295;
+
+pub enum Lesson {
+    // So many bytes stand at the start of the buffer.
+    Bytes(usize),
+    // The line and the column of the first fault.
+    Fault(usize, usize),
+    // The text is longer than any that is read, or its bytes do not fit the buffer.
+    TooLong,
+}
+
+// Reads a text into the buffer. Where it has a fault or is too long, the buffer stays as it was.
+pub fn read(text: &[u8], out: &mut [u8]) -> Lesson
+    ensures { λ r. ⌜ Reads (now (text .entry)) (now (out .entry)) (now (out .exit)) r ⌝ }
+{
+    if LONGEST < text.len() {
+        return Lesson::TooLong;
+    }
+    if let Found::At(at) = faults::first_fault(text) {
+        let place = places::place_behind(&text[..at]);
+        return Lesson::Fault(place.line, place.column);
+    }
+    let count = bytes::count_digits(text) / 2;
+    if out.len() < count {
+        return Lesson::TooLong;
+    }
+    bytes::put_bytes(text, &mut *out);
+    Lesson::Bytes(count)
+}
