@@ -24,7 +24,8 @@ class Costs(Room):
         super().setUp()
         for name, text in FILES.items():
             self.write(name, text)
-        self.script("tools/costs", COSTS.read_text("utf-8"))
+        for name in ("costs", "machine.py"):
+            self.script(f"tools/{name}", COSTS.with_name(name).read_text("utf-8"))
 
     def page(self):
         subprocess.run([self.root / "tools/costs", "--no-measure"], check=True)
@@ -42,6 +43,10 @@ class Costs(Room):
         page = self.page()
         self.assertIn("Measured with: kit 5\n", page)
         self.assertIn("| lower | 2 | 4 | 3 | 2 | 4 | 1 | 5.5 | 325 |\n| all | 3 | 5 | 3 | 2 | 4 | 1 | 5.5 | 325 |\n", page)
+
+    def test_speed_is_kept(self):
+        self.write("docs/COSTS.md", self.page() + "\n## Speed\n\nTwice as fast.\n")
+        self.assertTrue(self.page().endswith(" 0.0 | - |\n\n## Speed\n\nTwice as fast.\n"))
 
 
 if __name__ == "__main__":

@@ -25,7 +25,7 @@ class Trials(Room):
         self.script("bin/rt", '#!/bin/sh\necho rt "$@"\nexit "${FAULT:-0}"\n')
         self.script(f"on/{platform.machine()}/toolchain/lib/ld-linux-x86-64.so.2", '#!/bin/sh\nshift 2\nexec "$@"\n')
         self.script("second/build", f'#!/bin/sh\ncp "{self.root}/other" "$1/second"\n')
-        for name in ("trials", "find-rt"):
+        for name in ("trials", "machine.py", "find-rt"):
             self.script(f"tools/{name}", (TOOLS / name).read_text("utf-8"))
         self.programs(1000000, 1000000)
 

@@ -1,6 +1,6 @@
 -- The output tells the next acknowledge.
 use Prim.Native.Nat.{ℕ}
-use mathlib.Core.Bool.{Bool, true, false}
+use mathlib.Core.Bool.{true, false}
 use mathlib.Core.Path.{_≡_, refl, ap, sym, _∙_}
 use Rattle.base.specs.Pick.{pick}
 use Rattle.base.specs.Refusals.{firstHeld}
@@ -8,7 +8,7 @@ use Rattle.base.specs.declared.Answer.the-variants.{Vector, Spurious}
 use Rattle.controller.specs.declared.Stepped as controller
 use Rattle.controller.specs.State.{ready}
 use Rattle.controller.specs.Turns.{outputOf, grant, vector}
-use Rattle.controller.specs.OutputLaws.{Named, output-high, output-low}
+use Rattle.controller.specs.OutputLaws.{output-high, output-low}
 use Rattle.bench.specs.declared.Bench.{Bench}
 use Rattle.bench.specs.declared.Decoded.the-variants.{Taken}
 use Rattle.bench.specs.declared.Event.the-variants.{Acknowledge}

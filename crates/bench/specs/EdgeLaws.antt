@@ -1,25 +1,21 @@
 -- The edges of a record: kind 8 and 9, seat 7 and 8, and what a master reset leaves.
-use Prim.Native.Nat.{ℕ, zero, suc, _<_, _≤_}
-use mathlib.Core.Bool.{Bool, true, false, _&&_}
-use mathlib.Core.Path.{_≡_, refl, ap, sym, _∙_}
+use Prim.Native.Nat.{ℕ, _<_, _≤_}
+use mathlib.Core.Path.{_≡_, refl, ap}
 use native.Mathlib.Omega.{arith}
-use lib.Dec.{ltb, eqb}
+use lib.Dec.{eqb}
 use borrow.Author.Tests.{lt-ltb, le-ltb}
 use Rattle.base.specs.Pick.{pick}
-use Rattle.base.specs.PickLaws.{pick-true, pick-false, and-false}
+use Rattle.base.specs.PickLaws.{pick-true}
 use Rattle.base.specs.Refusals.{firstHeld}
 use Rattle.base.specs.Answers.{valueOf}
-use Rattle.channel.specs.declared.SeatEvent.{SeatEvent}
-use Rattle.channel.specs.Steps as channel
 use Rattle.controller.specs.Turns.{settled}
 use Rattle.bench.specs.declared.Bench.{Bench}
 use Rattle.bench.specs.declared.Outcome.{Outcome}
-use Rattle.bench.specs.declared.Event.the-variants.{OfSeat, MasterReset}
-use Rattle.bench.specs.Events.{Record, whole, short, early, event, eventOf}
+use Rattle.bench.specs.declared.Event.the-variants.{MasterReset}
+use Rattle.bench.specs.Events.{whole, short, early, eventOf}
 use Rattle.bench.specs.Refusals.{refusal, grounds}
-use Rattle.bench.specs.Seats.{seat}
 use Rattle.bench.specs.Steps.{roomRefusal, after, answerTo, outcome}
-use Rattle.bench.specs.MeetLaws.{refused-early, refused-late}
+use Rattle.bench.specs.MeetLaws.{refused-late}
 
 module _ (b : Bench) where
   -- a short record is 4 on any bench

@@ -1,11 +1,10 @@
 -- A record of four bytes, and the event that it stands for.
 use Prim.Native.Nat.{ℕ}
 use mathlib.Core.Bool.{Bool, true, false, _&&_}
-use mathlib.Core.List.{List, [], _∷_}
+use mathlib.Core.List.{[], _∷_}
 use lib.Dec.{ltb, eqb}
 use Rattle.base.specs.Pick.{pick}
-use Rattle.base.specs.Refusals.{Ground, firstHeld}
-use Rattle.channel.specs.declared.SeatEvent.{SeatEvent}
+use Rattle.base.specs.Refusals.{firstHeld}
 use Rattle.channel.specs.declared.SeatEvent.the-variants.{Read, Write, Arrival, Levels, Time}
 use Rattle.bench.specs.declared.Event.{Event}
 use Rattle.bench.specs.declared.Event.the-variants.{OfSeat, MasterReset, ReadController, WriteController, Acknowledge}
@@ -36,7 +35,7 @@ abbrev pub seatAbove : Record → Bool
 seatAbove (whole kind seat number value) = usesSeat kind && ltb 7 seat
 seatAbove short = false
 
--- what the bench refuses by the record alone: "The order is 4, 3, 1, 2"
+-- what the bench refuses by the record alone, three of the four that come first: "The order is 4, 3, 1, 2"; 2 is the rooms' own
 unfoldable pub early : Record → ℕ
 early r =
     firstHeld

@@ -1,34 +1,30 @@
 -- What an event leaves alone: a seat event the other seats, a controller event every seat; a master reset acts seat by seat.
-use Prim.Native.Nat.{ℕ, zero, suc, _%_, _<_}
-use mathlib.Core.Bool.{Bool, true, false}
+use Prim.Native.Nat.{ℕ, zero, suc, _<_}
+use mathlib.Core.Bool.{true, false}
 use mathlib.Core.List.{List, [], _∷_, map}
 use mathlib.Core.Path.{_≡_, refl, ap, sym, subst, _∙_}
 use mathlib.Core.Logic.{⊎-elim}
 use native.Mathlib.Nat.{mod-lt, zero-lt-suc, le-of-suc-le-suc, not-suc-le-zero}
-use native.Mathlib.Omega.{arith}
 use lib.Dec.{eqb}
 use lib.ListN.{length, getD, set, length-set}
 use lib.Seq.{getD-set-same, getD-set-other}
 use borrow.Author.Tests.{eqb-true, eqb-false}
-use Rattle.base.specs.Pick.{pick}
 use Rattle.base.specs.PickLaws.{pick-true, pick-false, pick-through, pick-same, either-way}
-use Rattle.channel.specs.declared.Channel.{Channel}
 use Rattle.channel.specs.declared.Stepped as channel
 use Rattle.channel.specs.declared.SeatEvent.{SeatEvent}
-use Rattle.channel.specs.Steps.{refusal, effect, stepped}
+use Rattle.channel.specs.Steps.{refusal, stepped}
 use Rattle.controller.specs.declared.Controller.{Controller}
 use Rattle.bench.specs.declared.Seat.{Seat}
 use Rattle.bench.specs.declared.Bench.{Bench}
 use Rattle.bench.specs.declared.Touched.{Touched}
 use Rattle.bench.specs.declared.Outcome.{Outcome}
-use Rattle.bench.specs.declared.Event.{Event}
 use Rattle.bench.specs.declared.Event.the-variants.{OfSeat, MasterReset, ReadController, WriteController, Acknowledge}
 use Rattle.bench.specs.declared.Decoded.{Decoded}
 use Rattle.bench.specs.declared.Decoded.the-variants.{Taken, Refused}
 use Rattle.bench.specs.Seats.{noSeat, chair, seat, withSeat, seatReset}
-use Rattle.bench.specs.Steps.{roomRefusal, after, answerTo, met, touched, dealt}
-use Rattle.bench.specs.Runs.{Act, event, reset, acted, actedAll, own}
-use Rattle.bench.specs.MeetLaws.{stored, seat-met}
+use Rattle.bench.specs.Steps.{roomRefusal, after, met, touched, dealt}
+use Rattle.bench.specs.Runs.{actedAll, own}
+use Rattle.bench.specs.MeetLaws.{seat-met}
 
 -- ---- lists of seats, of any length
 

@@ -4,6 +4,7 @@ pub mod Refusals
 pub mod Steps
 pub mod MeetLaws
 pub mod Valid
+pub mod Wired
 pub mod Uses
 pub mod Runs
 pub mod UsesLaws

@@ -1,8 +1,8 @@
 -- The outcome of a record, by the parts that its event touches.
 use Prim.Native.Nat.{ℕ, zero, suc}
-use mathlib.Core.Bool.{Bool, true, false, not}
+use mathlib.Core.Bool.{Bool, true, false}
 use mathlib.Core.List.{List, [], _∷_}
-use mathlib.Core.Path.{_≡_, refl, ap, ap₂, sym, _∙_}
+use mathlib.Core.Path.{_≡_, refl, ap, sym, _∙_}
 use mathlib.Core.Logic.{⊎-elim}
 use lib.Dec.{eqb}
 use lib.ListN.{getD, set}
@@ -11,7 +11,6 @@ use Rattle.base.specs.Pick.{pick}
 use Rattle.base.specs.PickLaws.{pick-true, pick-false, pick-through, either-way, never}
 use Rattle.base.specs.Answers.{refusalOf}
 use Rattle.base.specs.Refusals.{firstHeld}
-use Rattle.base.specs.declared.Answer.{Answer}
 use Rattle.base.specs.declared.Answer.the-variants as answer
 use Rattle.channel.specs.declared.SeatEvent.{SeatEvent}
 use Rattle.channel.specs.declared.Stepped as channel
@@ -21,7 +20,7 @@ use Rattle.channel.specs.Steps as seat-step
 use Rattle.channel.specs.StepLaws.{step-taken, step-refused, step-number}
 use Rattle.controller.specs.declared.Controller.{Controller}
 use Rattle.controller.specs.declared.Stepped as controller
-use Rattle.controller.specs.Signals.{Signal, read, write, acknowledge}
+use Rattle.controller.specs.Signals.{read, write, acknowledge}
 use Rattle.controller.specs.Turns.{settled}
 use Rattle.controller.specs.Refusals as refusing
 use Rattle.controller.specs.Steps.{step}
@@ -31,7 +30,7 @@ use Rattle.bench.specs.declared.Outcome.{Outcome}
 use Rattle.bench.specs.declared.Touched.{Touched}
 use Rattle.bench.specs.declared.Event.{Event}
 use Rattle.bench.specs.declared.Event.the-variants.{OfSeat, MasterReset, ReadController, WriteController, Acknowledge}
-use Rattle.bench.specs.declared.Decoded.the-variants.{Taken, Refused}
+use Rattle.bench.specs.declared.Decoded.the-variants.{Refused}
 use Rattle.bench.specs.Events.{Record, isShort, kindAbove, seatAbove, early, event, decoded}
 use Rattle.bench.specs.Refusals.{numberAbove, noDivisor, arrivalWrong, levelsAbove, notReady, notServed, grounds, refusal}
 use Rattle.bench.specs.Seats.{noSeat, chair, seat, withSeat, withController, withLine}

@@ -1,13 +1,11 @@
 -- Refused or not can be read off the answer; a refused record leaves the bench equal.
-use Prim.Native.Nat.{ℕ}
-use mathlib.Core.Bool.{Bool, true, false}
+use mathlib.Core.Bool.{true, false}
 use mathlib.Core.Path.{_≡_, refl, ap, sym, _∙_}
 use mathlib.Core.Logic.{⊎-elim}
 use lib.Dec.{eqb}
 use borrow.Author.Tests.{eqb-true, eq-eqb, ne-eqb}
-use Rattle.base.specs.Pick.{pick}
 use Rattle.base.specs.PickLaws.{pick-true, pick-false, either-way}
-use Rattle.base.specs.Answers.{refusalOf, valueOf}
+use Rattle.base.specs.Answers.{refusalOf}
 use Rattle.base.specs.declared.Answer.the-variants as answer
 use Rattle.channel.specs.StepLaws.{effect-taken}
 use Rattle.controller.specs.declared.Controller.{Controller}

@@ -1,6 +1,6 @@
 -- What is refused: each number of document 01's list with its own condition, in document 01's order.
 use Prim.Native.Nat.{ℕ}
-use mathlib.Core.Bool.{Bool, true, false}
+use mathlib.Core.Bool.{Bool, false}
 use mathlib.Core.List.{List, [], _∷_}
 use Rattle.base.specs.Refusals.{Ground, firstHeld}
 use Rattle.channel.specs.Steps as channel

@@ -8,7 +8,7 @@ use Rattle.bench.specs.declared.Bench.{Bench}
 use Rattle.bench.specs.declared.Outcome.{Outcome}
 use Rattle.bench.specs.Events.{Record, decoded}
 use Rattle.bench.specs.Seats.{chair, seat}
-use Rattle.bench.specs.Steps.{outcome, dealt}
+use Rattle.bench.specs.Steps.{outcome}
 use Rattle.bench.specs.Runs.{Act, afterAll, outcomes, acted, actedAll, own, ownAll}
 use Rattle.bench.specs.MeetLaws.{outcome-dealt}
 use Rattle.bench.specs.FrameLaws.{as-many, seat-acts}

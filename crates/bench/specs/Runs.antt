@@ -1,6 +1,5 @@
 -- Runs of records: the bench after them; and what of a run concerns one seat.
 use Prim.Native.Nat.{ℕ}
-use mathlib.Core.Bool.{Bool, true, false}
 use mathlib.Core.List.{List, [], _∷_, _++_}
 use lib.Dec.{eqb}
 use Rattle.base.specs.Pick.{pick}
@@ -10,7 +9,6 @@ use Rattle.channel.specs.Parts.{masterReset}
 use Rattle.channel.specs.Steps.{stepped}
 use Rattle.bench.specs.declared.Bench.{Bench}
 use Rattle.bench.specs.declared.Outcome.{Outcome}
-use Rattle.bench.specs.declared.Event.{Event}
 use Rattle.bench.specs.declared.Event.the-variants.{OfSeat, MasterReset, ReadController, WriteController, Acknowledge}
 use Rattle.bench.specs.declared.Decoded.{Decoded}
 use Rattle.bench.specs.declared.Decoded.the-variants.{Taken, Refused}

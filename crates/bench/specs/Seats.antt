@@ -1,7 +1,7 @@
 -- Eight seats and the controller: power-up, the doors to a seat, and the lines.
 use Prim.Native.Nat.{ℕ, _%_}
-use mathlib.Core.Bool.{Bool, true, false}
-use mathlib.Core.List.{List, [], _∷_, map}
+use mathlib.Core.Bool.{Bool, false}
+use mathlib.Core.List.{List, [], map}
 use lib.ListN.{getD, set, replicate}
 use Rattle.base.specs.Pick.{pick}
 use Rattle.base.specs.Bits.{bits}

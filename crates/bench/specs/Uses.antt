@@ -1,6 +1,6 @@
 -- Which bytes of a record its kind uses.
 use Prim.Native.Nat.{ℕ}
-use mathlib.Core.Bool.{Bool, true, false, _||_}
+use mathlib.Core.Bool.{Bool, true, _||_}
 use mathlib.Core.Path.{_≡_}
 use lib.Dec.{eqb}
 use Rattle.bench.specs.Events.{usesSeat}

@@ -1,14 +1,11 @@
 -- Two records that agree on the bytes their kind uses have the same outcome.
 use Prim.Native.Nat.{ℕ, zero, suc, _<_}
-use mathlib.Core.Bool.{Bool, true, false, _&&_}
 use mathlib.Core.Path.{_≡_, refl, ap, ap₂, sym, _∙_}
 use native.Mathlib.Omega.{arith}
-use lib.Dec.{ltb, eqb}
 use borrow.Author.Tests.{lt-ltb}
 use Rattle.base.specs.Pick.{pick}
 use Rattle.base.specs.Refusals.{firstHeld}
 use Rattle.bench.specs.declared.Bench.{Bench}
-use Rattle.bench.specs.declared.Outcome.{Outcome}
 use Rattle.bench.specs.declared.Decoded.{Decoded}
 use Rattle.bench.specs.Events.{whole, early, eventOf, decoded}
 use Rattle.bench.specs.Steps.{outcome, dealt}

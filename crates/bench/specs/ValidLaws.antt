@@ -1,24 +1,19 @@
 -- Valid at power-up, and after every record, refused or not.
 use Prim.Native.Nat.{ℕ, zero, suc, _<_}
 use native.Mathlib.Nat.{le-of-suc-le-suc, not-suc-le-zero}
-use mathlib.Core.Bool.{Bool, true, false, _&&_}
+use mathlib.Core.Bool.{true, _&&_}
 use mathlib.Core.List.{List, [], _∷_, map}
-use mathlib.Core.Path.{_≡_, refl, ap, ap₂, sym, subst, _∙_}
+use mathlib.Core.Path.{_≡_, refl, ap, sym, subst, _∙_}
 use lib.Dec.{eqb}
 use lib.ListN.{length, getD, set, replicate}
 use borrow.Author.Tests.{eqb-true, eq-eqb}
-use Rattle.base.specs.Pick.{pick}
 use Rattle.base.specs.PickLaws.{both-hold, pick-true, pick-cases}
-use Rattle.channel.specs.declared.SeatEvent.{SeatEvent}
-use Rattle.channel.specs.Steps.{stepped}
 use Rattle.channel.specs.Sound.{soundChannel}
 use Rattle.channel.specs.Parts as channel
 use Rattle.channel_laws.specs.SoundLaws.{power-up-sound, reset-sound}
 use Rattle.channel_laws.specs.SoundStepLaws.{step-sound}
-use Rattle.controller.specs.declared.Controller.{Controller}
 use Rattle.controller.specs.declared.Stepped as controller
-use Rattle.controller.specs.Signals.{read, write, acknowledge}
-use Rattle.controller.specs.Turns.{settled}
+use Rattle.controller.specs.Signals.{write, acknowledge}
 use Rattle.controller.specs.Valid as controller-valid
 use Rattle.controller.specs.ValidLaws.{power-up-valid, valid-kept, valid-settled}
 use Rattle.controller.specs.RefusalLaws.{step-done}
@@ -35,7 +30,8 @@ use Rattle.bench.specs.Steps.{roomRefusal, after, met, outcome, dealt}
 use Rattle.bench.specs.Runs.{afterAll}
 use Rattle.bench.specs.MeetLaws.{outcome-dealt}
 use Rattle.bench.specs.FrameLaws.{chair-small, seats-after, read-leaves, write-leaves, acknowledge-leaves}
-use Rattle.bench.specs.WiredLaws.{Wired, wired-kept, wired-power-up}
+use Rattle.bench.specs.Wired.{Wired}
+use Rattle.bench.specs.WiredLaws.{wired-kept, wired-power-up}
 use Rattle.bench.specs.Valid.{soundSeats, valid}
 
 -- the test, part by part

@@ -1,16 +1,15 @@
 -- The controller's levels are the seats' lines: at power-up, and after every record.
-use Prim.Native.Nat.{ℕ, _%_, _^_, _<_}
-use mathlib.Core.Bool.{Bool, true, false}
-use mathlib.Core.List.{List, [], _∷_, map}
-use mathlib.Core.Path.{_≡_, refl, ap, ap₂, sym, subst, _∙_}
+use Prim.Native.Nat.{ℕ, _^_}
+use mathlib.Core.Bool.{Bool}
+use mathlib.Core.Path.{_≡_, refl, ap, sym, subst, _∙_}
 use native.Mathlib.Nat.{mod-mod}
 use lib.Dec.{eqb}
-use lib.ListN.{length, set, length-set}
+use lib.ListN.{length, length-set}
 use borrow.Author.Tests.{eqb-true}
 use Rattle.base.specs.Pick.{pick}
 use Rattle.base.specs.PickLaws.{pick-cases}
 use Rattle.base.specs.Bits.{bit, digit, bits}
-use Rattle.rank.specs.Sets.{join, without, only}
+use Rattle.rank.specs.Sets.{join, without}
 use Rattle.channel.specs.declared.SeatEvent.{SeatEvent}
 use Rattle.channel.specs.Status.{line}
 use Rattle.channel.specs.Status as status
@@ -21,12 +20,11 @@ use Rattle.queue.specs.Queue as queued
 use Rattle.channel.specs.Steps as channel
 use Rattle.controller.specs.declared.Controller.{Controller}
 use Rattle.controller.specs.declared.Stepped as controller
-use Rattle.controller.specs.Signals.{Signal, read, write, acknowledge}
+use Rattle.controller.specs.Signals.{write, acknowledge}
 use Rattle.controller.specs.Turns.{settled}
-use Rattle.controller.specs.Steps.{step, effect}
+use Rattle.controller.specs.Steps.{effect}
 use Rattle.controller.specs.RefusalLaws.{step-done}
-use Rattle.controller.specs.FrameLaws.{LevelMoves, stays, by-levels, level-moves}
-use Rattle.bench.specs.declared.Seat.{Seat}
+use Rattle.controller.specs.FrameLaws.{LevelMoves, stays, level-moves}
 use Rattle.bench.specs.declared.Bench.{Bench}
 use Rattle.bench.specs.declared.Outcome.{Outcome}
 use Rattle.bench.specs.declared.Event.{Event}
@@ -34,16 +32,12 @@ use Rattle.bench.specs.declared.Event.the-variants.{OfSeat, MasterReset,
 use Rattle.bench.specs.declared.Decoded.{Decoded}
 use Rattle.bench.specs.declared.Decoded.the-variants.{Taken, Refused}
 use Rattle.bench.specs.Events.{Record, decoded}
-use Rattle.bench.specs.Seats.{chair, seat, withSeat, seatLine, lines, withLine, seatReset, powerUp}
-use Rattle.bench.specs.Steps.{roomRefusal, after, answerTo, shown, met, outcome, dealt}
+use Rattle.bench.specs.Seats.{chair, seat, withSeat, lines, withLine, seatReset, powerUp}
+use Rattle.bench.specs.Steps.{roomRefusal, after, met, outcome, dealt}
 use Rattle.bench.specs.MeetLaws.{outcome-dealt}
 use Rattle.bench.specs.FrameLaws.{mapped-length, chair-small}
+use Rattle.bench.specs.Wired.{Wired}
 use Rattle.bench.specs.LevelLaws.{line-anew}
-
--- eight seats, and each line of the controller at the level of its seat
-pub record Wired (b : Bench) : Type 0 where
-  pub eight : length (b .seats) ≡ 8
-  pub levels : b .controller .lines .levels ≡ lines (b .seats)
 
 -- a number of a line may be read round the eight once more
 around : (n : ℕ) (l : ℕ) (h : Bool) → withLine l n h ≡ withLine l (chair n) h

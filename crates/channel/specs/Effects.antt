@@ -1,12 +1,11 @@
 -- What an accepted event does to a channel, and what it is answered with.
 use Prim.Native.Nat.{ℕ}
-use mathlib.Core.Bool.{Bool, true, false, not, _&&_, _||_}
+use mathlib.Core.Bool.{Bool, not, _&&_, _||_}
 use lib.Dec.{eqb}
 use Rattle.base.specs.Pick.{pick}
 use Rattle.base.specs.Bits.{bit}
 use Rattle.base.specs.declared.Answer.{Answer}
-use Rattle.base.specs.declared.Answer.the-variants.{Byte, Done, Sent, Idle, Break}
-use Rattle.queue.specs.declared.Character.{Character}
+use Rattle.base.specs.declared.Answer.the-variants.{Sent, Idle, Break}
 use Rattle.receiver.specs.declared.Receiver.{Receiver}
 use Rattle.receiver.specs.Receiver.{received, got, looked, waited, cleared, turned}
 use Rattle.transmitter.specs.declared.Transmitter.{Transmitter}

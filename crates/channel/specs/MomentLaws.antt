@@ -1,20 +1,20 @@
 -- The receive side after an event is the side after the moments of the event, and an RBR read is answered with the character it takes.
 use Prim.Native.Nat.{ℕ}
 use mathlib.Core.Bool.{Bool, true, false, not, _&&_, _||_}
-use mathlib.Core.List.{List, [], _∷_, _++_}
+use mathlib.Core.List.{List, [], _∷_}
 use mathlib.Core.Path.{_≡_, refl, ap, sym, _∙_}
 use mathlib.Core.Logic.{⊎-elim}
 use lib.Dec.{eqb}
 use Rattle.base.specs.Pick.{pick}
 use Rattle.base.specs.PickLaws.{pick-true, pick-false, pick-through, pick-cases, either-way}
-use Rattle.base.specs.Bits.{bit, bits}
+use Rattle.base.specs.Bits.{bit}
 use Rattle.base.specs.BitLaws.{bit-bits}
 use Rattle.base.specs.Answers.{valueOf}
 use Rattle.base.specs.declared.Answer.{Answer}
-use Rattle.base.specs.declared.Answer.the-variants.{Byte, Done, Refused}
+use Rattle.base.specs.declared.Answer.the-variants.{Byte, Done}
 use Rattle.receiver.specs.declared.Receiver.{Receiver}
 use Rattle.receiver.specs.Receiver.{turned, cleared}
-use Rattle.receiver.specs.Ledger.{Moment, rbr, empties, changes, resets, Side, after, afterAll, readIn}
+use Rattle.receiver.specs.Ledger.{Moment, empties, changes, resets, Side, after, afterAll, readIn}
 use Rattle.channel.specs.declared.Channel.{Channel}
 use Rattle.channel.specs.declared.Stepped.{Stepped}
 use Rattle.channel.specs.declared.SeatEvent.{SeatEvent}
@@ -23,7 +23,7 @@ use Rattle.registers.specs.declared.Register.{Register}
 use Rattle.registers.specs.declared.Register.the-variants.{RbrThr, Ier, IirFcr, Lcr, Mcr, Lsr, Msr, Scratch, Dll, Dlm}
 use Rattle.channel.specs.Parts.{masterReset, fifo, divisorShown}
 use Rattle.registers.specs.Registers.{registerAt, fcrKept}
-use Rattle.channel.specs.Effects.{lsrRead, iirRead, msrRead, byteAt, afterRead, ierWritten, modeChanged, fcrReceiver, fcrWritten, afterWrite, afterArrival, afterLevels, afterTime, timeAnswer}
+use Rattle.channel.specs.Effects.{lsrRead, iirRead, msrRead, byteAt, afterRead, ierWritten, modeChanged, fcrReceiver, fcrWritten, afterWrite, afterArrival, afterLevels, afterTime}
 use Rattle.channel.specs.Steps.{refusal, effect, stepped}
 use Rattle.channel.specs.Moments.{side, readMoments, fcrMoments, writeMoments, acceptedMoments, momentsOf, telling, toldIn}
 

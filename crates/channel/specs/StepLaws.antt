@@ -1,6 +1,5 @@
 -- A seat's step as its caller sees it: whether it was refused can be read off the answer.
-use Prim.Native.Nat.{ℕ}
-use mathlib.Core.Bool.{Bool, true, false}
+use mathlib.Core.Bool.{true, false}
 use mathlib.Core.Path.{_≡_, refl, ap, sym, _∙_}
 use mathlib.Core.Logic.{⊎-elim}
 use lib.Dec.{eqb}
@@ -9,13 +8,12 @@ use Rattle.base.specs.Pick.{pick}
 use Rattle.base.specs.PickLaws.{pick-true, pick-false, pick-same, pick-through, either-way}
 use Rattle.base.specs.Bits.{bit}
 use Rattle.base.specs.Answers.{refusalOf}
-use Rattle.base.specs.declared.Answer.the-variants.{Refused, Sent, Break, Idle}
+use Rattle.base.specs.declared.Answer.the-variants.{Refused}
 use Rattle.channel.specs.declared.Channel.{Channel}
 use Rattle.channel.specs.declared.Stepped.{Stepped}
 use Rattle.channel.specs.declared.SeatEvent.{SeatEvent}
 use Rattle.channel.specs.declared.SeatEvent.the-variants.{Read, Write, Arrival, Levels, Time}
 use Rattle.channel.specs.Effects.{timeAnswer}
-use Rattle.registers.specs.Words.{cut}
 use Rattle.channel.specs.Steps.{refusal, effect, stepped}
 
 -- what is done is answered with no refusal

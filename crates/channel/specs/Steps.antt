@@ -1,12 +1,11 @@
 -- One event on a seat: refused, or done.
 use Prim.Native.Nat.{ℕ}
-use mathlib.Core.Bool.{Bool, true, false, not, _&&_, _||_}
+use mathlib.Core.Bool.{Bool, false, _&&_}
 use mathlib.Core.List.{List, [], _∷_}
 use lib.Dec.{ltb, eqb}
 use Rattle.base.specs.Pick.{pick}
 use Rattle.base.specs.Bits.{bit}
 use Rattle.base.specs.Refusals.{Ground, firstHeld}
-use Rattle.base.specs.declared.Answer.{Answer}
 use Rattle.base.specs.declared.Answer.the-variants.{Byte, Done, Refused}
 use Rattle.channel.specs.declared.Channel.{Channel}
 use Rattle.channel.specs.declared.Stepped.{Stepped}
@@ -57,7 +56,7 @@ loopAsked (Arrival marks byte) = false
 loopAsked (Levels levels) = false
 loopAsked Time = false
 
--- the grounds of a seat, in document 01's order: "2, then 5, 6, 7, 8, 9"
+-- the grounds of a seat, in document 01's order, in which 8 is the controller's: "2, then 5, 6, 7, 8, 9"
 unfoldable pub grounds : Channel → SeatEvent → List Ground
 grounds c e =
     record { number = 2; holds = registerAbove e }

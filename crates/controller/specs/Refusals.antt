@@ -4,7 +4,7 @@ use mathlib.Core.Bool.{Bool, false, not, _&&_, _||_}
 use mathlib.Core.List.{[], _∷_}
 use lib.Dec.{eqb, ltb}
 use Rattle.base.specs.Bits.{bit}
-use Rattle.base.specs.Refusals.{Ground, firstHeld}
+use Rattle.base.specs.Refusals.{firstHeld}
 use Rattle.controller.specs.State.{ready, begun, awaitsIcw4}
 use Rattle.controller.specs.Signals.{Signal, levels, read, write, acknowledge}
 use Rattle.controller.specs.Words.{isIcw1, isOcw3}

@@ -1,6 +1,6 @@
 -- Closed runs from power-up, by computation: the premises of demand 3 are met, and the eighth acknowledge is the first that names line 7.
 use Prim.Native.Nat.{ℕ}
-use mathlib.Core.Bool.{true, false}
+use mathlib.Core.Bool.{false}
 use mathlib.Core.List.{List, [], _∷_, _++_}
 use mathlib.Core.Path.{_≡_, refl}
 use mathlib.Core.Logic.{inl, inr}
@@ -38,7 +38,8 @@ use Rattle.bench.specs.Events.{Record, whole, short}
 use Rattle.bench.specs.Seats.{powerUp}
 use Rattle.bench.specs.Runs.{afterAll}
 use Rattle.bench.specs.Steps.{outcome}
-use Rattle.bench.specs.WiredLaws.{Wired, wired-kept, wired-power-up}
+use Rattle.bench.specs.Wired.{Wired}
+use Rattle.bench.specs.WiredLaws.{wired-kept, wired-power-up}
 use Rattle.demands.specs.Demand3.{told, Kept, Demand3}
 use Rattle.demands.proofs.Demand3.{demand-3-bench}
 

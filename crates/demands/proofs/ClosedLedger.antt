@@ -1,5 +1,4 @@
 -- A closed run of the receive ledger from power-up, by computation: every count of it is above 0.
-use Prim.Native.Nat.{ℕ}
 use mathlib.Core.List.{List, [], _∷_}
 use mathlib.Core.Path.{_≡_, refl}
 use Rattle.base.specs.Pick as base-pick

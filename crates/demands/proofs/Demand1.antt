@@ -1,15 +1,14 @@
 -- Demand 1 holds.
-use Prim.Native.Nat.{ℕ, zero, suc}
-use mathlib.Core.Bool.{Bool, true, false}
+use Prim.Native.Nat.{ℕ}
+use mathlib.Core.Bool.{true, false}
 use mathlib.Core.List.{List, [], _∷_}
 use mathlib.Core.Path.{_≡_, refl, ap, sym, subst, _∙_}
-use mathlib.Core.Logic.{_⊎_, inl, inr, ⊎-elim}
+use mathlib.Core.Logic.{inl, inr, ⊎-elim}
 use native.Mathlib.Omega.{arith}
 use lib.Dec.{eqb}
 use borrow.Author.Tests.{eqb-true, eqb-false}
-use Rattle.base.specs.Pick.{pick}
 use Rattle.base.specs.PickLaws.{pick-true, pick-false, either-way}
-use Rattle.base.specs.Answers.{refusalOf, valueOf}
+use Rattle.base.specs.Answers.{valueOf}
 use Rattle.base.specs.Refusals.{Ground, firstHeld}
 use Rattle.bench.specs.declared.Bench.{Bench}
 use Rattle.bench.specs.declared.Outcome.{Outcome}
@@ -18,7 +17,7 @@ use Rattle.bench.specs.Refusals.{grounds, refusal}
 use Rattle.bench.specs.Seats.{seat}
 use Rattle.bench.specs.Steps.{outcome}
 use Rattle.bench.specs.OutcomeLaws.{outcome-refused, outcome-number}
-use Rattle.demands.specs.Demand1.{NoneHolds, Listed, Refused, Accepted, Answered, AllAnswered, Demand1}
+use Rattle.demands.specs.Demand1.{NoneHolds, Listed, Refused, Accepted, Answered, Demand1}
 
 -- every number of the list is above 0
 abbrev Numbered : List Ground → Type 0

@@ -1,27 +1,24 @@
 -- Demand 3 holds: what each record sends to the controller, and the demand for one controller.
 use Prim.Native.Nat.{ℕ, _<_}
-use mathlib.Core.Bool.{Bool, true, false, not}
+use mathlib.Core.Bool.{Bool, true, false}
 use mathlib.Core.List.{List, [], _∷_, _++_}
 use mathlib.Core.Path.{_≡_, refl, ap, sym, subst, _∙_}
 use mathlib.Core.Logic.{_⊎_, inl, inr, ⊎-elim}
 use native.Mathlib.Omega.{arith}
-use native.Mathlib.Nat.{mod-lt, zero-lt-suc}
 use lib.Dec.{eqb}
-use lib.ListN.{length}
 use Rattle.base.specs.Pick.{pick}
 use Rattle.base.specs.BitLaws.{bit-bits}
 use Rattle.base.specs.declared.Answer.{Answer}
-use Rattle.base.specs.declared.Answer.the-variants.{Vector}
 use Rattle.base.specs.declared.Answer.the-variants as answer
 use Rattle.rank.specs.Sets.{has}
 use Rattle.channel.specs.declared.SeatEvent.{SeatEvent}
 use Rattle.controller.specs.Signals.{Signal, levels, read, write, acknowledge}
-use Rattle.controller.specs.Turns.{settled, vector}
+use Rattle.controller.specs.Turns.{settled}
 use Rattle.controller.specs.Steps.{step}
 use Rattle.controller.specs.RefusalLaws.{step-levels, read-keeps}
 use Rattle.controller.specs.declared.Controller.{Controller}
 use Rattle.turn.specs.Runs.{answers}
-use Rattle.turn.specs.Waiting.{Start, Waits}
+use Rattle.turn.specs.Waiting.{Waits}
 use Rattle.turn.specs.Demand3.{InTurn}
 use Rattle.turn.specs.Demand3 as turn
 use Rattle.turn.proofs.InTurn.{demand-3}
@@ -32,11 +29,12 @@ use Rattle.bench.specs.declared.Event.the-variants.{OfSeat, MasterReset, ReadCo
 use Rattle.bench.specs.declared.Decoded.{Decoded}
 use Rattle.bench.specs.declared.Decoded.the-variants.{Taken, Refused}
 use Rattle.bench.specs.Events.{Record, decoded}
-use Rattle.bench.specs.Seats.{noSeat, chair, seat, seatLine, lines, withController}
+use Rattle.bench.specs.Seats.{noSeat, chair, seat, seatLine, lines}
 use Rattle.bench.specs.Steps.{roomRefusal, after, answerTo, shown, met, outcome, dealt}
 use Rattle.bench.specs.MeetLaws.{outcome-dealt, write-met, acknowledge-met, read-met}
 use Rattle.bench.specs.FrameLaws.{mapped-at, chair-small}
-use Rattle.bench.specs.WiredLaws.{Wired, wired-kept}
+use Rattle.bench.specs.Wired.{Wired}
+use Rattle.bench.specs.WiredLaws.{wired-kept}
 use Rattle.demands.specs.Demand3.{Calm, owing, heard, told, Names, Kept, Demand3}
 
 -- ---- what a record sends to the controller

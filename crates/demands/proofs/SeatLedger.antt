@@ -1,6 +1,6 @@
 -- The receive ledger of a seat of the bench: the ledger of its receive side, over what befalls it.
-use Prim.Native.Nat.{ℕ, _+_, _<_}
-use mathlib.Core.Bool.{Bool, true, false}
+use Prim.Native.Nat.{ℕ, _+_}
+use mathlib.Core.Bool.{true, false}
 use mathlib.Core.List.{List, [], _∷_, _++_, append-nil}
 use mathlib.Core.Path.{_≡_, refl, ap, ap₂, sym, subst, _∙_}
 use mathlib.Core.Logic.{⊎-elim}
@@ -8,10 +8,9 @@ use native.Mathlib.Omega.{arith}
 use lib.Dec.{eqb}
 use lib.ListN.{length, getD, getD-replicate}
 use borrow.Author.Tests.{eqb-true}
-use Rattle.base.specs.Pick.{pick}
 use Rattle.base.specs.PickLaws.{pick-true, pick-false, pick-through, either-way}
 use Rattle.base.specs.declared.Answer.{Answer}
-use Rattle.receiver.specs.Ledger.{Moment, resets, Side, after, Subsequence, arrivedIn, readIn, lostIn, droppedIn, queued, losing, dropping, Ledger}
+use Rattle.receiver.specs.Ledger.{Moment, resets, Side, after, Subsequence, arrivedIn, readIn, lostIn, droppedIn, queued}
 use Rattle.receiver.specs.Ledger as side-run
 use Rattle.receiver.specs.LedgerLaws.{ledger, after-both, arrived-both, read-both}
 use Rattle.receiver.specs.Sound.{soundReceiver}
@@ -34,11 +33,11 @@ use Rattle.bench.specs.declared.Decoded.the-variants.{Taken, Refused}
 use Rattle.bench.specs.Events.{Record, decoded}
 use Rattle.bench.specs.Seats.{noSeat, chair, seat, powerUp}
 use Rattle.bench.specs.Steps.{roomRefusal, answerTo, met, outcome, dealt}
-use Rattle.bench.specs.Runs.{Act, event, reset, acted, actedAll, own, afterAll}
+use Rattle.bench.specs.Runs.{Act, event, reset, actedAll, own, afterAll}
 use Rattle.bench.specs.MeetLaws.{outcome-dealt}
 use Rattle.bench.specs.FrameLaws.{seat-acts, chair-small}
 use Rattle.bench.specs.RunLaws.{eight-kept}
-use Rattle.demands.specs.SeatLedger.{befalling, befalls, arrivedAt, readAt, lostAt, droppedAt, queuedAt, SoundAt, Kept, SeatLedger, FromPowerUp, SeatLedgerFromPowerUp}
+use Rattle.demands.specs.SeatLedger.{befalling, befalls, arrivedAt, readAt, lostAt, droppedAt, queuedAt, SoundAt, SeatLedger, SeatLedgerFromPowerUp}
 
 -- ---- counts over a run in two parts
 

@@ -1,5 +1,5 @@
 -- The twelve starred cases, by computation over the definitions.
-use mathlib.Core.Path.{_≡_, refl}
+use mathlib.Core.Path.{refl}
 use Rattle.base.specs.Pick as base-pick
 use Rattle.base.specs.Bits as base-bits
 use Rattle.base.specs.Answers as base-answers

@@ -1,11 +1,11 @@
 -- Demand 1: every event is answered, and a refused one leaves everything just as before.
 use Prim.Native.Nat.{ℕ}
-use mathlib.Core.Bool.{Bool, true, false}
+use mathlib.Core.Bool.{true, false}
 use mathlib.Core.List.{List, [], _∷_}
 use mathlib.Core.Path.{_≡_}
 use mathlib.Core.Logic.{_⊎_}
 use Rattle.base.specs.Answers.{refusalOf, valueOf}
-use Rattle.base.specs.Refusals.{Ground, firstHeld}
+use Rattle.base.specs.Refusals.{Ground}
 use Rattle.controller.specs.Turns.{outputOf}
 use Rattle.bench.specs.declared.Bench.{Bench}
 use Rattle.bench.specs.declared.Outcome.{Outcome}

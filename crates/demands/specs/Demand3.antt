@@ -17,7 +17,7 @@ use Rattle.bench.specs.declared.Decoded.the-variants.{Taken, Refused}
 use Rattle.bench.specs.Events.{Record, decoded}
 use Rattle.bench.specs.Seats.{seat, seatLine}
 use Rattle.bench.specs.Steps.{outcome}
-use Rattle.bench.specs.WiredLaws.{Wired}
+use Rattle.bench.specs.Wired.{Wired}
 
 -- The tender: with no initialisation, set-priority, special-mask, rotation on or off, or other end command meanwhile, and unmasked. A write is
 -- none of these and leaves the mask bit of line n clear; an acknowledge comes only where no end is owed; anything else may come: every event

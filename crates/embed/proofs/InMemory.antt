@@ -1,6 +1,5 @@
 -- A bench as it lies in memory, by the machine that gives programs their meaning: how many bytes it has, and that zeroed memory is the bench
 -- at power-up. So what a C program holds after `= {0}` may be lent as it is.
-use Prim.Native.Nat.{ℕ}
 use mathlib.Core.Path.{_≡_, refl}
 use mathlib.Core.List.{List}
 use mathlib.Core.Option.{some}

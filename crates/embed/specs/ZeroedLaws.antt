@@ -1,6 +1,6 @@
 -- The bench at power-up is zeroed, and it is the only bench that is.
 use Prim.Native.Nat.{ℕ, zero, suc}
-use mathlib.Core.Bool.{Bool, true, false, not, _&&_}
+use mathlib.Core.Bool.{Bool, true, false, not}
 use mathlib.Core.List.{List, [], _∷_, map}
 use mathlib.Core.Path.{_≡_, refl, ap₂}
 use native.Mathlib.Omega.{arith}

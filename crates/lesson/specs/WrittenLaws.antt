@@ -1,7 +1,6 @@
 -- Two lessons, character by character: no name stands between the reader and the codes that an editor writes.
 use mathlib.Core.List.{[], _∷_}
 use mathlib.Core.Path.{_≡_, refl}
-use lib.Dec.{ltb, leb, eqb}
 use Rattle.base.specs.Pick.{pick}
 use Rattle.lesson.specs.Text.{digit, apart, commented, told, worths, paired, digitsOf, bytesOf}
 use Rattle.lesson.specs.Fault.{faulty, next, after, faultFrom, faultOf}

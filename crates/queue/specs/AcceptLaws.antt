@@ -13,7 +13,7 @@ use Rattle.base.specs.PickLaws.{pick-true, pick-false, pick-same, pick-through,
 use Rattle.queue.specs.declared.Character.{Character}
 use Rattle.queue.specs.declared.Queue.{Queue}
 use Rattle.queue.specs.declared.Put.{Put}
-use Rattle.queue.specs.Queue.{room, entered, replaced, capacity, accepted, canonical}
+use Rattle.queue.specs.Queue.{room, capacity, accepted, canonical}
 use Rattle.queue.specs.QueueLaws.{holding, enter-room, replace-newest}
 use Rattle.queue.specs.FactsLaws.{Facts, facts-1, facts-16}
 

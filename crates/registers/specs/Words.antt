@@ -1,6 +1,6 @@
 -- The trigger, the word length, and what a character that arrives may be.
 use Prim.Native.Nat.{ℕ, _+_, _%_, _^_}
-use mathlib.Core.Bool.{Bool, true, false, not, _&&_, _||_}
+use mathlib.Core.Bool.{Bool, not, _&&_, _||_}
 use lib.Dec.{ltb, leb, eqb}
 use Rattle.base.specs.Pick.{pick}
 use Rattle.base.specs.Bits.{bit}

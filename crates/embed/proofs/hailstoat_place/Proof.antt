@@ -1,5 +1,5 @@
 -- `hailstoat_place`, walked by hand. The shared loan is looked into, the bench copied out and the loan shut; what `place_word` returns is returned.
-use mathlib.Core.Path.{_≡_, refl}
+use mathlib.Core.Path.{refl}
 use mathlib.Core.Bool.{false}
 use Prim.Native.Nat.{ℕ, _<_, _^_}
 use mathlib.Core.List.{[], _∷_, List}

@@ -1,5 +1,4 @@
 use borrow.Author.Needs.{needs}
-use native.Mathlib.Omega.{arith}
 use Rattle.embed.specs.WordLaws.{put-together}
 use Rattle.embed.proofs.word.Statement.{statement}
 use Rattle.embed.proofs.word.Tie as tie

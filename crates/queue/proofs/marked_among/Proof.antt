@@ -1,4 +1,4 @@
-use Prim.Native.Nat.{_+_, _-_, _<_, _≤_, min}
+use Prim.Native.Nat.{_-_, min}
 use mathlib.Core.Path.{_≡_, refl, sym, _∙_}
 use native.Mathlib.Omega.{arith}
 use lib.ListN.{length, take, drop, length-take}

@@ -1,5 +1,5 @@
 use Rattle.base.specs.PickLaws.{pick-true, pick-false}
-use Prim.Native.Nat.{ℕ, _%_}
+use Prim.Native.Nat.{_%_}
 use mathlib.Core.Path.{_≡_, sym}
 use borrow.Author.Tests.{lt-leb}
 use native.Mathlib.Omega.{arith}

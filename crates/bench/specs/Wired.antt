@@ -1,0 +1,11 @@
+-- The wiring: what a bench must be for its controller to hear its seats.
+use mathlib.Core.Path.{_≡_}
+use lib.ListN.{length}
+use Rattle.bench.specs.declared.Bench.{Bench}
+use Rattle.bench.specs.Seats.{lines}
+
+-- "Eight seats, 0 to 7. Seat n is one serial channel; its interrupt output is line n of one 8259A.": eight seats, and each line of the
+-- controller at the level of its seat
+pub record Wired (b : Bench) : Type 0 where
+  pub eight : length (b .seats) ≡ 8
+  pub levels : b .controller .lines .levels ≡ lines (b .seats)

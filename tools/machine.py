@@ -1,0 +1,45 @@
+"""What the scripts that run the programs share: the toolchain, and how its programs run on this machine."""
+import os
+import platform
+import subprocess
+import sys
+from pathlib import Path
+
+ROOT = Path(__file__).resolve().parent.parent
+
+
+def stop(words):
+    print(f"{Path(sys.argv[0]).name}: {words}", file=sys.stderr)
+    sys.exit(2)
+
+
+def find_rt():
+    found = subprocess.run([ROOT / "tools/find-rt"], stdout=subprocess.PIPE, encoding="utf-8")
+    if found.returncode:
+        sys.exit(2)
+    return Path(found.stdout.strip())
+
+
+def proved(name):
+    """The command that runs a program of the repository, which is proved and built first where it is not."""
+    rt = find_rt().resolve()
+    built = subprocess.run([rt, "check", name], cwd=ROOT, stdout=subprocess.PIPE, stderr=subprocess.STDOUT)
+    if built.returncode:
+        sys.stderr.buffer.write(built.stdout)
+        stop(f"rt check {name} failed")
+    kit = Path(os.environ.get("RATTLE_HOME", rt.parent.parent))
+    return run_by(kit / "on" / platform.machine() / "toolchain") + [ROOT / "target/bin" / name]
+
+
+def run_by(toolchain):
+    """Programs are for x86-64. On another processor the kit has an emulator beside its compiler."""
+    emulator = toolchain / "bin/qemu-x86_64"
+    loader = [toolchain / "lib/ld-linux-x86-64.so.2", "--library-path", toolchain / "lib"]
+    return [emulator] + loader if emulator.exists() else loader
+
+
+def second(out, **setting):
+    """The command that runs the second program, built in a folder."""
+    if subprocess.run([ROOT / "second/build", out], env={**os.environ, **setting}).returncode:
+        stop("second/build failed")
+    return [Path(out) / "second"]
