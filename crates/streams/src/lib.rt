@@ -10,6 +10,7 @@ mod steps;
 pub use digest::add;
 pub use digest::outcome_mark;
 pub use digest::place_mark;
+pub use rows::script_rows;
 ghost use mathlib.Core.Path.{_≡_};
 
 pub struct Record {

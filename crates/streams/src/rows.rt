@@ -278,12 +278,26 @@ const ROWS: [u64; 201] = [
     0x00_06_00_00_01_FF_00,
 ];
 
-// "Each row that is looked up is one of the 201", and no times pass 127: the remainders are there so that neither need be
-// shown.
-pub(crate) fn row_at(at: u8) -> Row
+// The table, for whoever runs a stream to hold and to lend: a constant that is looked up is built anew at each look.
+pub fn script_rows() -> [u64; 201] {
+    ROWS
+}
+
+// A row of the table lent. "Each row that is looked up is one of the 201", and no times pass 127: the test and the remainder are
+// there so that neither need be shown.
+pub(crate) fn row_at(rows: &[u64], at: u8) -> Row
     ensures { λ r. ⌜ r .times < 128 ⌝ }
 {
-    let packed = ROWS[(at % 201) as usize];
+    let place = at as usize;
+    if rows.len() <= place {
+        return unpacked(0);
+    }
+    unpacked(rows[place])
+}
+
+fn unpacked(packed: u64) -> Row
+    ensures { λ r. ⌜ r .times < 128 ⌝ }
+{
     Row {
         kind: (packed / 0x01_00_00_00_00_00_00 % 256) as u8,
         number: (packed / 0x01_00_00_00_00_00 % 256) as u8,

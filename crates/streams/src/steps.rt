@@ -35,11 +35,11 @@ impl Stream {
     }
 
     // "New row. Only if left is 0."
-    fn new_row(mut self) -> Self {
+    fn new_row(mut self, rows: &[u64]) -> Self {
         if self.left > 0 {
             return self;
         }
-        let row = rows::row_at(self.row);
+        let row = rows::row_at(rows, self.row);
         let x = turn(self.x);
         self.x = x;
         self.left = 1 + pick(x, row.times);
@@ -47,8 +47,8 @@ impl Stream {
     }
 
     // "The record."
-    fn ask(mut self) -> Made {
-        let row = rows::row_at(self.row);
+    fn ask(mut self, rows: &[u64]) -> Made {
+        let row = rows::row_at(rows, self.row);
         let f = turn(self.x);
         let g = turn(f);
         let h = turn(g);
@@ -107,10 +107,10 @@ impl Stream {
         self
     }
 
-    // The next event, and the stream after it.
-    pub fn next(self) -> Made {
-        let ready = self.new_script().new_row();
-        let made = ready.ask();
+    // The next event, and the stream after it. The rows are those of `script_rows`.
+    pub fn next(self, rows: &[u64]) -> Made {
+        let ready = self.new_script().new_row(rows);
+        let made = ready.ask(rows);
         let record = made.record;
         let stream = made.stream;
         stream.count().spoil(record)

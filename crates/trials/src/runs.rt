@@ -15,11 +15,12 @@ fn add_places(digest: u32, bench: Bench) -> u32 {
 }
 
 pub(crate) fn digest(seed: u32, count: u64) -> u32 {
+    let rows = streams::script_rows();
     let mut stream = Stream::start(seed);
     let mut bench = Bench::power_up();
     let mut sum: u32 = 0;
     for _ in 0..count {
-        let made = stream.next();
+        let made = stream.next(&rows);
         stream = made.stream;
         let record = made.record;
         let outcome = bench.step(record.kind, record.seat, record.number, record.value);

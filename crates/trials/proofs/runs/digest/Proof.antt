@@ -1,13 +1,18 @@
-use Prim.Native.Nat.{_-_}
+use Prim.Native.Nat.{_-_, _<_}
+use native.Mathlib.Omega.{arith}
 use borrow.Author.Needs.{needs}
 use Rattle.trials.proofs.runs.digest.Statement.{statement}
 use Rattle.trials.proofs.runs.digest.Tie as tie
 
+-- the count is a number of 64 bits, so that the one after a number below it is
 abbrev Inv-loop : tie.InvT-loop
-Inv-loop seed count stream₀ bench₀ sum₀ counter₀ stream bench sum counter = Unit
+Inv-loop seed count rows stream₀ bench₀ sum₀ counter₀ stream bench sum counter = count < 18446744073709551616
 
 abbrev μ-loop : tie.MeasureT-loop
-μ-loop seed count stream₀ bench₀ sum₀ counter₀ stream bench sum counter = count - counter
+μ-loop seed count rows stream₀ bench₀ sum₀ counter₀ stream bench sum counter = count - counter
+
+script-rows-requires : tie.Need-script-rows-requires Inv-loop μ-loop
+script-rows-requires c κs = search needs
 
 start-requires : tie.Need-start-requires Inv-loop μ-loop
 start-requires c κs = search needs
@@ -17,6 +22,9 @@ power-up-requires c κs = search needs
 
 loop-holds : tie.Need-loop-holds Inv-loop μ-loop
 loop-holds c = search needs
+
+slice-aggregate-next : tie.Need-slice-aggregate-next Inv-loop μ-loop
+slice-aggregate-next c = search needs
 
 next-requires : tie.Need-next-requires Inv-loop μ-loop
 next-requires c κs = search needs
@@ -34,7 +42,7 @@ add-places-requires : tie.Need-add-places-requires Inv-loop μ-loop
 add-places-requires c κs = search needs
 
 add-counter : tie.Need-add-counter Inv-loop μ-loop
-add-counter c = search needs
+add-counter c = omega arith
 
 loop-less : tie.Need-loop-less Inv-loop μ-loop
 loop-less c = search needs
@@ -51,9 +59,11 @@ digest-spec =
     (tie.spec
     Inv-loop
     μ-loop
+    script-rows-requires
     start-requires
     power-up-requires
     loop-holds
+    slice-aggregate-next
     next-requires
     step-requires
     outcome-mark-requires
