@@ -11,7 +11,7 @@ mod steps;
 ghost use mathlib.Core.Path.{_≡_};
 ghost use Rattle.bench.specs.Seats.{powerUp};
 
-// What stands at a seat. The doors `seat` and `with_seat` of a bench are the only way to it.
+// What stands at a seat. A seat of a bench is opened by `meet_seat` alone: copied out at its chair, and stored back there.
 #[repr(C)]
 pub struct Seat {
     pub channel: Channel,

@@ -1,9 +1,10 @@
-// The seats of a bench: the two doors to one of them, and what concerns all eight.
+// The seats of a bench: where one of them stands, and what concerns all eight.
 use crate::Bench;
 use crate::Seat;
 ghost use mathlib.Core.Path.{_≡_};
 ghost use mathlib.Core.List.{map};
-ghost use Rattle.bench.specs.Seats.{seat, withSeat, withLine, seatReset};
+ghost use Rattle.bench.specs.Seats.{withLine, seatReset};
+ghost use Rattle.bench.specs.Seats.{chair as Seats·chair};
 
 impl Seat {
     fn reset(mut self) -> Self
@@ -36,19 +37,9 @@ pub(crate) fn with_line(levels: u8, n: u8, high: bool) -> u8
     rank::without(levels, one)
 }
 
-impl Bench {
-    pub(crate) fn seat(self, n: u8) -> Seat
-        ensures { λ r. ⌜ r ≡ seat self n ⌝ }
-    {
-        let at = (n % Bench::SEATS) as usize;
-        self.seats[at]
-    }
-
-    pub(crate) fn with_seat(mut self, n: u8, s: Seat) -> Self
-        ensures { λ r. ⌜ r ≡ withSeat self n s ⌝ }
-    {
-        let at = (n % Bench::SEATS) as usize;
-        self.seats[at] = s;
-        self
-    }
+// The place of seat n, whatever the number.
+pub(crate) fn chair(n: u8) -> usize
+    ensures { λ r. ⌜ r ≡ Seats·chair n ⌝ }
+{
+    (n % Bench::SEATS) as usize
 }

@@ -55,12 +55,20 @@ impl Bench {
     fn meet_seat(mut self, n: u8, e: SeatEvent) -> Outcome
         ensures { λ r. ⌜ r ≡ met self (OfSeat n e) ⌝ }
     {
-        let touched = touch_seat(self.seat(n), self.controller, n, e);
-        self = self.with_seat(n, touched.seat);
+        let at = seats::chair(n);
+        let seat = self.seats[at];
+        let touched = touch_seat(seat, self.controller, n, e);
+        let next = touched.seat;
+        self.seats[at] = next;
         let moved = touched.controller;
         self.controller = moved;
         let answer = touched.answer;
-        self.show(answer)
+        let output = self.controller.output();
+        Outcome {
+            bench: self,
+            answer,
+            output,
+        }
     }
 
     fn meet_reset(mut self) -> Outcome
@@ -76,7 +84,13 @@ impl Bench {
     fn meet_read(self, port: u8) -> Outcome
         ensures { λ r. ⌜ r ≡ met self (ReadController port) ⌝ }
     {
-        self.show(self.controller.read(port))
+        let answer = self.controller.read(port);
+        let output = self.controller.output();
+        Outcome {
+            bench: self,
+            answer,
+            output,
+        }
     }
 
     fn meet_write(mut self, port: u8, byte: u8) -> Outcome
@@ -86,7 +100,12 @@ impl Bench {
         let next = stepped.controller;
         self.controller = next;
         let answer = stepped.answer;
-        self.show(answer)
+        let output = self.controller.output();
+        Outcome {
+            bench: self,
+            answer,
+            output,
+        }
     }
 
     fn meet_acknowledge(mut self) -> Outcome
@@ -96,7 +115,12 @@ impl Bench {
         let next = stepped.controller;
         self.controller = next;
         let answer = stepped.answer;
-        self.show(answer)
+        let output = self.controller.output();
+        Outcome {
+            bench: self,
+            answer,
+            output,
+        }
     }
 
     fn meet(self, event: Event) -> Outcome
