@@ -4,7 +4,8 @@ use mathlib.Core.Bool.{true, false}
 use mathlib.Core.List.{List, [], _∷_, map}
 use mathlib.Core.Path.{_≡_, refl, ap, sym, subst, _∙_}
 use mathlib.Core.Logic.{⊎-elim}
-use native.Mathlib.Nat.{mod-lt, zero-lt-suc, le-of-suc-le-suc, not-suc-le-zero}
+use native.Mathlib.Nat.{le-of-suc-le-suc, not-suc-le-zero}
+use native.Mathlib.Omega.{arith}
 use lib.Dec.{eqb}
 use lib.ListN.{length, getD, set, length-set}
 use lib.Seq.{getD-set-same, getD-set-other}
@@ -38,7 +39,11 @@ mapped-length f [] = refl
 mapped-length f (x ∷ l) = ap suc (mapped-length f l)
 
 pub chair-small : (n : ℕ) → chair n < 8
-chair-small n = mod-lt n (zero-lt-suc 7)
+chair-small n = omega arith
+
+-- "Eight seats, 0 to 7.": each has a chair of its own
+pub chair-own : (n : ℕ) → n < 8 → chair n ≡ n
+chair-own n seat = omega arith
 
 -- ---- an event on a seat
 
