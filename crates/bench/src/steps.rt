@@ -52,6 +52,7 @@ impl Bench {
         }
     }
 
+    // The output is added here and not by `show`, which would copy the bench once more; most events are a seat's.
     fn meet_seat(mut self, n: u8, e: SeatEvent) -> Outcome
         ensures { λ r. ⌜ r ≡ met self (OfSeat n e) ⌝ }
     {
@@ -84,13 +85,7 @@ impl Bench {
     fn meet_read(self, port: u8) -> Outcome
         ensures { λ r. ⌜ r ≡ met self (ReadController port) ⌝ }
     {
-        let answer = self.controller.read(port);
-        let output = self.controller.output();
-        Outcome {
-            bench: self,
-            answer,
-            output,
-        }
+        self.show(self.controller.read(port))
     }
 
     fn meet_write(mut self, port: u8, byte: u8) -> Outcome
@@ -100,12 +95,7 @@ impl Bench {
         let next = stepped.controller;
         self.controller = next;
         let answer = stepped.answer;
-        let output = self.controller.output();
-        Outcome {
-            bench: self,
-            answer,
-            output,
-        }
+        self.show(answer)
     }
 
     fn meet_acknowledge(mut self) -> Outcome
@@ -115,12 +105,7 @@ impl Bench {
         let next = stepped.controller;
         self.controller = next;
         let answer = stepped.answer;
-        let output = self.controller.output();
-        Outcome {
-            bench: self,
-            answer,
-            output,
-        }
+        self.show(answer)
     }
 
     fn meet(self, event: Event) -> Outcome

@@ -1,4 +1,3 @@
-use mathlib.Core.Bool.{Bool}
 use mathlib.Core.Path.{ap, _∙_}
 use Rattle.controller.specs.declared.Stepped.{Stepped}
 use Rattle.bench.specs.Seats.{withController}
@@ -11,15 +10,14 @@ use Rattle.bench.proofs.Bench.meet_acknowledge.Tie as tie
 acknowledge-requires : tie.Need-acknowledge-requires
 acknowledge-requires c κs = search needs
 
-output-requires : tie.Need-output-requires
-output-requires c κs = search needs
+show-requires : tie.Need-show-requires
+show-requires c κs = search needs
 
 returns : tie.Need-returns
 returns c =
     let b = c .before .before .before .args .self in
-    ap (λ (o : Bool). record { bench = withController b (c .before .before .acknowledge .result .controller); answer = c .before .before .acknowledge .result .answer; output = o }) (c .output .ensures)
-    ∙ ap (λ (s : Stepped). shown (withController b (s .controller)) (s .answer)) (c .before .before .acknowledge .ensures)
+    c .show .ensures ∙ ap (λ (s : Stepped). shown (withController b (s .controller)) (s .answer)) (c .before .before .acknowledge .ensures)
     ∙ acknowledge-met b
 
 pub meet-acknowledge-spec : {M : Type 1} → statement M
-meet-acknowledge-spec = tie.close (tie.spec acknowledge-requires output-requires returns)
+meet-acknowledge-spec = tie.close (tie.spec acknowledge-requires show-requires returns)
