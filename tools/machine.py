@@ -22,24 +22,25 @@ def find_rt():
 
 def proved(name):
     """The command that runs a program of the repository, which is proved and built first where it is not."""
-    rt = find_rt().resolve()
+    rt = find_rt()
     built = subprocess.run([rt, "check", name], cwd=ROOT, stdout=subprocess.PIPE, stderr=subprocess.STDOUT)
     if built.returncode:
         sys.stderr.buffer.write(built.stdout)
         stop(f"rt check {name} failed")
-    kit = Path(os.environ.get("RATTLE_HOME", rt.parent.parent))
-    return run_by(kit / "on" / platform.machine() / "toolchain") + [ROOT / "target/bin" / name]
+    return run_by(rt) + [ROOT / "target/bin" / name]
 
 
-def run_by(toolchain):
+def run_by(rt):
     """Programs are for x86-64. On another processor the kit has an emulator beside its compiler."""
+    kit = Path(os.environ.get("RATTLE_HOME", rt.resolve().parent.parent))
+    toolchain = kit / "on" / platform.machine() / "toolchain"
     emulator = toolchain / "bin/qemu-x86_64"
     loader = [toolchain / "lib/ld-linux-x86-64.so.2", "--library-path", toolchain / "lib"]
     return [emulator] + loader if emulator.exists() else loader
 
 
-def second(out, **setting):
+def second(out):
     """The command that runs the second program, built in a folder."""
-    if subprocess.run([ROOT / "second/build", out], env={**os.environ, **setting}).returncode:
+    if subprocess.run([ROOT / "second/build", out]).returncode:
         stop("second/build failed")
     return [Path(out) / "second"]

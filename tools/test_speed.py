@@ -13,13 +13,21 @@ TOOLS = Path(__file__).parent
 # Works for a while, so that its time can be told, and leaves a mark of what it was asked for.
 SECOND = """\
 #include <stdio.h>
+#include <stdlib.h>
 int main(int n, char **words) {
+    FILE *marks = fopen(getenv("MARKS"), "a");
     for (volatile long i = 0; i < 20000000; i++) { }
-    for (int i = 1; i < n; i++) fprintf(stderr, "%s%c", words[i], i + 1 < n ? ' ' : '\\n');
-    return 0;
+    for (int i = 1; i < n; i++) fprintf(marks, "%s%c", words[i], i + 1 < n ? ' ' : '\\n');
+    return fclose(marks);
 }
 """
-PROGRAM = '#!/bin/sh\ni=0; while [ $i -lt 20000 ]; do i=$((i + 1)); done\necho proved "$@" >&2\nexit "${FAULT:-0}"\n'
+# As the proved programs, it has no status of its own, and says what failed.
+PROGRAM = """\
+#!/bin/sh
+i=0; while [ $i -lt 20000 ]; do i=$((i + 1)); done
+echo proved "$@" >>"$MARKS"
+[ -z "$FAULT" ] || echo "$FAULT" >&2
+"""
 
 
 @unittest.skipUnless(platform.machine() == "x86_64", "the stand-ins run natively")
@@ -34,10 +42,13 @@ class Speed(Room):
             self.script(f"target/bin/{name}", PROGRAM)
 
     def run_it(self, *words, **settings):
-        setting = {**os.environ, **settings, "PATH": f"{self.root / 'bin'}:{os.environ['PATH']}"}
+        marks = self.root / "marks"
+        marks.write_text("")
+        setting = {**os.environ, "FAULT": "", **settings, "MARKS": str(marks),
+                   "PATH": f"{self.root / 'bin'}:{os.environ['PATH']}"}
         done = subprocess.run([self.root / "tools/speed", *words], env=setting, stdout=subprocess.PIPE,
                               stderr=subprocess.PIPE, encoding="utf-8")
-        return done.returncode, done.stdout, done.stderr.splitlines()
+        return done.returncode, done.stdout, marks.read_text().splitlines()
 
     def test_both_programs_both_ways(self):
         status, said, asked = self.run_it("3", "70000000")
@@ -50,12 +61,12 @@ class Speed(Room):
             self.assertIn(way, asked)
 
     def test_a_program_that_fails_gives_no_figure(self):
-        status, said, _ = self.run_it("3", "1000", FAULT="1")
+        status, said, _ = self.run_it("3", "1000", FAULT="standard input could not be read")
         self.assertEqual(status, 2)
         self.assertNotIn("with the listing", said)
 
     def test_wrong_words(self):
-        for words in (["x"], ["3", "0"], ["3", "4", "5"]):
+        for words in (["x"], ["3", "0"], ["3", "4", "5"], ["4294967296"]):
             self.assertEqual(self.run_it(*words)[0], 2)
 
 
