@@ -11,7 +11,8 @@ mod steps;
 ghost use mathlib.Core.Path.{_≡_};
 ghost use Rattle.bench.specs.Seats.{powerUp};
 
-// What stands at a seat. A seat of a bench is opened by `meet_seat` alone: copied out at its chair, and stored back there.
+// What stands at a seat. One seat of a bench is opened by `meet_seat` alone, copied out at its chair and stored back there; `meet_reset`
+// opens all eight.
 #[repr(C)]
 pub struct Seat {
     pub channel: Channel,

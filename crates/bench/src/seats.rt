@@ -37,7 +37,7 @@ pub(crate) fn with_line(levels: u8, n: u8, high: bool) -> u8
     rank::without(levels, one)
 }
 
-// The place of seat n, whatever the number.
+// Where seat n stands; a number above 7 counts round.
 pub(crate) fn chair(n: u8) -> usize
     ensures { λ r. ⌜ r ≡ Seats·chair n ⌝ }
 {

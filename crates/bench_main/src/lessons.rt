@@ -1,6 +1,6 @@
 // A lesson from a file: its text is read whole, and run only where it has no fault.
-use crate::streams;
-use crate::streams::Filled;
+use crate::files;
+use crate::files::Filled;
 use bench::Bench;
 use lesson::Lesson;
 use libc::STDERR_FILENO;
@@ -33,7 +33,7 @@ fn fault(path: &[u8], line: usize, column: usize) {
     io::print_decimal(STDERR_FILENO, column as u64);
     io::write_all(
         STDERR_FILENO,
-        b": the text is at fault here; nothing was run\n",
+        b": the text is at fault here, or the record before it is not four bytes; nothing was run\n",
     );
 }
 
@@ -43,11 +43,8 @@ fn read_whole(fd: i32, text: &mut [u8]) -> Filled
 {
     let mut end: usize = 0;
     while end < text.len() {
-        let filled = streams::fill(&mut *text, end, fd);
-        if filled.failed {
-            return filled;
-        }
-        if filled.end == end {
+        let filled = files::fill(&mut *text, end, fd);
+        if filled.failed | (filled.end == end) {
             return filled;
         }
         end = filled.end;
@@ -56,11 +53,11 @@ fn read_whole(fd: i32, text: &mut [u8]) -> Filled
 }
 
 fn play(records: &[u8]) {
-    let mut out = streams::lines();
+    let mut out = files::lines();
     let ran = listing::run(Bench::power_up(), 0, records, true, &mut out);
     let written = ran.written;
     if !io::write_all(STDOUT_FILENO, &out[..written]) {
-        streams::write_failed();
+        files::write_failed();
     }
 }
 

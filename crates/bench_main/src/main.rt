@@ -1,9 +1,9 @@
 // The bench program: records from standard input, or the lesson that its one argument names; the listing to standard output.
 use libc::STDERR_FILENO;
 
+mod files;
 mod lessons;
 mod records;
-mod streams;
 
 fn usage() {
     io::write_all(STDERR_FILENO, b"usage: bench [LESSON]\n");

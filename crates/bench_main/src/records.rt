@@ -1,5 +1,5 @@
 // Records from standard input, in blocks.
-use crate::streams;
+use crate::files;
 use bench::Bench;
 use libc::STDERR_FILENO;
 use libc::STDIN_FILENO;
@@ -16,7 +16,7 @@ fn read_failed() {
 // A block holds whole records, so that such a record always has its room behind it.
 pub(crate) fn run() {
     let mut input = io::large_buffer();
-    let mut out = streams::lines();
+    let mut out = files::lines();
     let mut bench = Bench::power_up();
     let mut number: u64 = 0;
     let mut start: usize = 0;
@@ -24,7 +24,7 @@ pub(crate) fn run() {
     let mut reads: u64 = READS;
     while 0 < reads {
         reads -= 1;
-        let filled = streams::fill(&mut input, end, STDIN_FILENO);
+        let filled = files::fill(&mut input, end, STDIN_FILENO);
         if filled.failed {
             read_failed();
             return;
@@ -34,7 +34,7 @@ pub(crate) fn run() {
         let ran = listing::run(bench, number, &input[start..end], last, &mut out);
         let written = ran.written;
         if !io::write_all(STDOUT_FILENO, &out[..written]) {
-            streams::write_failed();
+            files::write_failed();
             return;
         }
         if last {

@@ -14,7 +14,7 @@ impl Channel {
         ensures { λ r. ⌜ r ≡ iirRead self ⌝ }
     {
         let named = self.cause() == Channel::HOLDING_EMPTY;
-        self.transmitter = self.transmitter.tell(named);
+        self.transmitter = self.transmitter.iir_read(named);
         self
     }
 

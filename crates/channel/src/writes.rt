@@ -24,7 +24,7 @@ impl Channel {
         let before = base::bit(Settings::IER_HOLDING, self.settings.ier);
         let after = base::bit(Settings::IER_HOLDING, byte);
         self.settings = self.settings.write(Register::Ier, byte);
-        self.transmitter = self.transmitter.enable(!before & after);
+        self.transmitter = self.transmitter.ier_written(!before & after);
         self
     }
 
@@ -35,8 +35,8 @@ impl Channel {
         let on = base::bit(Settings::FCR_FIFO, byte);
         let receive = on & base::bit(Settings::FCR_EMPTY_RECEIVE, byte);
         let transmit = on & base::bit(Settings::FCR_EMPTY_TRANSMIT, byte);
-        self.receiver = self.receiver.command(changed, receive);
-        self.transmitter = self.transmitter.command(changed | transmit);
+        self.receiver = self.receiver.fcr_written(changed, receive);
+        self.transmitter = self.transmitter.fcr_written(changed | transmit);
         self.settings = self.settings.write(Register::IirFcr, byte);
         self
     }

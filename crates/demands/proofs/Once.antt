@@ -60,7 +60,7 @@ receiver-once =
       receiver·Receiver·any-marked = λ self fifo. once _;
       receiver·Receiver·look = λ self fifo. once _;
       receiver·Receiver·wait = λ self fifo. once _;
-      receiver·Receiver·command = λ self changed asked. once _;
+      receiver·Receiver·fcr-written = λ self changed asked. once _;
       receiver·Receiver·restart = λ self. once _;
       receiver·Receiver·data = λ self fifo trigger. once _;
       receiver·Receiver·timed-out = λ self. once _;
@@ -72,11 +72,11 @@ transmitter-once =
       transmitter·Transmitter·power-up = once _;
       transmitter·Transmitter·is-empty = λ self. once _;
       transmitter·Transmitter·is-idle = λ self. once _;
-      transmitter·Transmitter·tell = λ self named. once _;
+      transmitter·Transmitter·iir-read = λ self named. once _;
       transmitter·Transmitter·write = λ self fifo byte. once _;
-      transmitter·Transmitter·command = λ self asked. once _;
+      transmitter·Transmitter·fcr-written = λ self asked. once _;
       transmitter·Transmitter·shift = λ self. once _;
-      transmitter·Transmitter·enable = λ self rise. once _;
+      transmitter·Transmitter·ier-written = λ self rise. once _;
     }
 
 pub channel-once : ChannelOnce

@@ -104,7 +104,7 @@ pub record ReceiverOnce : Type 0 where
   pub receiver·Receiver·any-marked : (self : Receiver) (fifo : Bool) → Once (λ r. r ≡ someMarked fifo self)
   pub receiver·Receiver·look : (self : Receiver) (fifo : Bool) → Once (λ r. r ≡ looked fifo self)
   pub receiver·Receiver·wait : (self : Receiver) (fifo : Bool) → Once (λ r. r ≡ waited fifo self)
-  pub receiver·Receiver·command : (self : Receiver) (changed asked : Bool) → Once (λ r. r ≡ pick changed (turned self) (pick asked (cleared self) self))
+  pub receiver·Receiver·fcr-written : (self : Receiver) (changed asked : Bool) → Once (λ r. r ≡ pick changed (turned self) (pick asked (cleared self) self))
   pub receiver·Receiver·restart : (self : Receiver) → Once (λ r. r ≡ restarted self)
   pub receiver·Receiver·data : (self : Receiver) (fifo : Bool) (trigger : ℕ) → Once (λ r. r ≡ dataStands fifo trigger self)
   pub receiver·Receiver·timed-out : (self : Receiver) → Once (λ r. r ≡ timeoutStands self)
@@ -115,11 +115,11 @@ pub record TransmitterOnce : Type 0 where
   pub transmitter·Transmitter·power-up : Once (λ r. r ≡ still)
   pub transmitter·Transmitter·is-empty : (self : Transmitter) → Once (λ r. r ≡ noneWaiting self)
   pub transmitter·Transmitter·is-idle : (self : Transmitter) → Once (λ r. r ≡ allSent self)
-  pub transmitter·Transmitter·tell : (self : Transmitter) (named : Bool) → Once (λ r. r ≡ pick named (flagCleared self) self)
+  pub transmitter·Transmitter·iir-read : (self : Transmitter) (named : Bool) → Once (λ r. r ≡ pick named (flagCleared self) self)
   pub transmitter·Transmitter·write : (self : Transmitter) (fifo : Bool) (byte : ℕ) → Once (λ r. r ≡ written fifo self byte)
-  pub transmitter·Transmitter·command : (self : Transmitter) (asked : Bool) → Once (λ r. r ≡ pick asked (emptied self) self)
+  pub transmitter·Transmitter·fcr-written : (self : Transmitter) (asked : Bool) → Once (λ r. r ≡ pick asked (emptied self) self)
   pub transmitter·Transmitter·shift : (self : Transmitter) → Once (λ r. r ≡ shifted self)
-  pub transmitter·Transmitter·enable : (self : Transmitter) (rise : Bool) → Once (λ r. r ≡ pick rise (enabled self) self)
+  pub transmitter·Transmitter·ier-written : (self : Transmitter) (rise : Bool) → Once (λ r. r ≡ pick rise (enabled self) self)
 
 -- ---- channel: a channel
 

@@ -1,5 +1,6 @@
 // The bytes of a text that has no fault.
 use crate::characters;
+use crate::characters::NO_DIGIT;
 ghost use mathlib.Core.Path.{_≡_};
 ghost use Prim.Native.Nat.{_≤_};
 ghost use lib.ListN.{length};
@@ -7,15 +8,12 @@ ghost use lib.Seq.{sets};
 ghost use Rattle.base.specs.Pick.{pick};
 ghost use Rattle.lesson.specs.Text.{bytesOf, digitsOf, digit};
 
-// There is none yet: what no digit is worth.
-const NONE: u8 = 16;
-
-// What the character is worth where it is a digit and no comment has it.
+// What the character is worth where it is a digit and no comment has it, and `NO_DIGIT` elsewhere.
 fn worth(comment: bool, c: u8) -> u8
     ensures { λ r. ⌜ (r ≡ pick comment 16 (digit c)) × (r ≤ 16) ⌝ }
 {
     if comment {
-        return NONE;
+        return NO_DIGIT;
     }
     characters::digit(c)
 }
@@ -28,7 +26,7 @@ pub(crate) fn count_digits(text: &[u8]) -> usize
     for i in 0..text.len() {
         let c = text[i];
         comment = characters::is_commented(comment, c);
-        if 15 < worth(comment, c) {
+        if worth(comment, c) == NO_DIGIT {
             continue;
         }
         count += 1;
@@ -36,26 +34,27 @@ pub(crate) fn count_digits(text: &[u8]) -> usize
     count
 }
 
+// `high` is the first digit of a byte whose second is still to come, and `NO_DIGIT` where there is none.
 pub(crate) fn put_bytes(text: &[u8], out: &mut [u8])
     requires { ⌜ length (bytesOf (now text)) ≤ length (now out) ⌝ }
     ensures { λ r. ⌜ now (out .exit) ≡ sets (now (out .entry)) 0 (bytesOf (now (text .entry))) ⌝ }
 {
     let mut comment = false;
-    let mut high = NONE;
+    let mut high = NO_DIGIT;
     let mut at: usize = 0;
     for i in 0..text.len() {
         let c = text[i];
         comment = characters::is_commented(comment, c);
         let low = worth(comment, c);
-        if 15 < low {
+        if low == NO_DIGIT {
             continue;
         }
-        if 15 < high {
+        if high == NO_DIGIT {
             high = low;
             continue;
         }
         out[at] = 16 * high + low;
         at += 1;
-        high = NONE;
+        high = NO_DIGIT;
     }
 }

@@ -13,7 +13,10 @@ fn is_within(low: u8, high: u8, c: u8) -> bool
     c <= high
 }
 
-// What a digit is worth, and 16 for a character that is none.
+// What `digit` answers for a character that is none: more than any digit is worth.
+pub(crate) const NO_DIGIT: u8 = 16;
+
+// What a digit is worth.
 pub(crate) fn digit(c: u8) -> u8
     ensures { λ r. ⌜ (r ≡ Text·digit c) × (r ≤ 16) ⌝ }
 {
@@ -26,7 +29,7 @@ pub(crate) fn digit(c: u8) -> u8
     if is_within(b'a', b'f', c) {
         return c - b'a' + 10;
     }
-    16
+    NO_DIGIT
 }
 
 // What may stand between two bytes: white space, and a comment's first character.

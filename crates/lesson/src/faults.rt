@@ -1,5 +1,6 @@
 // The first fault of a text.
 use crate::characters;
+use crate::characters::NO_DIGIT;
 ghost use mathlib.Core.Path.{_≡_};
 ghost use Rattle.lesson.specs.Fault.{faultOf, faulty, next};
 ghost use Rattle.lesson.specs.Fault.{after as Fault·after};
@@ -24,7 +25,7 @@ impl Reading {
         if self.comment {
             return false;
         }
-        if characters::digit(c) < 16 {
+        if characters::digit(c) < NO_DIGIT {
             return self.cut;
         }
         if characters::is_apart(c) {
@@ -52,7 +53,7 @@ impl Reading {
                 comment: true,
             };
         }
-        if characters::digit(c) < 16 {
+        if characters::digit(c) < NO_DIGIT {
             return Reading {
                 digits: self.counted(),
                 cut: self.cut,

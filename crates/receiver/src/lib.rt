@@ -138,7 +138,7 @@ impl Receiver {
     }
 
     // The FCR is written: its bit 0 changed, or it asks for an empty queue.
-    pub fn command(self, changed: bool, asked: bool) -> Self
+    pub fn fcr_written(self, changed: bool, asked: bool) -> Self
         ensures { λ r. ⌜ r ≡ pick changed (turned self) (pick asked (cleared self) self) ⌝ }
     {
         if changed {

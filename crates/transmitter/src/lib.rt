@@ -57,7 +57,7 @@ impl Transmitter {
     }
 
     // The IIR is read, and named the flag or did not.
-    pub fn tell(self, named: bool) -> Self
+    pub fn iir_read(self, named: bool) -> Self
         ensures { λ r. ⌜ r ≡ pick named (flagCleared self) self ⌝ }
     {
         if named {
@@ -94,7 +94,7 @@ impl Transmitter {
     }
 
     // The FCR is written, and empties the queue or does not.
-    pub fn command(self, asked: bool) -> Self
+    pub fn fcr_written(self, asked: bool) -> Self
         ensures { λ r. ⌜ r ≡ pick asked (emptied self) self ⌝ }
     {
         if asked {
@@ -136,7 +136,7 @@ impl Transmitter {
     }
 
     // The IER is written, and turns its bit 1 on or does not.
-    pub fn enable(self, rise: bool) -> Self
+    pub fn ier_written(self, rise: bool) -> Self
         ensures { λ r. ⌜ r ≡ pick rise (enabled self) self ⌝ }
     {
         if rise {

@@ -8,7 +8,7 @@ pub(crate) enum Number {
 // Beyond this no further digit is taken, so that what is read fits.
 const MOST: u64 = 1_000_000_000_000_000_000;
 
-pub(crate) fn decimal(text: &[u8]) -> Number {
+fn decimal(text: &[u8]) -> Number {
     if text.len() == 0 {
         return Number::Unread;
     }

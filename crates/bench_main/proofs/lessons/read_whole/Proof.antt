@@ -1,9 +1,17 @@
 use lib.ListN.{length}
-use mathlib.Core.Path.{_≡_}
-use Prim.Native.Nat.{_≤_, _-_}
+use mathlib.Core.Path.{_≡_, subst}
+use mathlib.Core.Bool.{Bool, true, false, _||_}
+use native.Mathlib.Omega.{arith}
+use borrow.Author.Tests.{eqb-false}
+use lib.Dec.{T, eqb}
+use Prim.Native.Nat.{ℕ, _≤_, _-_}
 use borrow.Author.Needs.{needs}
 use Rattle.bench_main.proofs.lessons.read_whole.Statement.{statement}
 use Rattle.bench_main.proofs.lessons.read_whole.Tie as tie
+
+goes-on : (failed : Bool) (e end : ℕ) → (failed || eqb e end) ≡ false → e ≡ end → ⊥
+goes-on false e end h q = eqb-false e end h q
+goes-on true e end h q = subst T h tt
 
 abbrev Inv-loop : tie.InvT-loop
 Inv-loop fd text₀ end₀ text end = (length text ≡ length text₀) × (end ≤ length text)
@@ -23,23 +31,17 @@ same-length c = search needs
 returns : tie.Need-returns Inv-loop μ-loop
 returns c = search needs
 
+loop-less : tie.Need-loop-less Inv-loop μ-loop
+loop-less c = omega (arith, goes-on (c .before .before .before .before .before .fill .result .failed) (c .before .before .before .before .before .fill .result .end) (c .before .before .before .before .before .before .before .before .loop .end) (c .if1 .left))
+
+loop-again : tie.Need-loop-again Inv-loop μ-loop
+loop-again c = search needs
+
 same-length-2 : tie.Need-same-length-2 Inv-loop μ-loop
 same-length-2 c = search needs
 
 returns-2 : tie.Need-returns-2 Inv-loop μ-loop
 returns-2 c = search needs
-
-loop-less : tie.Need-loop-less Inv-loop μ-loop
-loop-less c = search needs
-
-loop-again : tie.Need-loop-again Inv-loop μ-loop
-loop-again c = search needs
-
-same-length-3 : tie.Need-same-length-3 Inv-loop μ-loop
-same-length-3 c = search needs
-
-returns-3 : tie.Need-returns-3 Inv-loop μ-loop
-returns-3 c = search needs
 
 pub read-whole-spec : {M : Type 1} → statement M
 read-whole-spec =
@@ -51,9 +53,7 @@ read-whole-spec =
     fill-requires
     same-length
     returns
-    same-length-2
-    returns-2
     loop-less
     loop-again
-    same-length-3
-    returns-3)
+    same-length-2
+    returns-2)

@@ -15,18 +15,18 @@ bit-requires-2 c κs = search needs
 bit-requires-3 : tie.Need-bit-requires-3
 bit-requires-3 c κs = search needs
 
-command-requires : tie.Need-command-requires
-command-requires c κs = search needs
+fcr-written-requires : tie.Need-fcr-written-requires
+fcr-written-requires c κs = search needs
 
-command-requires-2 : tie.Need-command-requires-2
-command-requires-2 c κs = search needs
+fcr-written-requires-2 : tie.Need-fcr-written-requires-2
+fcr-written-requires-2 c κs = search needs
 
 write-requires : tie.Need-write-requires
 write-requires c κs = search needs
 
 returns : tie.Need-returns
 unfolding fcrWritten fcrReceiver fcrTransmitter modeChanged
-returns c = simp (c .write .ensures, c .before .command2 .ensures, c .before .before .command .ensures, c .before .before .before .bit3 .ensures, c .before .before .before .before .bit2 .ensures, c .before .before .before .before .before .bit .ensures, c .before .before .before .before .before .before .changes-mode .ensures)
+returns c = simp (c .write .ensures, c .before .fcr-written2 .ensures, c .before .before .fcr-written .ensures, c .before .before .before .bit3 .ensures, c .before .before .before .before .bit2 .ensures, c .before .before .before .before .before .bit .ensures, c .before .before .before .before .before .before .changes-mode .ensures)
 
 pub write-fcr-spec : {M : Type 1} → statement M
 write-fcr-spec =
@@ -36,7 +36,7 @@ write-fcr-spec =
     bit-requires
     bit-requires-2
     bit-requires-3
-    command-requires
-    command-requires-2
+    fcr-written-requires
+    fcr-written-requires-2
     write-requires
     returns)

@@ -13,13 +13,13 @@ bit-requires-2 c κs = search needs
 write-requires : tie.Need-write-requires
 write-requires c κs = search needs
 
-enable-requires : tie.Need-enable-requires
-enable-requires c κs = search needs
+ier-written-requires : tie.Need-ier-written-requires
+ier-written-requires c κs = search needs
 
 returns : tie.Need-returns
 unfolding ierWritten
-returns c = simp (← c .enable .ensures, ← c .before .write .ensures, ← c .before .before .bit2 .ensures, ← c .before .before .before .bit .ensures, pick-true, pick-false)
+returns c = simp (← c .ier-written .ensures, ← c .before .write .ensures, ← c .before .before .bit2 .ensures, ← c .before .before .before .bit .ensures, pick-true, pick-false)
 
 pub write-ier-spec : {M : Type 1} → statement M
 write-ier-spec =
-    tie.close (tie.spec bit-requires bit-requires-2 write-requires enable-requires returns)
+    tie.close (tie.spec bit-requires bit-requires-2 write-requires ier-written-requires returns)

@@ -1,7 +1,7 @@
 use Rattle.base.specs.PickLaws.{pick-true, pick-false}
 use borrow.Author.Needs.{needs}
-use Rattle.transmitter.proofs.Transmitter.tell.Statement.{statement}
-use Rattle.transmitter.proofs.Transmitter.tell.Tie as tie
+use Rattle.transmitter.proofs.Transmitter.iir_read.Statement.{statement}
+use Rattle.transmitter.proofs.Transmitter.iir_read.Tie as tie
 
 clear-flag-requires : tie.Need-clear-flag-requires
 clear-flag-requires c κs = search needs
@@ -12,5 +12,5 @@ returns c = simp (← c .clear-flag .ensures, c .before .if1 .taken, pick-true, 
 returns-2 : tie.Need-returns-2
 returns-2 c = simp (c .if1 .left, pick-true, pick-false)
 
-pub tell-spec : {M : Type 1} → statement M
-tell-spec = tie.close (tie.spec clear-flag-requires returns returns-2)
+pub iir-read-spec : {M : Type 1} → statement M
+iir-read-spec = tie.close (tie.spec clear-flag-requires returns returns-2)

@@ -1,7 +1,7 @@
 use Rattle.base.specs.PickLaws.{pick-true, pick-false}
 use borrow.Author.Needs.{needs}
-use Rattle.transmitter.proofs.Transmitter.command.Statement.{statement}
-use Rattle.transmitter.proofs.Transmitter.command.Tie as tie
+use Rattle.transmitter.proofs.Transmitter.fcr_written.Statement.{statement}
+use Rattle.transmitter.proofs.Transmitter.fcr_written.Tie as tie
 
 clear-requires : tie.Need-clear-requires
 clear-requires c κs = search needs
@@ -12,5 +12,5 @@ returns c = simp (← c .clear .ensures, c .before .if1 .taken, pick-true, pick-
 returns-2 : tie.Need-returns-2
 returns-2 c = simp (c .if1 .left, pick-true, pick-false)
 
-pub command-spec : {M : Type 1} → statement M
-command-spec = tie.close (tie.spec clear-requires returns returns-2)
+pub fcr-written-spec : {M : Type 1} → statement M
+fcr-written-spec = tie.close (tie.spec clear-requires returns returns-2)

@@ -1,7 +1,7 @@
 use Rattle.base.specs.PickLaws.{pick-true, pick-false}
 use borrow.Author.Needs.{needs}
-use Rattle.receiver.proofs.Receiver.command.Statement.{statement}
-use Rattle.receiver.proofs.Receiver.command.Tie as tie
+use Rattle.receiver.proofs.Receiver.fcr_written.Statement.{statement}
+use Rattle.receiver.proofs.Receiver.fcr_written.Tie as tie
 
 turn-requires : tie.Need-turn-requires
 turn-requires c κs = search needs
@@ -18,5 +18,5 @@ returns-2 c = simp (← c .clear .ensures, c .before .if2 .taken, c .before .bef
 returns-3 : tie.Need-returns-3
 returns-3 c = simp (c .if2 .left, c .before .if1 .left, pick-true, pick-false)
 
-pub command-spec : {M : Type 1} → statement M
-command-spec = tie.close (tie.spec turn-requires returns clear-requires returns-2 returns-3)
+pub fcr-written-spec : {M : Type 1} → statement M
+fcr-written-spec = tie.close (tie.spec turn-requires returns clear-requires returns-2 returns-3)
