@@ -73,7 +73,6 @@ impl Channel {
             return Channel::LINE_TROUBLE;
         }
         let data = base::bit(Settings::IER_DATA, self.settings.ier);
-        // Ahead of its use, so that an edit of must-fail/ can have it hide a reached trigger.
         let late = self.receiver.timed_out();
         if data & self.data_stands() {
             return Channel::DATA;
