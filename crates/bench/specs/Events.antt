@@ -35,7 +35,7 @@ abbrev pub seatAbove : Record → Bool
 seatAbove (whole kind seat number value) = usesSeat kind && ltb 7 seat
 seatAbove short = false
 
--- what the bench refuses by the record alone, three of the four that come first: "The order is 4, 3, 1, 2"; 2 is the rooms' own
+-- what decoding refuses, three of the four that come first: "The order is 4, 3, 1, 2"; 2 is the rooms' own
 unfoldable pub early : Record → ℕ
 early r =
     firstHeld

@@ -121,6 +121,7 @@ silent : (c : Channel) → line (masterReset c) ≡ false
 unfolding line masterReset bit
 silent c = and-false (not (eqb (cause (masterReset c)) 0x01))
 
+-- so after a master reset no line is high
 pub reset-silent : (seats : List Seat) → lines (map seatReset seats) ≡ 0
 unfolding lines bits digit pick
 reset-silent [] = refl

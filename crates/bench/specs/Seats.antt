@@ -35,7 +35,7 @@ noSeat =
 abbrev pub powerUp : Bench
 powerUp = record { seats = replicate seatCount (record { channel = channel.powerUp }); controller = controller.powerUp }
 
--- a number of a seat, read round the eight, so that both doors stand on any number; the bench refuses seats above 7 before it comes here
+-- a number of a seat, read round the eight, so that both doors below are total; the bench refuses seats above 7 before it comes here
 abbrev pub chair : ℕ → ℕ
 chair n = n % seatCount
 

@@ -113,8 +113,8 @@ module _ (c : Channel) where
   pub lsr-again-sending : (bit 5 (lsr (lsrRead c)) ≡ bit 5 (lsr c)) × (bit 6 (lsr (lsrRead c)) ≡ bit 6 (lsr c))
   unfolding lsrRead
   lsr-again-sending = (lsr-empty (lsrRead c) ∙ sym (lsr-empty c), lsr-idle (lsrRead c) ∙ sym (lsr-idle c))
-      -- the count of the queue, the time-out count and the last byte read are kept
 
+  -- the count of the queue, the time-out count and the last byte read are kept
   pub lsr-leaves : (lsrRead c .receiver .queue .count ≡ c .receiver .queue .count) × (lsrRead c .receiver .timeout ≡ c .receiver .timeout)
       × (lsrRead c .receiver .last ≡ c .receiver .last)
   unfolding lsrRead looked

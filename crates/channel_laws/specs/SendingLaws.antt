@@ -159,7 +159,7 @@ module _ (c : Channel) (sound : soundChannel c ≡ true) (at-rest : allSent (c .
       ∙ ap (λ (d : Channel). afterEvents d (replicate k Time) .transmitter) (after-writes bytes c plain)
       ∙ after-times k filled going
 
-  -- one character time more than there are bytes: all is sent, and the holding-empty flag is set
+  -- one character time more than there are bytes: all is sent
   pub rests-again : allSent (afterEvents c (sending bytes (suc (length bytes))) .transmitter) ≡ true
   rests-again =
       ap allSent (sides-after (suc (length bytes)))

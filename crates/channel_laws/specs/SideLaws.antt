@@ -1,4 +1,5 @@
--- What reaches the two register-0 of a channel: each of these events is one call of a side, and nothing else moves.
+-- What reaches the two sides of a channel: an arrival, a character time, a THR write and an RBR read are each one call of a side, and nothing
+-- else moves.
 use Prim.Native.Nat.{ℕ}
 use mathlib.Core.Bool.{Bool, true, false, not}
 use mathlib.Core.Path.{_≡_, refl, ap}

@@ -15,7 +15,7 @@ use Rattle.lesson.specs.declared.Lesson.{Lesson}
 use Rattle.lesson.specs.declared.Lesson.the-variants.{Bytes, Fault, TooLong}
 use Rattle.lesson.specs.declared.places.Place.{Place}
 
--- no longer text is read, so that each line and column is a number that there is
+-- no longer text is read, so that each line and column fits a number of 64 bits
 abbrev pub longest : ℕ
 longest = 4294967295
 

@@ -8,7 +8,9 @@
 --  4. A record stands on one line. Where a line ends within a record, with or without a comment, the next digit of the text is a fault.
 --     But the text may end within a record: what there is of it goes to the bench, which refuses it by number 4.
 --  5. Any other character is a fault. Where a byte's second digit is due, so is white space, a comment or the text's end.
---  6. The first fault is told by its line and column, both from 1. A column is one byte of the text, and a line ends after a line feed.
+--  6. The first fault is told by its line and column, both from 1. A column is one byte of the text, and a line ends after a line feed. The
+--     text's end stands right behind its last character.
+--  7. A text of more than 4294967295 characters is not read, nor one whose bytes do not fit the buffer.
 use Prim.Native.Nat.{ℕ, _+_, _-_, _*_}
 use mathlib.Core.Bool.{Bool, true, false, _&&_, _||_}
 use mathlib.Core.List.{List, [], _∷_}

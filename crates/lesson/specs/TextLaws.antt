@@ -183,7 +183,7 @@ unfolding told worths
 comment-worths words b all =
     rw (pick-true _ _ _ sign-told, append-assoc words (lineFeed ∷ []) b, words-told words b all) (pick-false _ _ _ (le-ltb (digit lineFeed) 16 (omega (arith, feed-no-digit))))
 
--- a comment behind characters that are none, wherever they break off, changes no byte
+-- a comment that begins outside any comment, even within a byte, changes no byte
 pub comment-bytes : (a words b : List ℕ) → commentedAfter false a ≡ false → OneLine words
     → bytesOf (a ++ (comment words ++ b)) ≡ bytesOf (a ++ b)
 unfolding bytesOf digitsOf

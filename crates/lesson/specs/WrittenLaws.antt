@@ -1,11 +1,13 @@
--- Two lessons, character by character: no name stands between the reader and the codes that an editor writes.
+-- Some lessons, character by character: no name stands between the reader and the codes that an editor writes.
+use Prim.Native.Nat.{_≤_}
 use mathlib.Core.List.{[], _∷_}
 use mathlib.Core.Path.{_≡_, refl}
+use native.Mathlib.Omega.{arith}
 use Rattle.base.specs.Pick.{pick}
 use Rattle.lesson.specs.Text.{digit, apart, commented, told, worths, paired, digitsOf, bytesOf}
 use Rattle.lesson.specs.Fault.{faulty, next, after, faultFrom, faultOf}
 use Rattle.lesson.specs.Place.{onward, placeFrom, placeBehind}
-use Rattle.lesson.specs.Lesson.{answerBy, lessonOf}
+use Rattle.lesson.specs.Lesson.{longest, answerBy, lessonOf}
 use Rattle.lesson.specs.declared.Lesson.the-variants.{Bytes, Fault}
 
 -- 08, a space, 0a, a tab, 00F0, a space, a number sign, a space, 9, a carriage return, a line feed: one record, and a comment
@@ -19,3 +21,22 @@ written-record = (refl, refl)
 pub written-fault : lessonOf (48 ∷ 56 ∷ 48 ∷ 48 ∷ 48 ∷ 48 ∷ 10 ∷ 32 ∷ 48 ∷ 56 ∷ []) 4 ≡ Fault 2 2
 unfolding lessonOf answerBy faultOf faultFrom faulty next after placeBehind placeFrom onward bytesOf digitsOf paired worths told commented apart digit pick
 written-fault = refl
+
+-- 08000000, a carriage return, a line feed, a number sign, x: a carriage return between records, and a comment in which the text ends
+pub written-ends : lessonOf (48 ∷ 56 ∷ 48 ∷ 48 ∷ 48 ∷ 48 ∷ 48 ∷ 48 ∷ 13 ∷ 10 ∷ 35 ∷ 120 ∷ []) 4 ≡ Bytes 4
+unfolding lessonOf answerBy faultOf faultFrom faulty next after bytesOf digitsOf paired worths told commented apart digit pick
+written-ends = refl
+
+-- 0800, a number sign, x, a line feed, 00: a line ends within a record behind a comment
+pub written-cut : lessonOf (48 ∷ 56 ∷ 48 ∷ 48 ∷ 35 ∷ 120 ∷ 10 ∷ 48 ∷ 48 ∷ []) 4 ≡ Fault 2 1
+unfolding lessonOf answerBy faultOf faultFrom faulty next after placeBehind placeFrom onward bytesOf digitsOf paired worths told commented apart digit pick
+written-cut = refl
+
+-- 0800, a line feed: the text ends within a record, behind a line's end
+pub written-short : lessonOf (48 ∷ 56 ∷ 48 ∷ 48 ∷ 10 ∷ []) 4 ≡ Bytes 2
+unfolding lessonOf answerBy faultOf faultFrom faulty next after bytesOf digitsOf paired worths told commented apart digit pick
+written-short = refl
+
+-- and the longest lesson of the bench program is not too long
+pub longest-enough : 131071 ≤ longest
+longest-enough = omega arith

@@ -4,7 +4,7 @@ use mathlib.Core.Bool.{Bool, not, _&&_, _||_}
 use mathlib.Core.List.{[], _∷_}
 use Rattle.base.specs.Bits.{bit, bits}
 
--- one of the two is set
+-- exactly one of the two is set
 abbrev pub differ : Bool → Bool → Bool
 differ a b = (a && not b) || (not a && b)
 
