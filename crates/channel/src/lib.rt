@@ -83,11 +83,11 @@ impl Channel {
         ensures { λ r. ⌜ r ≡ stepped self e ⌝ }
     {
         match e {
-            SeatEvent::Read(number) => self.read(number),
-            SeatEvent::Write(number, byte) => self.write(number, byte),
-            SeatEvent::Arrival(marks, byte) => self.arrive(marks, byte),
-            SeatEvent::Levels(levels) => self.modem_inputs(levels),
-            SeatEvent::Time => self.character_time(),
+            SeatEvent::Read(number) => return self.read(number),
+            SeatEvent::Write(number, byte) => return self.write(number, byte),
+            SeatEvent::Arrival(marks, byte) => return self.arrive(marks, byte),
+            SeatEvent::Levels(levels) => return self.modem_inputs(levels),
+            SeatEvent::Time => return self.character_time(),
         }
     }
 }

@@ -69,11 +69,11 @@ impl Channel {
         ensures { λ r. ⌜ r ≡ afterRead self register ⌝ }
     {
         match register {
-            Register::RbrThr => self.read_rbr(),
-            Register::IirFcr => self.read_iir(),
-            Register::Lsr => self.read_lsr(),
-            Register::Msr => self.read_msr(),
-            _ => self,
+            Register::RbrThr => return self.read_rbr(),
+            Register::IirFcr => return self.read_iir(),
+            Register::Lsr => return self.read_lsr(),
+            Register::Msr => return self.read_msr(),
+            _ => return self,
         }
     }
 

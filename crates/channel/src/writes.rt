@@ -45,12 +45,12 @@ impl Channel {
         ensures { λ r. ⌜ r ≡ afterWrite self register byte ⌝ }
     {
         match register {
-            Register::RbrThr => self.write_thr(byte),
-            Register::Ier => self.write_ier(byte),
-            Register::IirFcr => self.write_fcr(byte),
+            Register::RbrThr => return self.write_thr(byte),
+            Register::Ier => return self.write_ier(byte),
+            Register::IirFcr => return self.write_fcr(byte),
             _ => {
                 self.settings = self.settings.write(register, byte);
-                self
+                return self;
             }
         }
     }

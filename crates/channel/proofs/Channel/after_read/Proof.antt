@@ -79,14 +79,14 @@ after-read-spec =
     (tie.spec
     enum-told
     read-rbr-requires
+    returns
     enum-told-2
     read-iir-requires
+    returns-2
     enum-told-3
     read-lsr-requires
+    returns-3
     enum-told-4
     read-msr-requires
-    returns
-    returns-2
-    returns-3
     returns-4
     returns-5)

@@ -77,12 +77,12 @@ after-write-spec =
     (tie.spec
     enum-told
     write-thr-requires
+    returns
     enum-told-2
     write-ier-requires
+    returns-2
     enum-told-3
     write-fcr-requires
-    write-requires
-    returns
-    returns-2
     returns-3
+    write-requires
     returns-4)

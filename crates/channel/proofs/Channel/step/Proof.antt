@@ -60,16 +60,16 @@ step-spec =
     (tie.spec
     enum-known-e
     read-requires
+    returns
     enum-known-e-2
     write-requires
+    returns-2
     enum-known-e-3
     arrive-requires
+    returns-3
     enum-known-e-4
     modem-inputs-requires
+    returns-4
     enum-told
     character-time-requires
-    returns
-    returns-2
-    returns-3
-    returns-4
     returns-5)
