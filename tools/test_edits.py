@@ -7,8 +7,8 @@ from room import Room
 
 SCRIPT = Path(__file__).parent / "programs/20-edits"
 
-FACT = "/crates/queue/specs/Laws.antt:9:1: error: `same`: the two types first differ where one has `2`\n"
-UNFIT = "/crates/queue/specs/Queue.antt:9:1: error: `next`: `||` is not in scope\n"
+FACT = "specs/Laws.antt:9:1: error: `same`: the two types first differ where one has `2`\n"
+UNFIT = "specs/Queue.antt:9:1: error: `next`: `||` is not in scope\n"
 
 
 class Edits(Room):

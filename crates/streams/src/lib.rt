@@ -2,6 +2,7 @@
 // to them. A stream does not look at the bench.
 mod digest;
 mod draws;
+mod looks;
 mod records;
 mod rows;
 mod scripts;

@@ -1,6 +1,6 @@
 // From a row to a record, and what spoils a record.
 use crate::Record;
-use crate::rows::Row;
+use crate::looks::Row;
 use std::num::wrapping_add_u8;
 
 // A row of this kind or above is for any seat.

@@ -1,15 +1,4 @@
-// What the scripts ask for, row by row.
-ghost use Prim.Native.Nat.{_<_};
-
-pub(crate) struct Row {
-    pub kind: u8,
-    pub number: u8,
-    pub spread: u8,
-    pub value: u8,
-    pub step: u8,
-    pub most: u8,
-    pub times: u8,
-}
+// The table of the scripts.
 
 // "Each row: kind, number, number most, value, value step, value most, times most." A row is one number, its columns
 // the bytes: an array of 201 arrays costs the prover minutes.
@@ -281,30 +270,4 @@ const ROWS: [u64; 201] = [
 // The table, for whoever runs a stream to hold and to lend: a constant that is looked up is built anew at each look.
 pub fn script_rows() -> [u64; 201] {
     ROWS
-}
-
-// A row of the table lent. "Each row that is looked up is one of the 201", and no times pass 127: the test and the remainder are
-// there so that neither need be shown.
-pub(crate) fn row_at(rows: &[u64], at: u8) -> Row
-    ensures { λ r. ⌜ r .times < 128 ⌝ }
-{
-    let place = at as usize;
-    if rows.len() <= place {
-        return unpacked(0);
-    }
-    unpacked(rows[place])
-}
-
-fn unpacked(packed: u64) -> Row
-    ensures { λ r. ⌜ r .times < 128 ⌝ }
-{
-    Row {
-        kind: (packed / 0x01_00_00_00_00_00_00 % 256) as u8,
-        number: (packed / 0x01_00_00_00_00_00 % 256) as u8,
-        spread: (packed / 0x01_00_00_00_00 % 256) as u8,
-        value: (packed / 0x01_00_00_00 % 256) as u8,
-        step: (packed / 0x01_00_00 % 256) as u8,
-        most: (packed / 0x01_00 % 256) as u8,
-        times: (packed % 128) as u8,
-    }
 }

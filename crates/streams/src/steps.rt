@@ -4,8 +4,8 @@ use crate::Record;
 use crate::Stream;
 use crate::draws::pick;
 use crate::draws::turn;
+use crate::looks;
 use crate::records;
-use crate::rows;
 use crate::scripts;
 use std::num::wrapping_add_u8;
 use std::num::wrapping_sub_u8;
@@ -39,7 +39,7 @@ impl Stream {
         if self.left > 0 {
             return self;
         }
-        let row = rows::row_at(rows, self.row);
+        let row = looks::row_at(rows, self.row);
         let x = turn(self.x);
         self.x = x;
         self.left = 1 + pick(x, row.times);
@@ -48,7 +48,7 @@ impl Stream {
 
     // "The record."
     fn ask(mut self, rows: &[u64]) -> Made {
-        let row = rows::row_at(rows, self.row);
+        let row = looks::row_at(rows, self.row);
         let f = turn(self.x);
         let g = turn(f);
         let h = turn(g);
