@@ -1,4 +1,4 @@
-"""Tests of tools/programs/20-edits: a log that shows a text that does not fit fails, and so does a missing one."""
+"""Tests of tools/programs/20-edits: an edit counts where its closed statement is computed to be false, and nowhere else."""
 import subprocess
 import unittest
 from pathlib import Path
@@ -6,35 +6,90 @@ from pathlib import Path
 from room import Room
 
 SCRIPT = Path(__file__).parent / "programs/20-edits"
+LOG = "target/must-fail/lamp/dark_twin/.log"
+AT = "target/must-fail/lamp/dark_twin/proofs/Slips.antt:9:8: error: `is-lit`: "
 
-FACT = "specs/Laws.antt:9:1: error: `same`: the two types first differ where one has `2`\n"
-UNFIT = "specs/Queue.antt:9:1: error: `next`: `||` is not in scope\n"
+SLIPS = """-- "the lamp is lit"
+is-lit : shown (on ∷ []) ≡ 0x200
+unfolding shown
+is-lit = refl
+"""
+
+FALSE = AT + """expected type `shown (on ∷ []) ≡ 512`, but this has type `shown (on ∷ []) ≡ shown (on ∷ [])`
+  computed as far as they go, the two types are `Path Prim.Native.Nat.ℕ 768 512` (expected) and `Path Prim.Native.Nat.ℕ 768 768` (found)
+"""
+FALSE_TEST = AT + """expected type `lit ≡ true`, but this has type `lit ≡ lit`
+  computed as far as they go, the two types are `Path Bool false true` (expected) and `Path Bool false false` (found)
+"""
+FALSE_LIST = AT + """as printed, the two types differ only where one has `256 ∷ 512 ∷ []` (expected)
+  computed as far as they go, the two types differ only where one has `[]` (expected) and the other has `768 ∷ []` (found)
+"""
+BROKEN_SCRIPT = """specs/LampLaws.antt:9:1: error: `lamp-lit`: expected type `lit ≡ on`, but this has type `on ≡ lit`
+fn lamp::shine: not proved
+"""
+NOT_COMPUTED = AT + """as printed, the two types differ only where one has `512` (expected)
+  computed as far as they go, the two types differ only where one has `512` (expected) and the other has `shown on` (found)
+"""
+SYNTAX = """specs/Lamp.antt:3:9: error: Parse: expected a term
+""" + AT + """`shown` was not admitted (it has holes or undetermined implicits, or was rejected), so this cannot be checked
+"""
 
 
 class Edits(Room):
     def setUp(self):
         super().setUp()
         self.script("tools/programs/20-edits", SCRIPT.read_text("utf-8"))
-        self.write("crates/queue/must-fail/one_more_twin.edit", "file: src/lib.rt\n")
+        self.edit("refuted: is-lit\n")
+        self.write("crates/lamp/proofs/Slips.antt", SLIPS)
+
+    def edit(self, line):
+        self.write("crates/lamp/must-fail/dark_twin.edit", line + "file: src/lib.rt\nold: 1\nnew: 0\n")
 
     def run_it(self):
-        done = subprocess.run([self.root / "tools/programs/20-edits"], stderr=subprocess.PIPE, encoding="utf-8")
+        done = subprocess.run([self.root / "tools/programs/20-edits"], stdout=subprocess.PIPE, stderr=subprocess.PIPE,
+                              encoding="utf-8")
         return done.returncode, done.stderr
 
-    def test_a_fact(self):
-        self.write("target/must-fail/queue/one_more_twin/.log", FACT)
-        self.assertEqual(self.run_it(), (0, ""))
-
-    def test_a_text_that_does_not_fit(self):
-        self.write("target/must-fail/queue/one_more_twin/.log", FACT + UNFIT)
+    def fails(self, words):
         status, said = self.run_it()
         self.assertEqual(status, 1)
-        self.assertIn("queue/one_more_twin is refused, but because its text does not fit", said)
+        self.assertIn(f"lamp/dark_twin {words}", said)
+
+    def test_a_false_statement_counts(self):
+        for log in (FALSE, FALSE_TEST, FALSE_LIST, BROKEN_SCRIPT + FALSE + BROKEN_SCRIPT):
+            self.write(LOG, log)
+            self.assertEqual(self.run_it(), (0, ""))
+
+    def test_a_broken_proof_shows_nothing(self):
+        self.write(LOG, BROKEN_SCRIPT)
+        self.fails("is refused, but `is-lit` is not shown to be false")
+
+    def test_a_statement_that_is_not_computed_shows_nothing(self):
+        self.write(LOG, NOT_COMPUTED)
+        self.fails("is refused, but `is-lit` is not shown to be false")
+
+    def test_a_syntax_error_shows_nothing(self):
+        self.write(LOG, SYNTAX)
+        self.fails("is refused, but `is-lit` is not shown to be false")
+
+    def test_another_statement_does_not_count(self):
+        self.write(LOG, FALSE.replace("`is-lit`", "`is-dark`"))
+        self.fails("is refused, but `is-lit` is not shown to be false")
+
+    def test_an_edit_that_names_none(self):
+        self.write(LOG, FALSE)
+        self.edit("")
+        self.fails("names no statement")
+
+    def test_a_statement_that_is_not_closed(self):
+        self.write(LOG, FALSE)
+        for other in (SLIPS.replace(": shown (on", ": (n : ℕ) → shown (n"), SLIPS.replace("0x200", "shown (on ∷ [])"),
+                      SLIPS.replace("is-lit =", "-- is-lit ="), SLIPS.replace("refl", "by-hand"), ""):
+            self.write("crates/lamp/proofs/Slips.antt", other)
+            self.fails("names `is-lit`, which crates/lamp/proofs/Slips.antt does not have")
 
     def test_no_log(self):
-        status, said = self.run_it()
-        self.assertEqual(status, 1)
-        self.assertIn("queue/one_more_twin has no log", said)
+        self.fails("has no log")
 
 
 if __name__ == "__main__":

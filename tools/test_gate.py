@@ -47,7 +47,15 @@ class Gate(Room):
         self.assertEqual((status, said[-1]), (0, VERDICT))
         order = [said.index(line) for line in ("reading --check", "good", "proving", "ran", VERDICT)]
         self.assertEqual(order, sorted(order))
-        self.assertTrue(any("Document 01 is not at hand" in line for line in said))
+
+    def test_what_is_skipped_is_told_right_before_the_verdict(self):
+        self.script("tools/programs/20-half", '#!/bin/sh\necho "the lamp" >>"$HAILSTOAT_SKIPPED"\n')
+        _, said = self.run_it()
+        self.assertTrue(said[-3].startswith("skipped: the quotations against document 01"))
+        self.assertEqual(said[-2:], ["skipped: the lamp", VERDICT])
+        self.write("paper.md", "")
+        _, said = self.run_it(HAILSTOAT_DOCUMENT_01="paper.md")
+        self.assertEqual([line for line in said if line.startswith("skipped: ")], ["skipped: the lamp"])
 
     def test_document_01_is_used_where_it_is_at_hand(self):
         self.write("paper.md", "")
