@@ -8,4 +8,5 @@ pub mod Closed3
 pub mod SeatLedger
 pub mod Once
 pub mod OnceCalls
+pub mod OnceRefused
 pub mod ClosedLedger

@@ -15,15 +15,15 @@ use denote.Triple.Clauses.{Ended, Lasts, AtExit, atExit, closing}
 use Rattle.demands.specs.Once.{Free, Once, Proved, Written}
 
 -- what clauses say in each model
-abbrev Ensured : Type 1 → Ended → Type 2
+abbrev pub Ensured : Type 1 → Ended → Type 2
 Ensured M T =
     (𝓤 : URA M) (H : Heap 𝓤) (A : Atoms 𝓤) (mem : Memory → SProp 𝓤) (run : Routine → Fun 𝓤) (κ : Lfts (T .signature .lifetimes))
     → Args (T .signature) κ → Res (T .signature) κ → AtExit T κ → SProp 𝓤
 
-abbrev clauses : {M : Type 1} (T : Ended) → Ensured M T → Written M T
+abbrev pub clauses : {M : Type 1} (T : Ended) → Ensured M T → Written M T
 clauses T says 𝓤 H A mem run κ a = record { ghost = Unit {0}; requires = λ g. emp 𝓤; ensures = λ g r e. says 𝓤 H A mem run κ a r e }
 
-abbrev closed : {M : Type 1} (T : Ended) → Ensured M T → Proved M T
+abbrev pub closed : {M : Type 1} (T : Ended) → Ensured M T → Proved M T
 closed T says 𝓤 H A mem run = closing 𝓤 H A T (clauses T says 𝓤 H A mem run)
 
 -- a contract without `requires`, whatever it says
@@ -31,10 +31,10 @@ pub unasked : {M : Type 1} {T : Ended} (says : Ensured M T) → Free M T (clause
 unasked says = record { theirs = refl; free = λ 𝓤 H A mem run κ a. (tt, λ g. id⊢ 𝓤 (emp 𝓤)) }
 
 -- one that says a plain fact of the result and of the memory lent
-abbrev Fact : Ended → Type 1
+abbrev pub Fact : Ended → Type 1
 Fact T = (κ : Lfts (T .signature .lifetimes)) → Args (T .signature) κ → Res (T .signature) κ → AtExit T κ → Type 0
 
-abbrev plainly : {M : Type 1} (T : Ended) → Fact T → Ensured M T
+abbrev pub plainly : {M : Type 1} (T : Ended) → Fact T → Ensured M T
 plainly T φ 𝓤 H A mem run κ a r e = fact 𝓤 (φ κ a r e)
 
 pub told : {M : Type 1} {T : Ended} (φ : Fact T) → T .kept ≡ all yes (T .signature .params)
