@@ -45,6 +45,7 @@ fn wipe() -> u8 {
 """
 
 CALLS = """use Rattle.cups.proofs as cups
+use Rattle.demands.specs.Once.{Free, Once}
 
 pub record CupsOnce (M : Type 1) : Type 2 where
   pub cups·Cup·filled-to : Once M cups.Cup.filled_to.ended cups.Cup.filled_to.clauses cups.Cup.filled_to.spec
@@ -54,13 +55,17 @@ pub record CupsOnce (M : Type 1) : Type 2 where
       Once M cups.cups_empty.ended cups.cups_empty.clauses cups.cups_empty.spec
 """
 
-PROOFS = """pub cups-once : (M : Type 1) → CupsOnce M
+PROOFS = """use Rattle.demands.specs.OnceCalls.{CupsOnce}
+
+pub cups-once : (M : Type 1) → CupsOnce M
 cups-once M = record { }
 """
 
+DECLARED = "pub mod OnceCalls\n"
+
 
 class Once(unittest.TestCase):
-    def faults(self, source=SOURCE, calls=CALLS, proofs=PROOFS, specs_lib="pub mod OnceCalls\n", proofs_lib="pub mod OnceCalls\n", name="lib.rt"):
+    def faults(self, source=SOURCE, name="lib.rt", calls=CALLS, specs_lib=DECLARED, proofs=PROOFS, proofs_lib=DECLARED):
         with tempfile.TemporaryDirectory() as folder:
             demands = pathlib.Path(folder) / once.DEMANDS
             files = {
@@ -112,17 +117,25 @@ class Once(unittest.TestCase):
         self.assertTold("cups·sip: its line", calls=CALLS.replace("Once M cups.sip.", "Free M cups.sip."))
 
     def test_a_room_by_another_rooms_name_is_told(self):
-        self.assertTold("calls the room mugs cups", calls=CALLS.replace("Rattle.cups", "Rattle.mugs"))
+        self.assertTold("which is no line of a call", calls=CALLS.replace("Rattle.cups", "Rattle.mugs"))
+
+    def test_a_definition_among_the_lines_is_told(self):
+        self.assertTold("which is no line of a call", calls=CALLS + "\nabbrev Once : Type 1\n")
+        self.assertTold("which is no line of a call", calls=CALLS.replace("specs.Once.", "specs.Nonce."))
 
     def test_lines_that_are_not_declared_are_told(self):
         self.assertTold("cups·sip has no line", specs_lib="-- pub mod OnceCalls\n")
 
     def test_a_deleted_proof_is_told(self):
-        for proofs in (None, "", PROOFS.replace("pub", "-- pub"), "{-\n" + PROOFS + "-}\n", "  " + PROOFS):
+        for proofs in (None, "", PROOFS.replace("pub", "-- pub"), "{-\n" + PROOFS + "-}\n", PROOFS.replace("pub", "  pub")):
             self.assertTold("CupsOnce of crates/demands/specs/OnceCalls.antt has no proof", proofs=proofs)
 
     def test_a_proof_under_a_premise_is_told(self):
         self.assertTold("CupsOnce of", proofs=PROOFS.replace("(M : Type 1) →", "(M : Type 1) → ⊥ →"))
+
+    def test_a_proof_of_another_record_of_that_name_is_told(self):
+        for other in ("use Rattle.demands.specs.Other.{CupsOnce}", "use Rattle.demands.specs.OnceCalls.{Other as CupsOnce}"):
+            self.assertTold("CupsOnce of", proofs=PROOFS.replace(PROOFS.splitlines()[0], other))
 
     def test_a_file_of_proofs_that_is_not_declared_is_told(self):
         self.assertTold("CupsOnce of", proofs_lib="pub mod Once\n")
