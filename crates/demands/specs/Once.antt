@@ -39,14 +39,15 @@ module _ {M : Type 1} (𝓤 : URA M) (T : Ended) (clauses : Clauses 𝓤 T) wher
 
 -- Any caller may call it: there is no `requires`.
 pub record Free (M : Type 1) (T : Ended) (written : Written M T) (proved : Proved M T) : Type 2 where
+  -- the contract of the function's theorem is these clauses and nothing else
   pub theirs : proved ≡ (λ 𝓤 H A mem run. closing 𝓤 H A T (written 𝓤 H A mem run))
   pub free : (𝓤 : URA M) (H : Heap 𝓤) (A : Atoms 𝓤) (mem : Memory → SProp 𝓤) (run : Routine → Fun 𝓤)
       → AsksNothing 𝓤 T (written 𝓤 H A mem run)
 
--- "Show that no second outcome satisfies it": for all arguments the result is determined, and what stands in any lent memory. All memory that is
--- lent is given back at the end of the call, so that the contract speaks of all of it.
+-- "Show that no second outcome satisfies it": for all arguments the result is determined, and what stands in any lent memory.
 pub record Once (M : Type 1) (T : Ended) (written : Written M T) (proved : Proved M T) : Type 2 where
   pub asked : Free M T written proved
+  -- all memory that is lent comes back at the end of the call, so that none is left out of what stands there then
   pub lent : T .kept ≡ all yes (T .signature .params)
   pub once : (𝓤 : URA M) (H : Heap 𝓤) (A : Atoms 𝓤) (mem : Memory → SProp 𝓤) (run : Routine → Fun 𝓤)
       → OneOutcome 𝓤 T (written 𝓤 H A mem run)

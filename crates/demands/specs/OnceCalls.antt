@@ -169,7 +169,7 @@ pub record StreamsOnce (M : Type 1) : Type 2 where
   pub streams·script-rows : Free M streams.script_rows.ended streams.script_rows.clauses streams.script_rows.spec
   pub streams·Stream·next : Free M streams.Stream.next.ended streams.Stream.next.clauses streams.Stream.next.spec
 
--- ---- embed: the C interface, in whose words the equation stands first
+-- ---- embed: the C interface, with the bench that is lent back
 
 pub record EmbedOnce (M : Type 1) : Type 2 where
   pub embed·hailstoat-size : Once M embed.hailstoat_size.ended embed.hailstoat_size.clauses embed.hailstoat_size.spec
