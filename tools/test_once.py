@@ -19,49 +19,136 @@ SOURCE = """impl Cup {
 }
 
 pub fn sip(c: u8) -> u8
-    ensures { λ r. ⌜ r ≡ sipped c ⌝ }
+    ensures {
+        λ r. ⌜ r ≡ sipped c ⌝
+    }
 {
     c
+}
+
+#[no_mangle]
+pub extern "C" fn cups_empty(
+    cup: &Cup,
+) -> u8
+    ensures { λ r. ⌜ r ≡ 0 ⌝ }
+{
+    0
 }
 
 pub(crate) fn spill() -> u8 {
     0
 }
+
+fn wipe() -> u8 {
+    0
+}
 """
 
-LINES = """pub record Cups : Type 0 where
-  pub cups·Cup·filled-to : (self : Cup) (mark : ℕ) → Once (λ r. r ≡ cups.filled self mark)
-  pub cups·sip : (c : ℕ) → Once (λ r. r ≡ sipped c)
+CALLS = """use Rattle.cups.proofs as cups
+use Rattle.demands.specs.Once.{Free, Once}
+
+pub record CupsOnce (M : Type 1) : Type 2 where
+  pub cups·Cup·filled-to : Once M cups.Cup.filled_to.ended cups.Cup.filled_to.clauses cups.Cup.filled_to.spec
+  pub cups·sip : Once M cups.sip.ended cups.sip.clauses cups.sip.spec
+  -- the one for C
+  pub cups·cups-empty :
+      Once M cups.cups_empty.ended cups.cups_empty.clauses cups.cups_empty.spec
 """
+
+PROOFS = """use Rattle.demands.specs.OnceCalls.{CupsOnce}
+
+pub cups-once : (M : Type 1) → CupsOnce M
+cups-once M = record { }
+"""
+
+DECLARED = "pub mod OnceCalls\n"
 
 
 class Once(unittest.TestCase):
-    def faults(self, source=SOURCE, lines=LINES, name="lib.rt"):
+    def faults(self, source=SOURCE, name="lib.rt", calls=CALLS, specs_lib=DECLARED, proofs=PROOFS, proofs_lib=DECLARED):
         with tempfile.TemporaryDirectory() as folder:
-            root = pathlib.Path(folder)
-            (root / once.ONCE).parent.mkdir(parents=True)
-            (root / once.ONCE).write_text(lines, encoding="utf-8")
-            (root / "crates/cups/src").mkdir(parents=True)
-            (root / "crates/cups/src" / name).write_text(source, encoding="utf-8")
-            return list(once.faults(root))
+            demands = pathlib.Path(folder) / once.DEMANDS
+            files = {
+                demands / "specs/Lib.antt": specs_lib,
+                demands / "specs/OnceCalls.antt": calls,
+                demands / "proofs/Lib.antt": proofs_lib,
+                demands / "proofs/OnceCalls.antt": proofs,
+                pathlib.Path(folder) / "crates/cups/src" / name: source,
+            }
+            for path, text in files.items():
+                path.parent.mkdir(parents=True, exist_ok=True)
+                if text is not None:
+                    path.write_text(text, encoding="utf-8")
+            return list(once.faults(pathlib.Path(folder)))
 
-    def test_a_line_for_each_function_passes(self):
+    def assertTold(self, fault, **files):
+        self.assertIn(fault, "\n".join(self.faults(**files)))
+
+    def test_a_line_for_each_public_function_passes(self):
         self.assertEqual(self.faults(), [])
 
     def test_a_function_without_a_line_is_told(self):
-        self.assertIn("cups·sip has no line", self.faults(lines=LINES.replace("cups·sip", "cups·sup"))[0])
+        self.assertTold("cups·sup has no line", source=SOURCE.replace("pub fn sip", "pub fn sup"))
+
+    def test_a_method_without_a_line_is_told(self):
+        self.assertTold("cups·Cup·drained has no line", source=SOURCE.replace("filled_to", "drained"))
+
+    def test_a_function_for_c_without_a_line_is_told(self):
+        self.assertTold("cups·cups-full has no line", source=SOURCE.replace("cups_empty", "cups_full"))
+
+    def test_a_private_function_needs_no_line(self):
+        self.assertEqual(self.faults(source=SOURCE.replace("spill", "spilt").replace("wipe", "wiped")), [])
+
+    def test_a_function_without_a_contract_needs_its_line(self):
+        self.assertTold("cups·spill has no line", source=SOURCE.replace("pub(crate) fn", "pub fn"))
 
     def test_a_line_without_a_function_is_told(self):
-        self.assertIn("a line for cups·sip", self.faults(source=SOURCE.replace("pub fn sip", "fn sip"))[0])
+        for hidden in ("fn sip", "pub(crate) fn sip"):
+            self.assertTold("a line for cups·sip", source=SOURCE.replace("pub fn sip", hidden))
 
-    def test_another_contract_is_told(self):
-        self.assertIn("the contract is", self.faults(source=SOURCE.replace("sipped c", "c"))[0])
+    def test_a_line_that_is_commented_out_is_told(self):
+        self.assertTold("cups·sip has no line", calls=CALLS.replace("  pub cups·sip", "  -- pub cups·sip"))
+        self.assertTold("cups·sip has no line", calls=CALLS.replace("  pub cups·sip", "{-\n  pub cups·sip") + "-}\n")
 
-    def test_no_contract_is_told(self):
-        self.assertIn("has no contract", self.faults(source=SOURCE.replace("    ensures { λ r. ⌜ r ≡ sipped c ⌝ }\n", ""))[0])
+    def test_a_line_about_another_function_is_told(self):
+        self.assertTold("cups·sip: its line", calls=CALLS.replace("cups.sip.clauses", "cups.cups_empty.clauses"))
+
+    def test_a_line_that_says_less_is_told(self):
+        self.assertTold("cups·sip: its line", calls=CALLS.replace("Once M cups.sip.", "Free M cups.sip."))
+
+    def test_a_room_by_another_rooms_name_is_told(self):
+        self.assertTold("which is no line of a call", calls=CALLS.replace("Rattle.cups", "Rattle.mugs"))
+
+    def test_a_definition_among_the_lines_is_told(self):
+        self.assertTold("which is no line of a call", calls=CALLS + "\nabbrev Once : Type 1\n")
+        self.assertTold("which is no line of a call", calls=CALLS.replace("specs.Once.", "specs.Nonce."))
+
+    def test_lines_that_are_not_declared_are_told(self):
+        self.assertTold("cups·sip has no line", specs_lib="-- pub mod OnceCalls\n")
+
+    def test_a_deleted_proof_is_told(self):
+        for proofs in (None, "", PROOFS.replace("pub", "-- pub"), "{-\n" + PROOFS + "-}\n", PROOFS.replace("pub", "  pub")):
+            self.assertTold("CupsOnce of crates/demands/specs/OnceCalls.antt has no proof", proofs=proofs)
+
+    def test_a_proof_under_a_premise_is_told(self):
+        self.assertTold("CupsOnce of", proofs=PROOFS.replace("(M : Type 1) →", "(M : Type 1) → ⊥ →"))
+
+    def test_a_proof_of_another_record_of_that_name_is_told(self):
+        for other in ("use Rattle.demands.specs.Other.{CupsOnce}", "use Rattle.demands.specs.OnceCalls.{Other as CupsOnce}"):
+            self.assertTold("CupsOnce of", proofs=PROOFS.replace(PROOFS.splitlines()[0], other))
+
+    def test_a_file_of_proofs_that_is_not_declared_is_told(self):
+        self.assertTold("CupsOnce of", proofs_lib="pub mod Once\n")
+
+    def test_a_requires_is_told(self):
+        for clause in ("    ensures {\n", "        ensures { λ r. ⌜ r ≡ filled"):
+            self.assertTold("has a requires", source=SOURCE.replace(clause, "    requires { ⌜ c < 9 ⌝ }\n" + clause))
+
+    def test_a_private_requires_is_none_of_its_business(self):
+        self.assertEqual(self.faults(source=SOURCE.replace("fn wipe() -> u8 {", "fn wipe() -> u8\n    requires { ⌜ 0 < 1 ⌝ }\n{")), [])
 
     def test_a_program_is_left_out(self):
-        self.assertEqual(self.faults(lines="", name="main.rt"), [])
+        self.assertEqual(self.faults(calls="", name="main.rt"), [])
 
 
 if __name__ == "__main__":

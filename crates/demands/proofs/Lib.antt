@@ -7,4 +7,6 @@ pub mod Demand3
 pub mod Closed3
 pub mod SeatLedger
 pub mod Once
+pub mod OnceCalls
+pub mod OnceRefused
 pub mod ClosedLedger

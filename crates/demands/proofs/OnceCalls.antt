@@ -1,0 +1,186 @@
+-- No second outcome, call by call: each line of OnceCalls in specs/ by a law of Once.
+use mathlib.Core.Path.{_≡_, refl, sym, ap, _∙_}
+use denote.Ref.{now}
+use Rattle.listing.specs.PartLaws.{runs-one}
+use Rattle.lesson.specs.Lesson.{handedOut}
+use Rattle.lesson.specs.declared.Lesson.{Lesson}
+use Rattle.demands.specs.OnceCalls.{BaseOnce, QueueOnce, RatesOnce, RegistersOnce, ReceiverOnce, TransmitterOnce, ChannelOnce, LendingOnce, RankOnce}
+use Rattle.demands.specs.OnceCalls.{ControllerOnce, BenchOnce, ListingOnce, LessonOnce, StreamsOnce, EmbedOnce}
+use Rattle.demands.proofs.Once.{told, unasked, value}
+
+pub base-once : (M : Type 1) → BaseOnce M
+base-once M =
+    record {
+      base·Answer·refusal = value _ refl (λ κ a v w. refl);
+      base·Answer·value = value _ refl (λ κ a v w. refl);
+      base·bit = value _ refl (λ κ a v w. refl);
+      base·pick-byte = value _ refl (λ κ a v w. refl);
+      base·pick-flag = value _ refl (λ κ a v w. refl);
+      base·nibble = told _ refl (λ κ a r s v w p q. (p .0 ∙ sym (q .0), refl));
+      base·byte-of = value _ refl (λ κ a v w. refl);
+    }
+
+pub queue-once : (M : Type 1) → QueueOnce M
+queue-once M =
+    record {
+      queue·Queue·empty = value _ refl (λ κ a v w. refl);
+      queue·Queue·emptied = value _ refl (λ κ a v w. refl);
+      queue·Queue·has-room = value _ refl (λ κ a v w. refl);
+      queue·Queue·put = value _ refl (λ κ a v w. refl);
+      queue·Queue·capacity = value _ refl (λ κ a v w. refl);
+      queue·Queue·accept = value _ refl (λ κ a v w. refl);
+      queue·Queue·replace = value _ refl (λ κ a v w. refl);
+      queue·Queue·take = value _ refl (λ κ a v w. refl);
+      queue·Queue·first = value _ refl (λ κ a v w. refl);
+      queue·Queue·unmark = value _ refl (λ κ a v w. refl);
+      queue·Queue·any-marked = value _ refl (λ κ a v w. refl);
+    }
+
+pub rates-once : (M : Type 1) → RatesOnce M
+rates-once M =
+    record {
+      rates·divisor = value _ refl (λ κ a v w. refl);
+    }
+
+pub registers-once : (M : Type 1) → RegistersOnce M
+registers-once M =
+    record {
+      registers·Settings·is-fifo = value _ refl (λ κ a v w. refl);
+      registers·Settings·trigger = value _ refl (λ κ a v w. refl);
+      registers·Settings·register = value _ refl (λ κ a v w. refl);
+      registers·Settings·changes-mode = value _ refl (λ κ a v w. refl);
+      registers·Settings·write = value _ refl (λ κ a v w. refl);
+      registers·Settings·no-divisor = value _ refl (λ κ a v w. refl);
+      registers·Settings·cut = value _ refl (λ κ a v w. refl);
+      registers·changes-after = value _ refl (λ κ a v w. refl);
+      registers·modem-status = value _ refl (λ κ a v w. refl);
+      registers·Settings·is-bad-arrival = value _ refl (λ κ a v w. refl);
+    }
+
+pub receiver-once : (M : Type 1) → ReceiverOnce M
+receiver-once M =
+    record {
+      receiver·Receiver·power-up = value _ refl (λ κ a v w. refl);
+      receiver·Receiver·is-empty = value _ refl (λ κ a v w. refl);
+      receiver·Receiver·receive = value _ refl (λ κ a v w. refl);
+      receiver·Receiver·get = value _ refl (λ κ a v w. refl);
+      receiver·Receiver·marks = value _ refl (λ κ a v w. refl);
+      receiver·Receiver·any-marked = value _ refl (λ κ a v w. refl);
+      receiver·Receiver·look = value _ refl (λ κ a v w. refl);
+      receiver·Receiver·wait = value _ refl (λ κ a v w. refl);
+      receiver·Receiver·fcr-written = value _ refl (λ κ a v w. refl);
+      receiver·Receiver·restart = value _ refl (λ κ a v w. refl);
+      receiver·Receiver·data = value _ refl (λ κ a v w. refl);
+      receiver·Receiver·timed-out = value _ refl (λ κ a v w. refl);
+    }
+
+pub transmitter-once : (M : Type 1) → TransmitterOnce M
+transmitter-once M =
+    record {
+      transmitter·Transmitter·power-up = value _ refl (λ κ a v w. refl);
+      transmitter·Transmitter·is-empty = value _ refl (λ κ a v w. refl);
+      transmitter·Transmitter·is-idle = value _ refl (λ κ a v w. refl);
+      transmitter·Transmitter·iir-read = value _ refl (λ κ a v w. refl);
+      transmitter·Transmitter·write = value _ refl (λ κ a v w. refl);
+      transmitter·Transmitter·fcr-written = value _ refl (λ κ a v w. refl);
+      transmitter·Transmitter·shift = value _ refl (λ κ a v w. refl);
+      transmitter·Transmitter·ier-written = value _ refl (λ κ a v w. refl);
+    }
+
+pub channel-once : (M : Type 1) → ChannelOnce M
+channel-once M =
+    record {
+      channel·Channel·power-up = value _ refl (λ κ a v w. refl);
+      channel·Channel·master-reset = value _ refl (λ κ a v w. refl);
+      channel·Channel·step = value _ refl (λ κ a v w. refl);
+      channel·Channel·read = value _ refl (λ κ a v w. refl);
+      channel·Channel·line = value _ refl (λ κ a v w. refl);
+      channel·Channel·arrive = value _ refl (λ κ a v w. refl);
+      channel·Channel·modem-inputs = value _ refl (λ κ a v w. refl);
+      channel·Channel·character-time = value _ refl (λ κ a v w. refl);
+      channel·Channel·write = value _ refl (λ κ a v w. refl);
+    }
+
+pub lending-once : (M : Type 1) → LendingOnce M
+lending-once M =
+    record {
+      lending·touch = told _ refl (λ κ a r s v w p q. (p .1 ∙ sym (q .1), λ i. ((p .0 ∙ sym (q .0)) i, (tt, tt))));
+      lending·lent = value _ refl (λ κ a v w. refl);
+    }
+
+pub rank-once : (M : Type 1) → RankOnce M
+rank-once M =
+    record {
+      rank·has = value _ refl (λ κ a v w. refl);
+      rank·only = value _ refl (λ κ a v w. refl);
+      rank·without = value _ refl (λ κ a v w. refl);
+      rank·next = value _ refl (λ κ a v w. refl);
+      rank·place = value _ refl (λ κ a v w. refl);
+      rank·line-at = value _ refl (λ κ a v w. refl);
+      rank·first-place = value _ refl (λ κ a v w. refl);
+    }
+
+pub controller-once : (M : Type 1) → ControllerOnce M
+controller-once M =
+    record {
+      controller·Controller·power-up = value _ refl (λ κ a v w. refl);
+      controller·Controller·settle = value _ refl (λ κ a v w. refl);
+      controller·Controller·output = value _ refl (λ κ a v w. refl);
+      controller·Controller·read = value _ refl (λ κ a v w. refl);
+      controller·Controller·write = value _ refl (λ κ a v w. refl);
+      controller·Controller·acknowledge = value _ refl (λ κ a v w. refl);
+      controller·Controller·place = value _ refl (λ κ a v w. refl);
+    }
+
+pub bench-once : (M : Type 1) → BenchOnce M
+bench-once M =
+    record {
+      bench·Decoded·decode = value _ refl (λ κ a v w. refl);
+      bench·Decoded·decode-short = value _ refl (λ κ a v w. refl);
+      bench·Decoded·refusal = value _ refl (λ κ a v w. refl);
+      bench·Bench·power-up = value _ refl (λ κ a v w. refl);
+      bench·Bench·step = value _ refl (λ κ a v w. refl);
+      bench·Bench·step-short = value _ refl (λ κ a v w. refl);
+      bench·Bench·place = value _ refl (λ κ a v w. refl);
+      bench·Bench·output = value _ refl (λ κ a v w. refl);
+    }
+
+pub listing-once : (M : Type 1) → ListingOnce M
+listing-once M =
+    record {
+      listing·put-line = told _ refl (λ κ a r s v w p q. (p .next ∙ sym (q .next), λ i. ((p .bytes ∙ sym (q .bytes)) i, (tt, (tt, (tt, (tt, tt)))))));
+      listing·run = told _ refl (λ κ a r s v w p q.
+          let same = runs-one _ _ _ _ _ _ _ _ _ p q in
+          (same .0, λ i. (tt, (tt, (tt, (tt, (same .1 i, tt)))))));
+    }
+
+pub lesson-once : (M : Type 1) → LessonOnce M
+lesson-once M =
+    record {
+      lesson·read = told _ refl (λ κ a r s v w p q.
+          let same : r ≡ s = p .told ∙ sym (q .told) in
+          let bytes = p .bytes ∙ ap (λ (l : Lesson). handedOut l (now (a .0)) (now (a .1 .0))) same ∙ sym (q .bytes) in
+          (same, λ i. (tt, (bytes i, tt))));
+    }
+
+pub streams-once : (M : Type 1) → StreamsOnce M
+streams-once M =
+    record {
+      streams·Stream·start = value _ refl (λ κ a v w. refl);
+      streams·add = value _ refl (λ κ a v w. refl);
+      streams·outcome-mark = value _ refl (λ κ a v w. refl);
+      streams·place-mark = value _ refl (λ κ a v w. refl);
+      streams·script-rows = unasked _;
+      streams·Stream·next = unasked _;
+    }
+
+pub embed-once : (M : Type 1) → EmbedOnce M
+embed-once M =
+    record {
+      embed·hailstoat-size = value _ refl (λ κ a v w. refl);
+      embed·hailstoat-divisor = told _ refl (λ κ a r s v w p q. (p .0 ∙ sym (q .0), refl));
+      embed·hailstoat-power-up = told _ refl (λ κ a r s v w p q. (refl, λ i. ((p ∙ sym q) i, tt)));
+      embed·hailstoat-event = told _ refl (λ κ a r s v w p q. (p .1 .0 ∙ sym (q .1 .0), λ i. ((p .0 ∙ sym (q .0)) i, (tt, (tt, (tt, (tt, tt)))))));
+      embed·hailstoat-place = told _ refl (λ κ a r s v w p q. (p .0 ∙ sym (q .0), refl));
+      embed·hailstoat-output = value _ refl (λ κ a v w. refl);
+    }

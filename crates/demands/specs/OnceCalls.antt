@@ -1,0 +1,180 @@
+-- A line for every public call, room by room: its contract leaves no second outcome. The line's name is the call's, and tools/checks/05-once
+-- fails where a call has no line. Programs, which nothing calls, have none.
+use Rattle.base.proofs as base
+use Rattle.queue.proofs as queue
+use Rattle.rates.proofs as rates
+use Rattle.registers.proofs as registers
+use Rattle.receiver.proofs as receiver
+use Rattle.transmitter.proofs as transmitter
+use Rattle.channel.proofs as channel
+use Rattle.lending.proofs as lending
+use Rattle.rank.proofs as rank
+use Rattle.controller.proofs as controller
+use Rattle.bench.proofs as bench
+use Rattle.listing.proofs as listing
+use Rattle.lesson.proofs as lesson
+use Rattle.streams.proofs as streams
+use Rattle.embed.proofs as embed
+use Rattle.demands.specs.Once.{Free, Once}
+
+-- ---- base: answers, bits and choices
+
+pub record BaseOnce (M : Type 1) : Type 2 where
+  pub base·Answer·refusal : Once M base.Answer.refusal.ended base.Answer.refusal.clauses base.Answer.refusal.spec
+  pub base·Answer·value : Once M base.Answer.value.ended base.Answer.value.clauses base.Answer.value.spec
+  pub base·bit : Once M base.bit.ended base.bit.clauses base.bit.spec
+  pub base·pick-byte : Once M base.pick_byte.ended base.pick_byte.clauses base.pick_byte.spec
+  pub base·pick-flag : Once M base.pick_flag.ended base.pick_flag.clauses base.pick_flag.spec
+  pub base·nibble : Once M base.nibble.ended base.nibble.clauses base.nibble.spec
+  pub base·byte-of : Once M base.byte_of.ended base.byte_of.clauses base.byte_of.spec
+
+-- ---- queue: a queue
+
+pub record QueueOnce (M : Type 1) : Type 2 where
+  pub queue·Queue·empty : Once M queue.Queue.empty.ended queue.Queue.empty.clauses queue.Queue.empty.spec
+  pub queue·Queue·emptied : Once M queue.Queue.emptied.ended queue.Queue.emptied.clauses queue.Queue.emptied.spec
+  pub queue·Queue·has-room : Once M queue.Queue.has_room.ended queue.Queue.has_room.clauses queue.Queue.has_room.spec
+  pub queue·Queue·put : Once M queue.Queue.put.ended queue.Queue.put.clauses queue.Queue.put.spec
+  pub queue·Queue·capacity : Once M queue.Queue.capacity.ended queue.Queue.capacity.clauses queue.Queue.capacity.spec
+  pub queue·Queue·accept : Once M queue.Queue.accept.ended queue.Queue.accept.clauses queue.Queue.accept.spec
+  pub queue·Queue·replace : Once M queue.Queue.replace.ended queue.Queue.replace.clauses queue.Queue.replace.spec
+  pub queue·Queue·take : Once M queue.Queue.take.ended queue.Queue.take.clauses queue.Queue.take.spec
+  pub queue·Queue·first : Once M queue.Queue.first.ended queue.Queue.first.clauses queue.Queue.first.spec
+  pub queue·Queue·unmark : Once M queue.Queue.unmark.ended queue.Queue.unmark.clauses queue.Queue.unmark.spec
+  pub queue·Queue·any-marked : Once M queue.Queue.any_marked.ended queue.Queue.any_marked.clauses queue.Queue.any_marked.spec
+
+-- ---- rates: the divisor latch table
+
+pub record RatesOnce (M : Type 1) : Type 2 where
+  pub rates·divisor : Once M rates.divisor.ended rates.divisor.clauses rates.divisor.spec
+
+-- ---- registers: the settings
+
+pub record RegistersOnce (M : Type 1) : Type 2 where
+  pub registers·Settings·is-fifo : Once M registers.Settings.is_fifo.ended registers.Settings.is_fifo.clauses registers.Settings.is_fifo.spec
+  pub registers·Settings·trigger : Once M registers.Settings.trigger.ended registers.Settings.trigger.clauses registers.Settings.trigger.spec
+  pub registers·Settings·register : Once M registers.Settings.register.ended registers.Settings.register.clauses registers.Settings.register.spec
+  pub registers·Settings·changes-mode : Once M registers.Settings.changes_mode.ended registers.Settings.changes_mode.clauses registers.Settings.changes_mode.spec
+  pub registers·Settings·write : Once M registers.Settings.write.ended registers.Settings.write.clauses registers.Settings.write.spec
+  pub registers·Settings·no-divisor : Once M registers.Settings.no_divisor.ended registers.Settings.no_divisor.clauses registers.Settings.no_divisor.spec
+  pub registers·Settings·cut : Once M registers.Settings.cut.ended registers.Settings.cut.clauses registers.Settings.cut.spec
+  pub registers·changes-after : Once M registers.changes_after.ended registers.changes_after.clauses registers.changes_after.spec
+  pub registers·modem-status : Once M registers.modem_status.ended registers.modem_status.clauses registers.modem_status.spec
+  pub registers·Settings·is-bad-arrival :
+      Once M registers.Settings.is_bad_arrival.ended registers.Settings.is_bad_arrival.clauses registers.Settings.is_bad_arrival.spec
+
+-- ---- receiver: a receive side
+
+pub record ReceiverOnce (M : Type 1) : Type 2 where
+  pub receiver·Receiver·power-up : Once M receiver.Receiver.power_up.ended receiver.Receiver.power_up.clauses receiver.Receiver.power_up.spec
+  pub receiver·Receiver·is-empty : Once M receiver.Receiver.is_empty.ended receiver.Receiver.is_empty.clauses receiver.Receiver.is_empty.spec
+  pub receiver·Receiver·receive : Once M receiver.Receiver.receive.ended receiver.Receiver.receive.clauses receiver.Receiver.receive.spec
+  pub receiver·Receiver·get : Once M receiver.Receiver.get.ended receiver.Receiver.get.clauses receiver.Receiver.get.spec
+  pub receiver·Receiver·marks : Once M receiver.Receiver.marks.ended receiver.Receiver.marks.clauses receiver.Receiver.marks.spec
+  pub receiver·Receiver·any-marked : Once M receiver.Receiver.any_marked.ended receiver.Receiver.any_marked.clauses receiver.Receiver.any_marked.spec
+  pub receiver·Receiver·look : Once M receiver.Receiver.look.ended receiver.Receiver.look.clauses receiver.Receiver.look.spec
+  pub receiver·Receiver·wait : Once M receiver.Receiver.wait.ended receiver.Receiver.wait.clauses receiver.Receiver.wait.spec
+  pub receiver·Receiver·fcr-written : Once M receiver.Receiver.fcr_written.ended receiver.Receiver.fcr_written.clauses receiver.Receiver.fcr_written.spec
+  pub receiver·Receiver·restart : Once M receiver.Receiver.restart.ended receiver.Receiver.restart.clauses receiver.Receiver.restart.spec
+  pub receiver·Receiver·data : Once M receiver.Receiver.data.ended receiver.Receiver.data.clauses receiver.Receiver.data.spec
+  pub receiver·Receiver·timed-out : Once M receiver.Receiver.timed_out.ended receiver.Receiver.timed_out.clauses receiver.Receiver.timed_out.spec
+
+-- ---- transmitter: a send side
+
+pub record TransmitterOnce (M : Type 1) : Type 2 where
+  pub transmitter·Transmitter·power-up : Once M transmitter.Transmitter.power_up.ended transmitter.Transmitter.power_up.clauses transmitter.Transmitter.power_up.spec
+  pub transmitter·Transmitter·is-empty : Once M transmitter.Transmitter.is_empty.ended transmitter.Transmitter.is_empty.clauses transmitter.Transmitter.is_empty.spec
+  pub transmitter·Transmitter·is-idle : Once M transmitter.Transmitter.is_idle.ended transmitter.Transmitter.is_idle.clauses transmitter.Transmitter.is_idle.spec
+  pub transmitter·Transmitter·iir-read : Once M transmitter.Transmitter.iir_read.ended transmitter.Transmitter.iir_read.clauses transmitter.Transmitter.iir_read.spec
+  pub transmitter·Transmitter·write : Once M transmitter.Transmitter.write.ended transmitter.Transmitter.write.clauses transmitter.Transmitter.write.spec
+  pub transmitter·Transmitter·fcr-written :
+      Once M transmitter.Transmitter.fcr_written.ended transmitter.Transmitter.fcr_written.clauses transmitter.Transmitter.fcr_written.spec
+  pub transmitter·Transmitter·shift : Once M transmitter.Transmitter.shift.ended transmitter.Transmitter.shift.clauses transmitter.Transmitter.shift.spec
+  pub transmitter·Transmitter·ier-written :
+      Once M transmitter.Transmitter.ier_written.ended transmitter.Transmitter.ier_written.clauses transmitter.Transmitter.ier_written.spec
+
+-- ---- channel: a channel
+
+pub record ChannelOnce (M : Type 1) : Type 2 where
+  pub channel·Channel·power-up : Once M channel.Channel.power_up.ended channel.Channel.power_up.clauses channel.Channel.power_up.spec
+  pub channel·Channel·master-reset : Once M channel.Channel.master_reset.ended channel.Channel.master_reset.clauses channel.Channel.master_reset.spec
+  pub channel·Channel·step : Once M channel.Channel.step.ended channel.Channel.step.clauses channel.Channel.step.spec
+  pub channel·Channel·read : Once M channel.Channel.read.ended channel.Channel.read.clauses channel.Channel.read.spec
+  pub channel·Channel·line : Once M channel.Channel.line.ended channel.Channel.line.clauses channel.Channel.line.spec
+  pub channel·Channel·arrive : Once M channel.Channel.arrive.ended channel.Channel.arrive.clauses channel.Channel.arrive.spec
+  pub channel·Channel·modem-inputs : Once M channel.Channel.modem_inputs.ended channel.Channel.modem_inputs.clauses channel.Channel.modem_inputs.spec
+  pub channel·Channel·character-time : Once M channel.Channel.character_time.ended channel.Channel.character_time.clauses channel.Channel.character_time.spec
+  pub channel·Channel·write : Once M channel.Channel.write.ended channel.Channel.write.clauses channel.Channel.write.spec
+
+-- ---- lending: a channel lent
+
+pub record LendingOnce (M : Type 1) : Type 2 where
+  pub lending·touch : Once M lending.touch.ended lending.touch.clauses lending.touch.spec
+  pub lending·lent : Once M lending.lent.ended lending.lent.clauses lending.lent.spec
+
+-- ---- rank: sets and places of lines
+
+pub record RankOnce (M : Type 1) : Type 2 where
+  pub rank·has : Once M rank.has.ended rank.has.clauses rank.has.spec
+  pub rank·only : Once M rank.only.ended rank.only.clauses rank.only.spec
+  pub rank·without : Once M rank.without.ended rank.without.clauses rank.without.spec
+  pub rank·next : Once M rank.next.ended rank.next.clauses rank.next.spec
+  pub rank·place : Once M rank.place.ended rank.place.clauses rank.place.spec
+  pub rank·line-at : Once M rank.line_at.ended rank.line_at.clauses rank.line_at.spec
+  pub rank·first-place : Once M rank.first_place.ended rank.first_place.clauses rank.first_place.spec
+
+-- ---- controller: the controller
+
+pub record ControllerOnce (M : Type 1) : Type 2 where
+  pub controller·Controller·power-up : Once M controller.Controller.power_up.ended controller.Controller.power_up.clauses controller.Controller.power_up.spec
+  pub controller·Controller·settle : Once M controller.Controller.settle.ended controller.Controller.settle.clauses controller.Controller.settle.spec
+  pub controller·Controller·output : Once M controller.Controller.output.ended controller.Controller.output.clauses controller.Controller.output.spec
+  pub controller·Controller·read : Once M controller.Controller.read.ended controller.Controller.read.clauses controller.Controller.read.spec
+  pub controller·Controller·write : Once M controller.Controller.write.ended controller.Controller.write.clauses controller.Controller.write.spec
+  pub controller·Controller·acknowledge :
+      Once M controller.Controller.acknowledge.ended controller.Controller.acknowledge.clauses controller.Controller.acknowledge.spec
+  pub controller·Controller·place : Once M controller.Controller.place.ended controller.Controller.place.clauses controller.Controller.place.spec
+
+-- ---- bench: records and the bench
+
+pub record BenchOnce (M : Type 1) : Type 2 where
+  pub bench·Decoded·decode : Once M bench.Decoded.decode.ended bench.Decoded.decode.clauses bench.Decoded.decode.spec
+  pub bench·Decoded·decode-short : Once M bench.Decoded.decode_short.ended bench.Decoded.decode_short.clauses bench.Decoded.decode_short.spec
+  pub bench·Decoded·refusal : Once M bench.Decoded.refusal.ended bench.Decoded.refusal.clauses bench.Decoded.refusal.spec
+  pub bench·Bench·power-up : Once M bench.Bench.power_up.ended bench.Bench.power_up.clauses bench.Bench.power_up.spec
+  pub bench·Bench·step : Once M bench.Bench.step.ended bench.Bench.step.clauses bench.Bench.step.spec
+  pub bench·Bench·step-short : Once M bench.Bench.step_short.ended bench.Bench.step_short.clauses bench.Bench.step_short.spec
+  pub bench·Bench·place : Once M bench.Bench.place.ended bench.Bench.place.clauses bench.Bench.place.spec
+  pub bench·Bench·output : Once M bench.Bench.output.ended bench.Bench.output.clauses bench.Bench.output.spec
+
+-- ---- listing: a line and a run, each with the buffer that is lent back
+
+pub record ListingOnce (M : Type 1) : Type 2 where
+  pub listing·put-line : Once M listing.put_line.ended listing.put_line.clauses listing.put_line.spec
+  pub listing·run : Once M listing.run.ended listing.run.clauses listing.run.spec
+
+-- ---- lesson: a text, with the buffer that is lent back
+
+pub record LessonOnce (M : Type 1) : Type 2 where
+  pub lesson·read : Once M lesson.read.ended lesson.read.clauses lesson.read.spec
+
+-- ---- streams: the trials' digest
+
+pub record StreamsOnce (M : Type 1) : Type 2 where
+  pub streams·Stream·start : Once M streams.Stream.start.ended streams.Stream.start.clauses streams.Stream.start.spec
+  pub streams·add : Once M streams.add.ended streams.add.clauses streams.add.spec
+  pub streams·outcome-mark : Once M streams.outcome_mark.ended streams.outcome_mark.clauses streams.outcome_mark.spec
+  pub streams·place-mark : Once M streams.place_mark.ended streams.place_mark.clauses streams.place_mark.spec
+  -- the trials' generator and its table have no such contract, and no `requires` either
+  pub streams·script-rows : Free M streams.script_rows.ended streams.script_rows.clauses streams.script_rows.spec
+  pub streams·Stream·next : Free M streams.Stream.next.ended streams.Stream.next.clauses streams.Stream.next.spec
+
+-- ---- embed: the C interface, with the bench that is lent back
+
+pub record EmbedOnce (M : Type 1) : Type 2 where
+  pub embed·hailstoat-size : Once M embed.hailstoat_size.ended embed.hailstoat_size.clauses embed.hailstoat_size.spec
+  pub embed·hailstoat-divisor : Once M embed.hailstoat_divisor.ended embed.hailstoat_divisor.clauses embed.hailstoat_divisor.spec
+  pub embed·hailstoat-power-up : Once M embed.hailstoat_power_up.ended embed.hailstoat_power_up.clauses embed.hailstoat_power_up.spec
+  pub embed·hailstoat-event : Once M embed.hailstoat_event.ended embed.hailstoat_event.clauses embed.hailstoat_event.spec
+  pub embed·hailstoat-place : Once M embed.hailstoat_place.ended embed.hailstoat_place.clauses embed.hailstoat_place.spec
+  pub embed·hailstoat-output : Once M embed.hailstoat_output.ended embed.hailstoat_output.clauses embed.hailstoat_output.spec
