@@ -1,3 +1,4 @@
+pub mod Opened
 pub mod Keeps
 pub mod Writes
 pub mod Rising
