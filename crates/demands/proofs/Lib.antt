@@ -9,3 +9,4 @@ pub mod Closed3
 pub mod SeatLedger
 pub mod Once
 pub mod ClosedLedger
+pub mod Statements

@@ -6,4 +6,4 @@ use Rattle.demands.proofs.Opened.{laid-open}
 
 pub tasted : Tasted
 unfolding laid-open starred.holds starred.all starred.set-up starred.set-up-fifo starred.arrivals starred.reads-of starred.initialised starred.rises starred.served-3
-tasted = refl
+tasted = (refl, refl)

@@ -6,3 +6,4 @@ pub mod Demand2
 pub mod Demand3
 pub mod SeatLedger
 pub mod Once
+pub mod Statements

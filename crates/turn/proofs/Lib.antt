@@ -5,3 +5,4 @@ pub mod Rising
 pub mod InTurn
 pub mod Lift
 pub mod Closed
+pub mod Statements

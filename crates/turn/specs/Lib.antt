@@ -2,3 +2,4 @@ pub mod Runs
 pub mod Waiting
 pub mod Demand3
 pub mod RunLaws
+pub mod Statements

@@ -1,0 +1,23 @@
+-- Every statement of this room is proved.
+use Rattle.demands.specs.Statements.{Statements}
+use Rattle.demands.proofs.Demand1.{demand-1}
+use Rattle.demands.proofs.Demand2.{demand-2, demand-2-listed}
+use Rattle.demands.proofs.Demand3.{demand-3-bench}
+use Rattle.demands.proofs.SeatLedger.{seat-ledger, seat-ledger-from-power-up}
+use Rattle.demands.proofs.Starred.{tasted}
+use Rattle.demands.proofs.Worked.{worked}
+use Rattle.demands.proofs.Edges.{at-the-edges}
+
+pub statements : Statements
+statements =
+    record {
+      demand-1 = demand-1;
+      demand-2 = demand-2;
+      demand-2-listed = demand-2-listed;
+      demand-3 = demand-3-bench;
+      seat-ledger = seat-ledger;
+      seat-ledger-from-power-up = seat-ledger-from-power-up;
+      tasted = tasted;
+      worked = worked;
+      at-the-edges = at-the-edges;
+    }

@@ -1,0 +1,6 @@
+-- Every statement of this room is proved.
+use Rattle.turn.specs.Statements.{Statements}
+use Rattle.turn.proofs.InTurn.{demand-3}
+
+pub statements : Statements
+statements = record { demand-3 = demand-3 }
