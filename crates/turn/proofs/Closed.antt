@@ -18,17 +18,17 @@ in-order = Vector 0x40 ∷ Vector 0x41 ∷ Vector 0x42 ∷ Vector 0x43 ∷ Vecto
 
 -- ---- level mode, automatic end with rotation, every line high
 
-automatic : Controller
+unfoldable pub automatic : Controller
 automatic = afterAll powerUp (write 0 0x1B ∷ write 1 0x40 ∷ write 1 0x03 ∷ write 0 0x80 ∷ levels 0xFF ∷ [])
 
-eight : List Signal
+unfoldable pub eight : List Signal
 eight = acknowledge ∷ acknowledge ∷ acknowledge ∷ acknowledge ∷ acknowledge ∷ acknowledge ∷ acknowledge ∷ acknowledge ∷ []
 
-automatic-start : Start automatic 7
+pub automatic-start : Start automatic 7
 unfolding laid-open automatic
 automatic-start = record { line = omega arith; up = refl; idle = refl; plain = refl; turns = inl (refl, refl); stands = refl; unmasked = refl }
 
-automatic-waits : Waits 7 false automatic eight
+pub automatic-waits : Waits 7 false automatic eight
 unfolding laid-open automatic eight
 automatic-waits = (refl, inr (refl, inr (refl, inr (refl, inr (refl, inr (refl, inr (refl, inr (refl, inl refl))))))))
 
@@ -38,7 +38,7 @@ automatic-order = refl
 
 -- ---- level mode without automatic end, every line high: each grant is followed by a rotating end
 
-manual : Controller
+unfoldable pub manual : Controller
 manual = afterAll powerUp (write 0 0x1B ∷ write 1 0x40 ∷ write 1 0x01 ∷ levels 0xFF ∷ [])
 
 ended-each : List Signal
@@ -46,7 +46,7 @@ ended-each =
     acknowledge ∷ write 0 0xA0 ∷ acknowledge ∷ write 0 0xA0 ∷ acknowledge ∷ write 0 0xA0 ∷ acknowledge ∷ write 0 0xA0 ∷ acknowledge ∷ write 0 0xA0
     ∷ acknowledge ∷ write 0 0xA0 ∷ acknowledge ∷ write 0 0xA0 ∷ acknowledge ∷ []
 
-manual-start : Start manual 7
+pub manual-start : Start manual 7
 unfolding laid-open manual
 manual-start = record { line = omega arith; up = refl; idle = refl; plain = refl; turns = inr refl; stands = refl; unmasked = refl }
 

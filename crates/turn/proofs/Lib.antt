@@ -5,4 +5,5 @@ pub mod Rising
 pub mod InTurn
 pub mod Lift
 pub mod Closed
+pub mod Needed
 pub mod Statements
