@@ -7,6 +7,7 @@ use Rattle.bench.specs.Runs as bench-runs
 use Rattle.bench.specs.Runs.{afterAll}
 use Rattle.bench.specs.Events.{Record, whole}
 use Rattle.bench.specs.Seats.{powerUp}
+use Rattle.bench.specs.Steps.{outcome}
 use Rattle.demands.specs.SeatLedger.{arrivedAt, readAt, lostAt, droppedAt, queuedAt}
 use Rattle.demands.proofs.Opened.{laid-open}
 
@@ -18,10 +19,10 @@ lesson =
     ∷ whole 1 3 2 0x81 ∷ whole 2 3 0 1 ∷ whole 2 4 0 7 ∷ whole 2 3 0 2 ∷ whole 2 3 0 3 ∷ whole 0 3 0 0 ∷ whole 1 3 2 0x83 ∷ whole 2 3 0 9 ∷ []
 
 -- six arrived: two were read, one was lost, two were dropped, one waits
-counted : (arrivedAt 3 powerUp lesson ≡ 0x41 ∷ 0x42 ∷ 1 ∷ 2 ∷ 3 ∷ 9 ∷ [])
-    × (readAt 3 powerUp lesson ≡ 0x42 ∷ 1 ∷ [])
-    × (lostAt 3 powerUp lesson ≡ 1)
-    × (droppedAt 3 powerUp lesson ≡ 2)
+counted : (arrivedAt outcome 3 powerUp lesson ≡ 0x41 ∷ 0x42 ∷ 1 ∷ 2 ∷ 3 ∷ 9 ∷ [])
+    × (readAt outcome 3 powerUp lesson ≡ 0x42 ∷ 1 ∷ [])
+    × (lostAt outcome 3 powerUp lesson ≡ 1)
+    × (droppedAt outcome 3 powerUp lesson ≡ 2)
     × (queuedAt 3 (afterAll powerUp lesson) ≡ 9 ∷ [])
 unfolding laid-open lesson bench-runs.own channel-moments.readMoments channel-moments.fcrMoments channel-moments.writeMoments channel-moments.acceptedMoments channel-moments.momentsOf channel-moments.telling channel-moments.toldIn receiver-ledger.after receiver-ledger.arrivedIn receiver-ledger.lostIn receiver-ledger.droppedIn
 counted = (refl, refl, refl, refl, refl)
