@@ -1,6 +1,6 @@
 -- Every statement of this room is proved.
 use Rattle.demands.specs.Statements.{Statements}
-use Rattle.demands.proofs.Demand1.{demand-1}
+use Rattle.demands.proofs.Demand1.{demand-1, only-fff}
 use Rattle.demands.proofs.Demand2.{demand-2, demand-2-listed}
 use Rattle.demands.proofs.Demand3.{demand-3-bench}
 use Rattle.demands.proofs.SeatLedger.{seat-ledger, seat-ledger-from-power-up}
@@ -12,6 +12,7 @@ pub statements : Statements
 statements =
     record {
       demand-1 = demand-1;
+      only-fff = only-fff;
       demand-2 = demand-2;
       demand-2-listed = demand-2-listed;
       demand-3 = demand-3-bench;

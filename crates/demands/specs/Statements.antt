@@ -1,5 +1,5 @@
 -- The statements of this room. The proofs give the record whole.
-use Rattle.demands.specs.Demand1.{Demand1}
+use Rattle.demands.specs.Demand1.{Demand1, OnlyFFF}
 use Rattle.demands.specs.Demand2.{Demand2, Demand2Listed}
 use Rattle.demands.specs.Demand3.{Demand3}
 use Rattle.demands.specs.SeatLedger.{SeatLedger, SeatLedgerFromPowerUp}
@@ -9,6 +9,7 @@ use Rattle.demands.specs.Edges.{Edges}
 
 pub record Statements : Type 0 where
   pub demand-1 : Demand1
+  pub only-fff : OnlyFFF
   pub demand-2 : Demand2
   pub demand-2-listed : Demand2Listed
   pub demand-3 : Demand3
