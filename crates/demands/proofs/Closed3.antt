@@ -13,17 +13,9 @@ use Rattle.bench.specs.declared.Bench.{Bench}
 use Rattle.bench.specs.Events.{Record, whole, short}
 use Rattle.bench.specs.Seats.{powerUp}
 use Rattle.bench.specs.Runs.{afterAll}
-use Rattle.bench.specs.Steps.{outcome}
-use Rattle.bench.specs.Wired.{Wired}
-use Rattle.bench.specs.WiredLaws.{wired-kept, wired-power-up}
-use Rattle.demands.specs.Demand3.{told, Kept, Demand3}
-use Rattle.demands.proofs.Demand3.{demand-3-bench}
+use Rattle.demands.specs.Demand3.{told, Kept}
+use Rattle.demands.proofs.Demand3.{demand-3-from-power-up}
 use Rattle.demands.proofs.Opened.{laid-open}
-
--- the levels stay the lines over a run
-wired-all : (b : Bench) (rs : List Record) → Wired b → Wired (afterAll b rs)
-wired-all b [] w = w
-wired-all b (r ∷ rs) w = wired-all (outcome b r .bench) rs (wired-kept b w r)
 
 -- seat n calls: MCR 08, IER 08, and CTS becomes active
 calls : ℕ → List Record
@@ -60,8 +52,7 @@ automatic-closed = (
 )
 
 automatic-in-turn : InTurn (afterAll powerUp set-automatic .controller) 7 (told (afterAll powerUp set-automatic) eight)
-unfolding Demand3
-automatic-in-turn = demand-3-bench _ 7 eight (wired-all powerUp set-automatic wired-power-up) (automatic-closed .0) (automatic-closed .1)
+automatic-in-turn = demand-3-from-power-up set-automatic 7 eight (automatic-closed .0) (automatic-closed .1)
 
 -- ---- edge mode, ends by command, all eight seats call: a seat that is named has its MSR read, so that its line falls, the grant is ended
 -- with rotation, and the seat calls again at once
@@ -84,8 +75,7 @@ manual-closed = (
 )
 
 manual-in-turn : InTurn (afterAll powerUp set-manual .controller) 7 (told (afterAll powerUp set-manual) served-each)
-unfolding Demand3
-manual-in-turn = demand-3-bench _ 7 served-each (wired-all powerUp set-manual wired-power-up) (manual-closed .0) (manual-closed .1)
+manual-in-turn = demand-3-from-power-up set-manual 7 served-each (manual-closed .0) (manual-closed .1)
 
 -- ---- from there, with masks that move, OCW2 010, which does nothing, reads of the controller and of seat 7 itself, a line of another seat
 -- that falls, and records that are refused: the third acknowledge names line 7

@@ -39,7 +39,7 @@ use Rattle.bench.specs.FrameLaws.{seat-acts, chair-small}
 use Rattle.bench.specs.RunLaws.{eight-kept}
 use Rattle.demands.specs.Demand2.{ends}
 use Rattle.demands.specs.SeatLedger.{befalling, befalls, arrivedAt, readAt, lostAt, droppedAt, queuedAt, SoundAt, SeatLedger, SeatLedgerFromPowerUp}
-use Rattle.demands.proofs.Demand2.{demand-2}
+use Rattle.demands.proofs.Demand2.{outcome-meets, demand-2}
 
 -- ---- counts over a run in two parts
 
@@ -203,7 +203,7 @@ sound-at n =
 
 -- the definition's run leaves the bench of its own run
 runs-out : (rs : List Record) → ends outcome powerUp rs ≡ afterAll powerUp rs
-runs-out rs = demand-2 outcome (λ b r. refl) powerUp rs .1
+runs-out rs = demand-2 outcome outcome-meets powerUp rs .1
 
 pub seat-ledger-from-power-up : SeatLedgerFromPowerUp
 seat-ledger-from-power-up n rs =

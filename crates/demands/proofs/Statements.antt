@@ -1,8 +1,8 @@
 -- Every statement of this room is proved.
 use Rattle.demands.specs.Statements.{Statements}
 use Rattle.demands.proofs.Demand1.{demand-1, only-fff}
-use Rattle.demands.proofs.Demand2.{demand-2, demand-2-listed}
-use Rattle.demands.proofs.Demand3.{demand-3-bench}
+use Rattle.demands.proofs.Demand2.{contract-says, demand-2, demand-2-listed}
+use Rattle.demands.proofs.Demand3.{demand-3-bench, demand-3-from-power-up}
 use Rattle.demands.proofs.SeatLedger.{seat-ledger, seat-ledger-from-power-up}
 use Rattle.demands.proofs.Starred.{tasted}
 use Rattle.demands.proofs.Worked.{worked}
@@ -13,9 +13,11 @@ statements =
     record {
       demand-1 = demand-1;
       only-fff = only-fff;
+      contract-says = contract-says;
       demand-2 = demand-2;
       demand-2-listed = demand-2-listed;
       demand-3 = demand-3-bench;
+      demand-3-from-power-up = demand-3-from-power-up;
       seat-ledger = seat-ledger;
       seat-ledger-from-power-up = seat-ledger-from-power-up;
       tasted = tasted;

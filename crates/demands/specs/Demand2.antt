@@ -4,9 +4,11 @@ use mathlib.Core.List.{List, [], _∷_, _++_}
 use mathlib.Core.Path.{_≡_}
 use Rattle.bench.specs.declared.Bench.{Bench}
 use Rattle.bench.specs.declared.Outcome.{Outcome}
-use Rattle.bench.specs.Events.{Record}
+use Rattle.bench.specs.Events.{Record, whole, short}
 use Rattle.bench.specs.Runs.{afterAll, outcomes}
 use Rattle.bench.specs.Steps.{outcome}
+use Rattle.bench.proofs.Bench.step.Reads as of-step
+use Rattle.bench.proofs.Bench.step_short.Reads as of-step-short
 use Rattle.listing.specs.Line.{line}
 use Rattle.listing.specs.Run.{listing}
 
@@ -14,9 +16,19 @@ use Rattle.listing.specs.Run.{listing}
 abbrev pub Step : Type 0
 Step = Bench → Record → Outcome
 
+-- what the toolchain reads from the contracts of `Bench::step` and `Bench::step_short` in the code: the result that they let through. What is
+-- passed by value is at the exit what it was
+abbrev pub Ensured : Bench → Record → Outcome → Type 0
+Ensured b (whole kind seat number value) o = of-step.Post tt (b, (kind, (seat, (number, (value, tt))))) o (b, (kind, (seat, (number, (value, tt)))))
+Ensured b short o = of-step-short.Post tt (b, tt) o (b, tt)
+
 -- it meets the contract of the step, for every bench and every record
 abbrev pub Meets : Step → Type 0
-Meets f = (b : Bench) (r : Record) → f b r ≡ outcome b r
+Meets f = (b : Bench) (r : Record) → Ensured b r (f b r)
+
+-- the contract lets the definition's outcome through, and no other
+abbrev pub ContractSays : Type 0
+ContractSays = (b : Bench) (r : Record) (o : Outcome) → (Ensured b r o → o ≡ outcome b r) × (o ≡ outcome b r → Ensured b r o)
 
 -- what it gives over a run, event by event, each on the bench that the one before left
 abbrev pub run : Step → Bench → List Record → List Outcome
@@ -28,10 +40,13 @@ abbrev pub ends : Step → Bench → List Record → Bench
 ends f b [] = b
 ends f b (r ∷ rs) = ends f (f b r .bench) rs
 
--- The tender: each event's answer, the bench after it and the interrupt output equal those that document 01 condenses. One that is right for
--- the first event and then pretends does not meet it
+-- a step of which no more is asked than this gives, over every run, what the definitions give
+abbrev pub Suffices : (Step → Type 0) → Type 0
+Suffices meets = (f : Step) → meets f → (b : Bench) (rs : List Record) → (run f b rs ≡ outcomes b rs) × (ends f b rs ≡ afterAll b rs)
+
+-- The tender: each event's answer, the bench after it and the interrupt output equal those that document 01 condenses
 abbrev pub Demand2 : Type 0
-Demand2 = (f : Step) → Meets f → (b : Bench) (rs : List Record) → (run f b rs ≡ outcomes b rs) × (ends f b rs ≡ afterAll b rs)
+Demand2 = Suffices Meets
 
 -- the lines that such a step gives, of which the first has number n
 abbrev pub lists : Step → Bench → ℕ → List Record → List ℕ
