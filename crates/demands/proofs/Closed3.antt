@@ -18,32 +18,32 @@ use Rattle.demands.proofs.Demand3.{demand-3-from-power-up}
 use Rattle.demands.proofs.Opened.{laid-open}
 
 -- seat n calls: MCR 08, IER 08, and CTS becomes active
-calls : ℕ → List Record
+unfoldable pub calls : ℕ → List Record
 calls n = whole 1 n 4 0x08 ∷ whole 1 n 1 0x08 ∷ whole 3 n 0 1 ∷ []
 
-all-call : List Record
+unfoldable pub all-call : List Record
 all-call = calls 0 ++ calls 1 ++ calls 2 ++ calls 3 ++ calls 4 ++ calls 5 ++ calls 6 ++ calls 7
 
 -- the acknowledge
-asks : Record
+unfoldable pub asks : Record
 asks = whole 8 0 0 0
 
-in-order : List Answer
+unfoldable pub in-order : List Answer
 in-order = Vector 0x40 ∷ Vector 0x41 ∷ Vector 0x42 ∷ Vector 0x43 ∷ Vector 0x44 ∷ Vector 0x45 ∷ Vector 0x46 ∷ Vector 0x47 ∷ []
 
 -- the premises hold, and these are the answers
-abbrev Closed : Bench → List Record → List Answer → Type 0
+abbrev pub Closed : Bench → List Record → List Answer → Type 0
 Closed b rs answers = Start (b .controller) 7 × Kept 7 false b rs × (told b rs ≡ answers)
 
 -- ---- level mode, automatic end with rotation, all eight seats call
 
-set-automatic : List Record
+unfoldable pub set-automatic : List Record
 set-automatic = whole 7 0 0 0x1B ∷ whole 7 0 1 0x40 ∷ whole 7 0 1 0x03 ∷ whole 7 0 0 0x80 ∷ all-call
 
-eight : List Record
+unfoldable pub eight : List Record
 eight = asks ∷ asks ∷ asks ∷ asks ∷ asks ∷ asks ∷ asks ∷ asks ∷ []
 
-automatic-closed : Closed (afterAll powerUp set-automatic) eight in-order
+pub automatic-closed : Closed (afterAll powerUp set-automatic) eight in-order
 unfolding laid-open in-order set-automatic all-call calls eight asks
 automatic-closed = (
   record { line = omega arith; up = refl; idle = refl; plain = refl; turns = inl (refl, refl); stands = refl; unmasked = refl },

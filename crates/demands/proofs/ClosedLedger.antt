@@ -1,9 +1,6 @@
 -- A closed run of the receive ledger from power-up, by computation: every count of it is above 0.
 use mathlib.Core.List.{List, [], _∷_}
 use mathlib.Core.Path.{_≡_, refl}
-use Rattle.receiver.specs.Ledger as receiver-ledger
-use Rattle.channel.specs.Moments as channel-moments
-use Rattle.bench.specs.Runs as bench-runs
 use Rattle.bench.specs.Runs.{afterAll}
 use Rattle.bench.specs.Events.{Record, whole}
 use Rattle.bench.specs.Seats.{powerUp}
@@ -13,16 +10,16 @@ use Rattle.demands.proofs.Opened.{laid-open}
 
 -- seat 3: divisor 12 and LCR 03, two arrivals in 16450 mode, of which the second replaces the first, and two reads, of which the second finds
 -- nothing; then FIFO mode, three arrivals among an arrival that seat 4 refuses, one read, the queue emptied, and one arrival more
-lesson : List Record
+unfoldable pub lesson : List Record
 lesson =
     whole 1 3 3 0x83 ∷ whole 1 3 0 12 ∷ whole 1 3 3 0x03 ∷ whole 2 3 0 0x41 ∷ whole 2 3 0 0x42 ∷ whole 0 3 0 0 ∷ whole 0 3 0 0
     ∷ whole 1 3 2 0x81 ∷ whole 2 3 0 1 ∷ whole 2 4 0 7 ∷ whole 2 3 0 2 ∷ whole 2 3 0 3 ∷ whole 0 3 0 0 ∷ whole 1 3 2 0x83 ∷ whole 2 3 0 9 ∷ []
 
 -- six arrived: two were read, one was lost, two were dropped, one waits
-counted : (arrivedAt outcome 3 powerUp lesson ≡ 0x41 ∷ 0x42 ∷ 1 ∷ 2 ∷ 3 ∷ 9 ∷ [])
+pub counted : (arrivedAt outcome 3 powerUp lesson ≡ 0x41 ∷ 0x42 ∷ 1 ∷ 2 ∷ 3 ∷ 9 ∷ [])
     × (readAt outcome 3 powerUp lesson ≡ 0x42 ∷ 1 ∷ [])
     × (lostAt outcome 3 powerUp lesson ≡ 1)
     × (droppedAt outcome 3 powerUp lesson ≡ 2)
     × (queuedAt 3 (afterAll powerUp lesson) ≡ 9 ∷ [])
-unfolding laid-open lesson bench-runs.own channel-moments.readMoments channel-moments.fcrMoments channel-moments.writeMoments channel-moments.acceptedMoments channel-moments.momentsOf channel-moments.telling channel-moments.toldIn receiver-ledger.after receiver-ledger.arrivedIn receiver-ledger.lostIn receiver-ledger.droppedIn
+unfolding laid-open lesson
 counted = (refl, refl, refl, refl, refl)

@@ -200,7 +200,7 @@ demand-3-bench b n rs w st k =
 
 -- ---- from power-up
 
-wired-all : (b : Bench) (rs : List Record) → Wired b → Wired (afterAll b rs)
+pub wired-all : (b : Bench) (rs : List Record) → Wired b → Wired (afterAll b rs)
 wired-all b [] w = w
 wired-all b (r ∷ rs) w = wired-all (outcome b r .bench) rs (wired-kept b w r)
 

@@ -9,4 +9,6 @@ pub mod Closed3
 pub mod SeatLedger
 pub mod Once
 pub mod ClosedLedger
+pub mod WrongPrograms
+pub mod Needed
 pub mod Statements

@@ -14,6 +14,9 @@ use Rattle.bench.specs.Events as events
 use Rattle.bench.specs.Seats as seats
 use Rattle.bench.specs.Refusals as refused
 use Rattle.bench.specs.Steps as bench
+use Rattle.bench.specs.Runs as runs
+use Rattle.channel.specs.Moments as moments
+use Rattle.receiver.specs.Ledger as ledger
 use Rattle.turn.proofs.Opened as turn
 
 unfoldable pub of-queue-1 : ℕ
@@ -68,6 +71,14 @@ unfoldable pub of-bench-2 : ℕ
 unfolding refused.refusal bench.after bench.answerTo bench.outcome bench.roomRefusal bench.met bench.touched bench.dealt
 of-bench-2 = 0
 
+unfoldable pub of-moments : ℕ
+unfolding runs.own moments.readMoments moments.fcrMoments moments.writeMoments moments.acceptedMoments moments.momentsOf moments.telling moments.toldIn
+of-moments = 0
+
+unfoldable pub of-ledger : ℕ
+unfolding ledger.after ledger.arrivedIn ledger.lostIn ledger.droppedIn
+of-ledger = 0
+
 unfoldable pub laid-open : ℕ
-unfolding of-queue-1 of-queue-2 of-receiver-1 of-receiver-2 of-transmitter of-registers of-status of-effects-1 of-effects-2 of-channel-1 of-channel-2 of-bench-1 of-bench-2 turn.laid-open
+unfolding of-moments of-ledger of-queue-1 of-queue-2 of-receiver-1 of-receiver-2 of-transmitter of-registers of-status of-effects-1 of-effects-2 of-channel-1 of-channel-2 of-bench-1 of-bench-2 turn.laid-open
 laid-open = 0

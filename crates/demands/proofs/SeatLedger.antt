@@ -197,7 +197,7 @@ seat-at-power-up n = ap (λ (s : Seat). s .channel) (getD-replicate 8 (chair n) 
 none-queued-at : (n : ℕ) → queuedAt n powerUp ≡ []
 none-queued-at n = ap (λ (c : Channel). queued (side c)) (seat-at-power-up n)
 
-sound-at : (n : ℕ) → SoundAt n powerUp
+pub sound-at : (n : ℕ) → SoundAt n powerUp
 sound-at n =
     subst (λ (c : Channel). soundReceiver (parts.fifo c) (c .receiver) ≡ true) (sym (seat-at-power-up n)) (power-up-sound (parts.fifo parts.powerUp))
 

@@ -4,6 +4,8 @@ use Rattle.demands.proofs.Demand1.{demand-1, only-fff}
 use Rattle.demands.proofs.Demand2.{contract-says, demand-2, demand-2-listed}
 use Rattle.demands.proofs.Demand3.{demand-3-bench, demand-3-from-power-up}
 use Rattle.demands.proofs.SeatLedger.{seat-ledger, seat-ledger-from-power-up}
+use Rattle.demands.proofs.WrongPrograms.{shut-out, let-in}
+use Rattle.demands.proofs.Needed.{needed}
 use Rattle.demands.proofs.Starred.{tasted}
 use Rattle.demands.proofs.Worked.{worked}
 use Rattle.demands.proofs.Edges.{at-the-edges}
@@ -20,6 +22,9 @@ statements =
       demand-3-from-power-up = demand-3-from-power-up;
       seat-ledger = seat-ledger;
       seat-ledger-from-power-up = seat-ledger-from-power-up;
+      shut-out = shut-out;
+      let-in = let-in;
+      needed = needed;
       tasted = tasted;
       worked = worked;
       at-the-edges = at-the-edges;

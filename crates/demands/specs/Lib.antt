@@ -6,4 +6,6 @@ pub mod Demand2
 pub mod Demand3
 pub mod SeatLedger
 pub mod Once
+pub mod WrongPrograms
+pub mod Needed
 pub mod Statements

@@ -86,7 +86,7 @@ waits-by more t owed c (m ∷ rest) e =
     let p = both (comes t owed m) _ e in
     (move-may more t owed m (p .0), inr (waits-by more t _ _ rest (p .1)))
 
-abbrev tells : ℕ → Answer → Bool
+abbrev pub tells : ℕ → Answer → Bool
 tells v (Byte b) = false
 tells v Done = false
 tells v (Sent b) = false
@@ -98,11 +98,11 @@ tells v (Place p) = false
 tells v (Divisor d) = false
 tells v (Refused n) = false
 
-abbrev none-tells : ℕ → List Answer → Bool
+abbrev pub none-tells : ℕ → List Answer → Bool
 none-tells v [] = true
 none-tells v (a ∷ rest) = not (tells v a) && none-tells v rest
 
-not-among : (v : ℕ) (l : List Answer) → none-tells v l ≡ true → Among (Vector v) l → ⊥
+pub not-among : (v : ℕ) (l : List Answer) → none-tells v l ≡ true → Among (Vector v) l → ⊥
 not-among v [] e a = a
 not-among v (b ∷ rest) e (inl p) =
     let own : tells v b ≡ true = subst (λ (x : Answer). tells v x ≡ true) p (eq-eqb v v refl) in
