@@ -79,6 +79,10 @@ unfoldable pub of-ledger : ℕ
 unfolding ledger.after ledger.arrivedIn ledger.lostIn ledger.droppedIn
 of-ledger = 0
 
+unfoldable pub of-seat : ℕ
+unfolding of-queue-1 of-queue-2 of-receiver-1 of-receiver-2 of-transmitter of-registers of-status of-effects-1 of-effects-2 of-channel-1 of-channel-2
+of-seat = 0
+
 unfoldable pub laid-open : ℕ
-unfolding of-moments of-ledger of-queue-1 of-queue-2 of-receiver-1 of-receiver-2 of-transmitter of-registers of-status of-effects-1 of-effects-2 of-channel-1 of-channel-2 of-bench-1 of-bench-2 turn.laid-open
+unfolding of-seat of-moments of-ledger of-bench-1 of-bench-2 turn.laid-open
 laid-open = 0

@@ -108,8 +108,7 @@ Counts p = (b : Bench) (n : ℕ) → n < 8 → valueOf (p b n) ≡ before (line 
 abbrev pub dreaming : (ℕ → Answer) → Placing
 dreaming says b n = says n
 
--- ---- "These must be shut out"
-
+-- "These must be shut out": by the contract; the pretender by demand 3 too, the inventors by the ledger and by what a place counts
 pub record ShutOut : Type 0 where
   pub refuses-everything : (number : Bench → Record → ℕ) → Meets (refusing number) → ⊥
   pub fixed-answer : (a : Answer) (f : Step) → Meets (fixed a f) → ⊥
@@ -121,8 +120,8 @@ pub record ShutOut : Type 0 where
   pub invents-a-place : (says : ℕ → Answer) → MeetsPlace (dreaming says) → ⊥
   pub breaks-the-count : (says : ℕ → Answer) → Counts (dreaming says) → ⊥
 
--- and a step that meets is none of these: played from power-up on it meets at every record, takes turns and keeps the ledger; and a place that
--- meets counts
+-- and these laws shut out nothing that meets: a step played from power-up on meets at every record, takes turns and keeps the ledger; and a
+-- place that meets counts
 pub record LetIn : Type 0 where
   pub meets-from : (f : Step) → Meets f → MeetsFrom (played f)
   pub takes-turns : (p : Program) → MeetsFrom p → TakesTurns p
