@@ -4,24 +4,21 @@ use mathlib.Core.List.{List, [], _∷_, _++_}
 use mathlib.Core.Path.{_≡_, refl, ap, _∙_}
 use Rattle.bench.specs.declared.Bench.{Bench}
 use Rattle.bench.specs.declared.Outcome.{Outcome}
-use Rattle.bench.specs.Events.{Record, whole, short}
+use Rattle.bench.specs.Events.{Record}
 use Rattle.bench.specs.Runs.{afterAll, outcomes}
 use Rattle.bench.specs.Steps.{outcome}
 use Rattle.listing.specs.Line.{line}
 use Rattle.listing.specs.Run.{listing}
-use Rattle.demands.specs.Demand2.{Step, Meets, ContractSays, run, ends, lists, Demand2, Demand2Listed}
-
-pub contract-says : ContractSays
-contract-says b (whole kind seat number value) o = (λ e. e, λ e. e)
-contract-says b short o = (λ e. e, λ e. e)
+use Rattle.demands.specs.Demand2.{Step, Meets, run, ends, lists, Demand2, Demand2Listed}
+use Rattle.demands.proofs.Contracts.{step-says}
 
 -- what meets is the definition's outcome
 pub met : (f : Step) → Meets f → (b : Bench) (r : Record) → f b r ≡ outcome b r
-met f meets b r = contract-says b r (f b r) .0 (meets b r)
+met f meets b r = step-says b r (f b r) .0 (meets b r)
 
 -- and the definition meets
 pub outcome-meets : Meets outcome
-outcome-meets b r = contract-says b r (outcome b r) .1 refl
+outcome-meets b r = step-says b r (outcome b r) .1 refl
 
 module _ (f : Step) (meets : Meets f) where
   runs : (b : Bench) (rs : List Record) → run f b rs ≡ outcomes b rs

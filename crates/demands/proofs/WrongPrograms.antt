@@ -26,7 +26,8 @@ use Rattle.demands.specs.Demand3.{heard, told, Kept}
 use Rattle.demands.specs.SeatLedger.{arrivedAt, readAt, goneAt, queuedAt, Keeps}
 use Rattle.demands.specs.WrongPrograms.{refusing, fixed, ignoring, inventing, Program, played, MeetsFrom, pretending, toldBy, TakesTurns, Placing, MeetsPlace, Counts, dreaming, ShutOut, LetIn}
 use Rattle.demands.proofs.Opened.{laid-open}
-use Rattle.demands.proofs.Demand2.{contract-says, met, demand-2}
+use Rattle.demands.proofs.Contracts.{step-says}
+use Rattle.demands.proofs.Demand2.{met, demand-2}
 use Rattle.demands.proofs.Demand3.{demand-3-from-power-up}
 use Rattle.demands.proofs.SeatLedger.{seat-ledger, sound-at}
 use Rattle.demands.proofs.Closed3.{calls, all-call, asks, set-automatic, eight, automatic-closed}
@@ -94,7 +95,7 @@ breaks-the-ledger n small k =
 pretends : (says : List Record → Record → Answer) → MeetsFrom (pretending says) → ⊥
 unfolding laid-open writes scratch
 pretends says m =
-    let e = contract-says (afterAll powerUp (writes 2 ∷ [])) (writes 1) (pretending says (writes 2 ∷ []) (writes 1)) .0 (m (writes 2 ∷ []) (writes 1)) in
+    let e = step-says (afterAll powerUp (writes 2 ∷ [])) (writes 1) (pretending says (writes 2 ∷ []) (writes 1)) .0 (m (writes 2 ∷ []) (writes 1)) in
     let f : _≡_ {A = ℕ} 2 1 = ap scratch e in
     omega arith
 
@@ -158,13 +159,13 @@ shut-out =
 
 meets-from : (f : Step) → Meets f → MeetsFrom (played f)
 meets-from f m before r =
-    contract-says (afterAll powerUp before) r (played f before r) .1
+    step-says (afterAll powerUp before) r (played f before r) .1
     (met f m (ends f powerUp before) r ∙ ap (λ (b : Bench). outcome b r) (demand-2 f m powerUp before .1))
 
 told-by : (p : Program) → MeetsFrom p → (before rs : List Record) → told (afterAll powerUp before) rs ≡ toldBy p before rs
 told-by p m before [] = refl
 told-by p m before (r ∷ rs) =
-    let e = contract-says (afterAll powerUp before) r (p before r) .0 (m before r) in
+    let e = step-says (afterAll powerUp before) r (p before r) .0 (m before r) in
     ap₂ (λ (o : Outcome) (l : List Answer). heard (decoded r) (o .answer) ++ l) (sym e)
     (ap (λ (b : Bench). told b rs) (sym (after-parts powerUp before (r ∷ []))) ∙ told-by p m (before ++ (r ∷ [])) rs)
 

@@ -4,31 +4,20 @@ use mathlib.Core.List.{List, [], _∷_, _++_}
 use mathlib.Core.Path.{_≡_}
 use Rattle.bench.specs.declared.Bench.{Bench}
 use Rattle.bench.specs.declared.Outcome.{Outcome}
-use Rattle.bench.specs.Events.{Record, whole, short}
+use Rattle.bench.specs.Events.{Record}
 use Rattle.bench.specs.Runs.{afterAll, outcomes}
 use Rattle.bench.specs.Steps.{outcome}
-use Rattle.bench.proofs.Bench.step.Reads as of-step
-use Rattle.bench.proofs.Bench.step_short.Reads as of-step-short
 use Rattle.listing.specs.Line.{line}
 use Rattle.listing.specs.Run.{listing}
+use Rattle.demands.specs.Contracts.{Ensured}
 
 -- a program's step: what it makes of a bench and a record
 abbrev pub Step : Type 0
 Step = Bench → Record → Outcome
 
--- what the toolchain reads from the contracts of `Bench::step` and `Bench::step_short` in the code: the result that they let through. What is
--- passed by value is at the exit what it was
-abbrev pub Ensured : Bench → Record → Outcome → Type 0
-Ensured b (whole kind seat number value) o = of-step.Post tt (b, (kind, (seat, (number, (value, tt))))) o (b, (kind, (seat, (number, (value, tt)))))
-Ensured b short o = of-step-short.Post tt (b, tt) o (b, tt)
-
 -- it meets the contract of the step, for every bench and every record
 abbrev pub Meets : Step → Type 0
 Meets f = (b : Bench) (r : Record) → Ensured b r (f b r)
-
--- the contract lets the definition's outcome through, and no other
-abbrev pub ContractSays : Type 0
-ContractSays = (b : Bench) (r : Record) (o : Outcome) → (Ensured b r o → o ≡ outcome b r) × (o ≡ outcome b r → Ensured b r o)
 
 -- what it gives over a run, event by event, each on the bench that the one before left
 abbrev pub run : Step → Bench → List Record → List Outcome

@@ -1,6 +1,7 @@
 -- The statements of this room. The proofs give the record whole.
+use Rattle.demands.specs.Contracts.{ContractsSay}
 use Rattle.demands.specs.Demand1.{Demand1, OnlyFFF}
-use Rattle.demands.specs.Demand2.{ContractSays, Demand2, Demand2Listed}
+use Rattle.demands.specs.Demand2.{Demand2, Demand2Listed}
 use Rattle.demands.specs.Demand3.{Demand3, Demand3FromPowerUp}
 use Rattle.demands.specs.SeatLedger.{SeatLedger, SeatLedgerFromPowerUp}
 use Rattle.demands.specs.WrongPrograms.{ShutOut, LetIn}
@@ -10,9 +11,9 @@ use Rattle.demands.specs.Worked.{Worked}
 use Rattle.demands.specs.Edges.{Edges}
 
 pub record Statements : Type 0 where
+  pub contracts-say : ContractsSay
   pub demand-1 : Demand1
   pub only-fff : OnlyFFF
-  pub contract-says : ContractSays
   pub demand-2 : Demand2
   pub demand-2-listed : Demand2Listed
   pub demand-3 : Demand3

@@ -17,8 +17,8 @@ use Rattle.bench.specs.Events.{Record, decoded}
 use Rattle.bench.specs.Seats.{powerUp, seat, withSeat}
 use Rattle.bench.specs.Steps.{shown, outcome}
 use Rattle.bench.specs.Runs.{afterAll}
-use Rattle.bench.proofs.Bench.place.Reads as of-place
-use Rattle.demands.specs.Demand2.{Step, Ensured, Meets, ends}
+use Rattle.demands.specs.Contracts.{Ensured, EnsuredPlace}
+use Rattle.demands.specs.Demand2.{Step, Meets, ends}
 use Rattle.demands.specs.Demand3.{heard, Kept}
 use Rattle.demands.specs.SeatLedger.{Keeps}
 
@@ -98,7 +98,7 @@ Placing = Bench → ℕ → Answer
 
 -- it meets the contract of `Bench::place`
 abbrev pub MeetsPlace : Placing → Type 0
-MeetsPlace p = (b : Bench) (n : ℕ) → of-place.Post tt (b, (n, tt)) (p b n) (b, (n, tt))
+MeetsPlace p = (b : Bench) (n : ℕ) → EnsuredPlace b n (p b n)
 
 -- "a line's place in turn (the number of lines ranked above it"
 abbrev pub Counts : Placing → Type 0
