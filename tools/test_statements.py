@@ -13,6 +13,9 @@ LOADER.exec_module(check)
 check.RECORDS = (("cups", "Statements"),)
 check.NO_STATEMENTS = {("cups", "Sip"): "a type"}
 
+SPECS = "crates/cups/specs/"
+PROOFS = "crates/cups/proofs/"
+
 CUPS = """-- Cups.
 abbrev pub Sip : Type 0
 Sip = Cup → Cup
@@ -45,11 +48,11 @@ PROMISES = """| Call | Shut out by |
 class Statements(Room):
     def setUp(self):
         super().setUp()
-        self.write("crates/cups/specs/Lib.antt", "pub mod Cups\npub mod Statements\n")
-        self.write("crates/cups/specs/Cups.antt", CUPS)
-        self.write("crates/cups/specs/Statements.antt", STATEMENTS)
-        self.write("crates/cups/proofs/Lib.antt", "pub mod Statements\n")
-        self.write("crates/cups/proofs/Statements.antt", GIVEN)
+        self.write(SPECS + "Lib.antt", "pub mod Cups\npub mod Statements\n")
+        self.write(SPECS + "Cups.antt", CUPS)
+        self.write(SPECS + "Statements.antt", STATEMENTS)
+        self.write(PROOFS + "Lib.antt", "pub mod Statements\n")
+        self.write(PROOFS + "Statements.antt", GIVEN)
         self.write("crates/cups/must-fail/half_full_twin.edit", "file: src/lib.rt\n")
         self.write("second/second.c", "")
         self.write("docs/PROMISES.md", PROMISES)
@@ -68,40 +71,53 @@ class Statements(Room):
         self.assertEqual(self.unproved() + self.missing(), [])
 
     def test_a_statement_without_a_field(self):
-        self.fails("Empty of crates/cups/specs is in no record", "crates/cups/specs/Cups.antt", CUPS + "\nabbrev pub Empty : Type 0\nEmpty = ⊥\n")
+        more = "\nabbrev pub Empty : Type 0\nEmpty = ⊥\n"
+        self.fails("Empty of crates/cups/specs is in no record", SPECS + "Cups.antt", CUPS + more)
 
     def test_a_record_is_a_statement(self):
-        self.fails("Dry of crates/cups/specs is in no record", "crates/cups/specs/Cups.antt", CUPS + "\npub record Dry : Type 0 where\n  pub dry : ⊥\n")
+        more = "\npub record Dry : Type 0 where\n  pub dry : ⊥\n"
+        self.fails("Dry of crates/cups/specs is in no record", SPECS + "Cups.antt", CUPS + more)
 
     def test_a_field_in_a_comment(self):
-        self.fails("Full of crates/cups/specs is in no record", "crates/cups/specs/Statements.antt", STATEMENTS.replace("  pub full", "  -- pub full"))
+        less = STATEMENTS.replace("  pub full", "  -- pub full")
+        self.fails("Full of crates/cups/specs is in no record", SPECS + "Statements.antt", less)
 
     def test_no_declaration(self):
-        self.fails("0 declarations", "crates/cups/proofs/Statements.antt", "-- none\n")
+        self.fails("0 declarations", PROOFS + "Statements.antt", "-- none\n")
 
     def test_a_declaration_in_a_comment(self):
-        self.fails("0 declarations", "crates/cups/proofs/Statements.antt", GIVEN.replace("pub statements", "{- pub statements") + "-}\n")
+        shut = GIVEN.replace("pub statements", "{- pub statements") + "-}\n"
+        self.fails("0 declarations", PROOFS + "Statements.antt", shut)
 
     def test_a_declaration_of_another_type(self):
-        self.fails("0 declarations", "crates/cups/proofs/Statements.antt", GIVEN.replace(": Statements", ": Statements → Statements"))
+        other = GIVEN.replace(": Statements", ": Statements → Statements")
+        self.fails("0 declarations", PROOFS + "Statements.antt", other)
 
     def test_a_record_of_its_own(self):
-        self.fails("0 declarations", "crates/cups/proofs/Statements.antt", "record Statements : Type 0 where\n\n" + GIVEN)
+        self.fails("0 declarations", PROOFS + "Statements.antt", "record Statements : Type 0 where\n\n" + GIVEN)
 
     def test_an_axiom(self):
-        self.fails("0 declarations", "crates/cups/proofs/Statements.antt", GIVEN.replace("statements = record { full = full }\n", ""))
+        bare = GIVEN.replace("statements = record { full = full }\n", "")
+        self.fails("0 declarations", PROOFS + "Statements.antt", bare)
 
     def test_a_file_that_is_not_declared(self):
-        self.fails("0 declarations", "crates/cups/proofs/Lib.antt", "-- pub mod Statements\n")
-        self.fails("has no record Statements", "crates/cups/specs/Lib.antt", "pub mod Cups\n")
+        self.fails("0 declarations", PROOFS + "Lib.antt", "-- pub mod Statements\n")
+        self.fails("has no record Statements", SPECS + "Lib.antt", "pub mod Cups\n")
 
     def test_a_law_an_edit_and_a_path_that_are_gone(self):
         for gone in ("full`", "half_full_twin*", "second/`"):
             self.write("docs/PROMISES.md", PROMISES.replace(gone, "x" + gone))
             self.assertEqual(len(self.missing()), 1)
 
+    def test_a_function_is_no_law(self):
+        self.write("crates/cups/src/lib.rt", "pub fn sip() {\n}\n")
+        self.write("docs/PROMISES.md", PROMISES.replace("law `full`", "contract of `sip`, laws of `cups`"))
+        self.assertEqual(self.missing(), [])
+        self.write("docs/PROMISES.md", PROMISES.replace("law `full`", "law `sip`, law `cups`"))
+        self.assertEqual(len(self.missing()), 2)
+
     def test_a_law_of_a_file_that_is_not_declared(self):
-        self.write("crates/cups/specs/Lib.antt", "pub mod Cups\n")
+        self.write(SPECS + "Lib.antt", "pub mod Cups\n")
         self.assertEqual(self.missing(), ["docs/PROMISES.md:3: there is no full"])
 
 
