@@ -66,14 +66,16 @@ Events value = (b : Bench) (rs : List Record) → AllAnswered value b rs
 abbrev pub Places : ℕ → Type 0
 Places value = (b : Bench) (n : ℕ) → Answered value (record { number = 1; holds = lineAbove n } ∷ []) (placed (b .controller) n)
 
--- "rate or clock not in the divisor list"
+-- a number is in a list
 abbrev pub among : ℕ → List ℕ → Bool
 among n [] = false
 among n (m ∷ ms) = eqb m n || among n ms
 
+-- "rate or clock not in the divisor list"; "Clocks are numbered 0 to 2"
 abbrev pub unlisted : ℕ → ℕ → Bool
 unlisted rate clock = not (ltb clock 3 && among rate (ratesOf clock))
 
+-- and so has this call no bench at all
 abbrev pub Divisors : ℕ → Type 0
 Divisors value = (rate clock : ℕ) → Answered value (record { number = 10; holds = unlisted rate clock } ∷ []) (divisorOf rate clock)
 
