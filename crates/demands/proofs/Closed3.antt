@@ -5,77 +5,46 @@ use mathlib.Core.List.{List, [], _∷_, _++_}
 use mathlib.Core.Path.{_≡_, refl}
 use mathlib.Core.Logic.{inl, inr}
 use native.Mathlib.Omega.{arith}
-use Rattle.base.specs.Pick as base-pick
-use Rattle.base.specs.Bits as base-bits
-use Rattle.base.specs.Answers as base-answers
-use Rattle.base.specs.Refusals as base-refusals
-use Rattle.queue.specs.Queue as queue-queue
-use Rattle.receiver.specs.Receiver as receiver-receiver
-use Rattle.transmitter.specs.Transmitter as transmitter-transmitter
-use Rattle.channel.specs.Parts as channel-parts
-use Rattle.registers.specs.Registers as registers-registers
-use Rattle.registers.specs.Words as registers-words
-use Rattle.channel.specs.Status as channel-status
-use Rattle.registers.specs.Modem as registers-modem
-use Rattle.channel.specs.Effects as channel-effects
-use Rattle.channel.specs.Steps as channel-steps
-use Rattle.rank.specs.Rank as rank-rank
-use Rattle.controller.specs.Turns as controller-turns
-use Rattle.controller.specs.Words as controller-words
-use Rattle.controller.specs.Refusals as controller-refusals
-use Rattle.controller.specs.Steps as controller-steps
-use Rattle.bench.specs.Events as bench-events
-use Rattle.bench.specs.Seats as bench-seats
-use Rattle.bench.specs.Refusals as bench-refusals
-use Rattle.bench.specs.Steps as bench-steps
 use Rattle.base.specs.declared.Answer.{Answer}
 use Rattle.base.specs.declared.Answer.the-variants.{Vector}
 use Rattle.turn.specs.Waiting.{Start}
-use Rattle.turn.specs.Waiting as turn-waiting
 use Rattle.turn.specs.Demand3.{InTurn}
 use Rattle.bench.specs.declared.Bench.{Bench}
 use Rattle.bench.specs.Events.{Record, whole, short}
 use Rattle.bench.specs.Seats.{powerUp}
 use Rattle.bench.specs.Runs.{afterAll}
-use Rattle.bench.specs.Steps.{outcome}
-use Rattle.bench.specs.Wired.{Wired}
-use Rattle.bench.specs.WiredLaws.{wired-kept, wired-power-up}
-use Rattle.demands.specs.Demand3.{told, Kept, Demand3}
-use Rattle.demands.proofs.Demand3.{demand-3-bench}
-
--- the levels stay the lines over a run
-wired-all : (b : Bench) (rs : List Record) → Wired b → Wired (afterAll b rs)
-wired-all b [] w = w
-wired-all b (r ∷ rs) w = wired-all (outcome b r .bench) rs (wired-kept b w r)
+use Rattle.demands.specs.Demand3.{told, Kept}
+use Rattle.demands.proofs.Demand3.{demand-3-from-power-up}
+use Rattle.demands.proofs.Opened.{laid-open}
 
 -- seat n calls: MCR 08, IER 08, and CTS becomes active
-calls : ℕ → List Record
+unfoldable pub calls : ℕ → List Record
 calls n = whole 1 n 4 0x08 ∷ whole 1 n 1 0x08 ∷ whole 3 n 0 1 ∷ []
 
-all-call : List Record
+unfoldable pub all-call : List Record
 all-call = calls 0 ++ calls 1 ++ calls 2 ++ calls 3 ++ calls 4 ++ calls 5 ++ calls 6 ++ calls 7
 
 -- the acknowledge
-asks : Record
+unfoldable pub asks : Record
 asks = whole 8 0 0 0
 
-in-order : List Answer
+unfoldable pub in-order : List Answer
 in-order = Vector 0x40 ∷ Vector 0x41 ∷ Vector 0x42 ∷ Vector 0x43 ∷ Vector 0x44 ∷ Vector 0x45 ∷ Vector 0x46 ∷ Vector 0x47 ∷ []
 
 -- the premises hold, and these are the answers
-abbrev Closed : Bench → List Record → List Answer → Type 0
+abbrev pub Closed : Bench → List Record → List Answer → Type 0
 Closed b rs answers = Start (b .controller) 7 × Kept 7 false b rs × (told b rs ≡ answers)
 
 -- ---- level mode, automatic end with rotation, all eight seats call
 
-set-automatic : List Record
+unfoldable pub set-automatic : List Record
 set-automatic = whole 7 0 0 0x1B ∷ whole 7 0 1 0x40 ∷ whole 7 0 1 0x03 ∷ whole 7 0 0 0x80 ∷ all-call
 
-eight : List Record
+unfoldable pub eight : List Record
 eight = asks ∷ asks ∷ asks ∷ asks ∷ asks ∷ asks ∷ asks ∷ asks ∷ []
 
-automatic-closed : Closed (afterAll powerUp set-automatic) eight in-order
-unfolding in-order set-automatic all-call calls eight asks base-pick.pick base-bits.bit base-bits.digit base-bits.bits base-answers.refusalOf base-answers.valueOf base-refusals.firstHeld queue-queue.room queue-queue.entered queue-queue.replaced queue-queue.capacity queue-queue.accepted queue-queue.movedDown queue-queue.taken queue-queue.oldest queue-queue.unmarked queue-queue.anyMarked queue-queue.marked queue-queue.clear queue-queue.canonical receiver-receiver.noneQueued receiver-receiver.received receiver-receiver.got receiver-receiver.shownMarks receiver-receiver.someMarked receiver-receiver.looked receiver-receiver.waited receiver-receiver.cleared receiver-receiver.turned receiver-receiver.restarted receiver-receiver.dataStands receiver-receiver.timeoutStands transmitter-transmitter.noneWaiting transmitter-transmitter.allSent transmitter-transmitter.flagSetIf transmitter-transmitter.written transmitter-transmitter.emptied transmitter-transmitter.next transmitter-transmitter.shifted transmitter-transmitter.enabled channel-parts.masterReset registers-words.trigger registers-words.cut registers-registers.plainRegister registers-registers.registerAt registers-registers.fcrKept channel-status.lsr channel-status.msr channel-status.lineTrouble channel-status.modemChanged channel-status.causes channel-status.firstCause channel-status.cause channel-status.iir channel-status.line channel-effects.iirRead channel-effects.lsrRead channel-effects.msrRead channel-effects.byteAt channel-effects.afterRead channel-effects.ierWritten channel-effects.modeChanged channel-effects.fcrReceiver channel-effects.fcrTransmitter channel-effects.fcrWritten channel-effects.afterWrite channel-effects.afterArrival registers-modem.changesAfter registers-modem.msrOf channel-effects.afterLevels channel-effects.afterTime channel-effects.timeAnswer channel-steps.registerAbove channel-steps.noDivisor registers-words.badArrival channel-steps.arrivalWrong channel-steps.levelsAbove channel-steps.loopAsked channel-steps.grounds channel-steps.refusal channel-steps.effect channel-steps.stepped rank-rank.before rank-rank.aboveEvery rank-rank.find rank-rank.firstPlace controller-turns.settled controller-turns.requests controller-turns.asks controller-turns.hinders controller-turns.grantable controller-turns.outputOf controller-turns.found controller-turns.granted controller-turns.taken controller-turns.grant controller-turns.acknowledged controller-turns.asking controller-turns.hindering controller-words.icw1 controller-words.icw2 controller-words.icw4 controller-words.ended controller-words.madeLast controller-words.served controller-words.plainEnd controller-words.rotatingEnd controller-words.command controller-words.ocw2 controller-words.ocw3 controller-words.written0 controller-words.written1 controller-words.written controller-words.shown controller-refusals.refusal controller-refusals.placeRefusal controller-steps.step controller-steps.placed bench-events.early bench-events.eventOf bench-events.decoded bench-events.refusedNumber bench-seats.seat bench-seats.withSeat bench-seats.lines bench-seats.withLine bench-refusals.grounds bench-refusals.refusal bench-steps.after bench-steps.answerTo bench-steps.outcome bench-steps.roomRefusal bench-steps.met bench-steps.touched bench-steps.dealt
+pub automatic-closed : Closed (afterAll powerUp set-automatic) eight in-order
+unfolding laid-open in-order set-automatic all-call calls eight asks
 automatic-closed = (
   record { line = omega arith; up = refl; idle = refl; plain = refl; turns = inl (refl, refl); stands = refl; unmasked = refl },
   (refl, inr (refl, (refl, inr (refl, (refl, inr (refl, (refl, inr (refl, (refl, inr (refl, (refl, inr (refl, (refl, inr (refl, (refl, inl refl))))))))))))))),
@@ -83,8 +52,7 @@ automatic-closed = (
 )
 
 automatic-in-turn : InTurn (afterAll powerUp set-automatic .controller) 7 (told (afterAll powerUp set-automatic) eight)
-unfolding Demand3
-automatic-in-turn = demand-3-bench _ 7 eight (wired-all powerUp set-automatic wired-power-up) (automatic-closed .0) (automatic-closed .1)
+automatic-in-turn = demand-3-from-power-up set-automatic 7 eight (automatic-closed .0) (automatic-closed .1)
 
 -- ---- edge mode, ends by command, all eight seats call: a seat that is named has its MSR read, so that its line falls, the grant is ended
 -- with rotation, and the seat calls again at once
@@ -99,7 +67,7 @@ served-each : List Record
 served-each = serves 0 ++ serves 1 ++ serves 2 ++ serves 3 ++ serves 4 ++ serves 5 ++ serves 6 ++ (asks ∷ [])
 
 manual-closed : Closed (afterAll powerUp set-manual) served-each in-order
-unfolding in-order set-manual all-call calls served-each serves asks turn-waiting.word turn-waiting.word0 base-pick.pick base-bits.bit base-bits.digit base-bits.bits base-answers.refusalOf base-answers.valueOf base-refusals.firstHeld queue-queue.room queue-queue.entered queue-queue.replaced queue-queue.capacity queue-queue.accepted queue-queue.movedDown queue-queue.taken queue-queue.oldest queue-queue.unmarked queue-queue.anyMarked queue-queue.marked queue-queue.clear queue-queue.canonical receiver-receiver.noneQueued receiver-receiver.received receiver-receiver.got receiver-receiver.shownMarks receiver-receiver.someMarked receiver-receiver.looked receiver-receiver.waited receiver-receiver.cleared receiver-receiver.turned receiver-receiver.restarted receiver-receiver.dataStands receiver-receiver.timeoutStands transmitter-transmitter.noneWaiting transmitter-transmitter.allSent transmitter-transmitter.flagSetIf transmitter-transmitter.written transmitter-transmitter.emptied transmitter-transmitter.next transmitter-transmitter.shifted transmitter-transmitter.enabled channel-parts.masterReset registers-words.trigger registers-words.cut registers-registers.plainRegister registers-registers.registerAt registers-registers.fcrKept channel-status.lsr channel-status.msr channel-status.lineTrouble channel-status.modemChanged channel-status.causes channel-status.firstCause channel-status.cause channel-status.iir channel-status.line channel-effects.iirRead channel-effects.lsrRead channel-effects.msrRead channel-effects.byteAt channel-effects.afterRead channel-effects.ierWritten channel-effects.modeChanged channel-effects.fcrReceiver channel-effects.fcrTransmitter channel-effects.fcrWritten channel-effects.afterWrite channel-effects.afterArrival registers-modem.changesAfter registers-modem.msrOf channel-effects.afterLevels channel-effects.afterTime channel-effects.timeAnswer channel-steps.registerAbove channel-steps.noDivisor registers-words.badArrival channel-steps.arrivalWrong channel-steps.levelsAbove channel-steps.loopAsked channel-steps.grounds channel-steps.refusal channel-steps.effect channel-steps.stepped rank-rank.before rank-rank.aboveEvery rank-rank.find rank-rank.firstPlace controller-turns.settled controller-turns.requests controller-turns.asks controller-turns.hinders controller-turns.grantable controller-turns.outputOf controller-turns.found controller-turns.granted controller-turns.taken controller-turns.grant controller-turns.acknowledged controller-turns.asking controller-turns.hindering controller-words.icw1 controller-words.icw2 controller-words.icw4 controller-words.ended controller-words.madeLast controller-words.served controller-words.plainEnd controller-words.rotatingEnd controller-words.command controller-words.ocw2 controller-words.ocw3 controller-words.written0 controller-words.written1 controller-words.written controller-words.shown controller-refusals.refusal controller-refusals.placeRefusal controller-steps.step controller-steps.placed bench-events.early bench-events.eventOf bench-events.decoded bench-events.refusedNumber bench-seats.seat bench-seats.withSeat bench-seats.lines bench-seats.withLine bench-refusals.grounds bench-refusals.refusal bench-steps.after bench-steps.answerTo bench-steps.outcome bench-steps.roomRefusal bench-steps.met bench-steps.touched bench-steps.dealt
+unfolding laid-open in-order set-manual all-call calls served-each serves asks
 manual-closed = (
   record { line = omega arith; up = refl; idle = refl; plain = refl; turns = inr refl; stands = refl; unmasked = refl },
   (refl, inr (refl, (tt, inr (refl, (tt, inr (refl, (tt, inr (refl, (refl, inr (refl, (tt, inr (refl, (tt, inr (refl, (tt, inr (refl, (refl, inr (refl, (tt, inr (refl, (tt, inr (refl, (tt, inr (refl, (refl, inr (refl, (tt, inr (refl, (tt, inr (refl, (tt, inr (refl, (refl, inr (refl, (tt, inr (refl, (tt, inr (refl, (tt, inr (refl, (refl, inr (refl, (tt, inr (refl, (tt, inr (refl, (tt, inr (refl, (refl, inr (refl, (tt, inr (refl, (tt, inr (refl, (tt, inr (refl, (refl, inl refl))))))))))))))))))))))))))))))))))))))))))))))))))))))))),
@@ -107,8 +75,7 @@ manual-closed = (
 )
 
 manual-in-turn : InTurn (afterAll powerUp set-manual .controller) 7 (told (afterAll powerUp set-manual) served-each)
-unfolding Demand3
-manual-in-turn = demand-3-bench _ 7 served-each (wired-all powerUp set-manual wired-power-up) (manual-closed .0) (manual-closed .1)
+manual-in-turn = demand-3-from-power-up set-manual 7 served-each (manual-closed .0) (manual-closed .1)
 
 -- ---- from there, with masks that move, OCW2 010, which does nothing, reads of the controller and of seat 7 itself, a line of another seat
 -- that falls, and records that are refused: the third acknowledge names line 7
@@ -120,7 +87,7 @@ restless =
     ∷ whole 7 2 2 0xC7 ∷ whole 7 0 1 0x00 ∷ whole 7 0 1 0x7F ∷ asks ∷ []
 
 restless-closed : Closed (afterAll powerUp set-manual) restless (Vector 0x40 ∷ Vector 0x44 ∷ Vector 0x47 ∷ [])
-unfolding set-manual all-call calls restless asks turn-waiting.word turn-waiting.word0 base-pick.pick base-bits.bit base-bits.digit base-bits.bits base-answers.refusalOf base-answers.valueOf base-refusals.firstHeld queue-queue.room queue-queue.entered queue-queue.replaced queue-queue.capacity queue-queue.accepted queue-queue.movedDown queue-queue.taken queue-queue.oldest queue-queue.unmarked queue-queue.anyMarked queue-queue.marked queue-queue.clear queue-queue.canonical receiver-receiver.noneQueued receiver-receiver.received receiver-receiver.got receiver-receiver.shownMarks receiver-receiver.someMarked receiver-receiver.looked receiver-receiver.waited receiver-receiver.cleared receiver-receiver.turned receiver-receiver.restarted receiver-receiver.dataStands receiver-receiver.timeoutStands transmitter-transmitter.noneWaiting transmitter-transmitter.allSent transmitter-transmitter.flagSetIf transmitter-transmitter.written transmitter-transmitter.emptied transmitter-transmitter.next transmitter-transmitter.shifted transmitter-transmitter.enabled channel-parts.masterReset registers-words.trigger registers-words.cut registers-registers.plainRegister registers-registers.registerAt registers-registers.fcrKept channel-status.lsr channel-status.msr channel-status.lineTrouble channel-status.modemChanged channel-status.causes channel-status.firstCause channel-status.cause channel-status.iir channel-status.line channel-effects.iirRead channel-effects.lsrRead channel-effects.msrRead channel-effects.byteAt channel-effects.afterRead channel-effects.ierWritten channel-effects.modeChanged channel-effects.fcrReceiver channel-effects.fcrTransmitter channel-effects.fcrWritten channel-effects.afterWrite channel-effects.afterArrival registers-modem.changesAfter registers-modem.msrOf channel-effects.afterLevels channel-effects.afterTime channel-effects.timeAnswer channel-steps.registerAbove channel-steps.noDivisor registers-words.badArrival channel-steps.arrivalWrong channel-steps.levelsAbove channel-steps.loopAsked channel-steps.grounds channel-steps.refusal channel-steps.effect channel-steps.stepped rank-rank.before rank-rank.aboveEvery rank-rank.find rank-rank.firstPlace controller-turns.settled controller-turns.requests controller-turns.asks controller-turns.hinders controller-turns.grantable controller-turns.outputOf controller-turns.found controller-turns.granted controller-turns.taken controller-turns.grant controller-turns.acknowledged controller-turns.asking controller-turns.hindering controller-words.icw1 controller-words.icw2 controller-words.icw4 controller-words.ended controller-words.madeLast controller-words.served controller-words.plainEnd controller-words.rotatingEnd controller-words.command controller-words.ocw2 controller-words.ocw3 controller-words.written0 controller-words.written1 controller-words.written controller-words.shown controller-refusals.refusal controller-refusals.placeRefusal controller-steps.step controller-steps.placed bench-events.early bench-events.eventOf bench-events.decoded bench-events.refusedNumber bench-seats.seat bench-seats.withSeat bench-seats.lines bench-seats.withLine bench-refusals.grounds bench-refusals.refusal bench-steps.after bench-steps.answerTo bench-steps.outcome bench-steps.roomRefusal bench-steps.met bench-steps.touched bench-steps.dealt
+unfolding laid-open set-manual all-call calls restless asks
 restless-closed = (
   record { line = omega arith; up = refl; idle = refl; plain = refl; turns = inr refl; stands = refl; unmasked = refl },
   (refl, inr (refl, (refl, inr (refl, (tt, inr (refl, (tt, inr (refl, (tt, inr (refl, (tt, inr (refl, (tt, inr (refl, (tt, inr (refl, (tt, inr (refl, (tt, inr (refl, (tt, inr (refl, (refl, inr (refl, (tt, inr (refl, (refl, inr (refl, (tt, inr (refl, (tt, inr (refl, (tt, inr (refl, (refl, inr (refl, (refl, inr (refl, (refl, inl refl))))))))))))))))))))))))))))))))))))))),

@@ -1,23 +1,31 @@
--- Demand 1 holds.
-use Prim.Native.Nat.{ℕ}
-use mathlib.Core.Bool.{true, false}
-use mathlib.Core.List.{List, [], _∷_}
-use mathlib.Core.Path.{_≡_, refl, ap, sym, subst, _∙_}
+-- Demand 1 holds, and with no other value than FFF.
+use Prim.Native.Nat.{ℕ, suc, _<_, _≤_}
+use mathlib.Core.Bool.{Bool, true, false, not, _&&_, _||_}
+use mathlib.Core.List.{List, [], _∷_, List·Memᴰ, List·Memᴰ·head, List·Memᴰ·tail, List·Memᴰ·cases-cons, List·Memᴰ·not-nil}
+use mathlib.Core.Path.{_≡_, refl, ap, ap₂, sym, subst, _∙_}
 use mathlib.Core.Logic.{inl, inr, ⊎-elim}
 use native.Mathlib.Omega.{arith}
-use lib.Dec.{eqb}
-use borrow.Author.Tests.{eqb-true, eqb-false}
-use Rattle.base.specs.PickLaws.{pick-true, pick-false, either-way}
-use Rattle.base.specs.Answers.{valueOf}
+use lib.Dec.{eqb, ltb}
+use borrow.Author.Tests.{eqb-true, eqb-false, eq-eqb, ltb-true, ltb-false, lt-ltb}
+use Rattle.base.specs.PickLaws.{pick-true, pick-false, either-way, not-both}
+use Rattle.base.specs.declared.Answer.{Answer}
+use Rattle.base.specs.declared.Answer.the-variants as answer
+use Rattle.base.specs.Answers.{refusalOf, valueOf}
 use Rattle.base.specs.Refusals.{Ground, firstHeld}
+use Rattle.rates.specs.Rates as list
+use Rattle.rates.specs.Rates.{ratesOf}
+use Rattle.rates.specs.RatesLaws as rates
+use Rattle.controller.specs.Refusals.{lineAbove}
+use Rattle.controller.specs.LineLaws.{place-told, place-refused}
 use Rattle.bench.specs.declared.Bench.{Bench}
 use Rattle.bench.specs.declared.Outcome.{Outcome}
-use Rattle.bench.specs.Events.{Record}
+use Rattle.bench.specs.Events.{Record, whole}
 use Rattle.bench.specs.Refusals.{grounds, refusal}
-use Rattle.bench.specs.Seats.{seat}
+use Rattle.bench.specs.Seats.{seat, powerUp}
 use Rattle.bench.specs.Steps.{outcome}
 use Rattle.bench.specs.OutcomeLaws.{outcome-refused, outcome-number}
-use Rattle.demands.specs.Demand1.{NoneHolds, Listed, Refused, Accepted, Answered, Demand1}
+use Rattle.demands.specs.Demand1.{NoneHolds, Listed, Refused, Accepted, Answered, Unchanged, Events, Places, among, Divisors, Demand1, OnlyFFF}
+use Rattle.demands.proofs.Opened.{laid-open}
 
 -- every number of the list is above 0
 abbrev Numbered : List Ground → Type 0
@@ -47,30 +55,115 @@ numbered : (b : Bench) (r : Record) → Numbered (grounds b r)
 unfolding grounds
 numbered b r = (λ z. omega arith, (λ z. omega arith, (λ z. omega arith, (λ z. omega arith, (λ z. omega arith, (λ z. omega arith, (λ z. omega arith, (λ z. omega arith, (λ z. omega arith, tt)))))))))
 
+-- ---- events
+
 module _ (b : Bench) (r : Record) where
-  refused : (refusal b r ≡ 0 → ⊥) → Refused b r (outcome b r)
+  refused : (refusal b r ≡ 0 → ⊥) → Refused 0xFFF (grounds b r) (outcome b r .answer)
   unfolding refusal valueOf
   refused some =
-      let e = outcome-refused b r some in
       record {
         listed = subst (λ (n : ℕ). Listed n (grounds b r)) (sym (outcome-number b r)) (first-listed (grounds b r) some);
-        value = ap (λ (o : Outcome). valueOf (o .answer)) e;
+        told = ap (λ (o : Outcome). valueOf (o .answer)) (outcome-refused b r some);
+      }
+
+  unchanged : (refusal b r ≡ 0 → ⊥) → Unchanged b (outcome b r)
+  unchanged some =
+      let e = outcome-refused b r some in
+      record {
         seats = λ n. ap (λ (o : Outcome). seat (o .bench) n) e;
         controller = ap (λ (o : Outcome). o .bench .controller) e;
         whole = ap (λ (o : Outcome). o .bench) e;
         output = ap (λ (o : Outcome). o .output) e;
       }
 
-  accepted : refusal b r ≡ 0 → Accepted b r (outcome b r)
+  accepted : refusal b r ≡ 0 → Accepted (grounds b r) (outcome b r .answer)
   unfolding refusal
   accepted none = record { number = outcome-number b r ∙ none; none = none-holds (grounds b r) (numbered b r) none }
 
-  answered : Answered b r (outcome b r)
-  answered =
-      ⊎-elim (λ (none : eqb (refusal b r) 0 ≡ true). inl (accepted (eqb-true _ _ none)))
-      (λ (some : eqb (refusal b r) 0 ≡ false). inr (refused (eqb-false _ _ some)))
-      (either-way (eqb (refusal b r) 0))
+events : Events 0xFFF
+events b [] = tt
+events b (r ∷ rs) = (
+  ⊎-elim (λ (none : eqb (refusal b r) 0 ≡ true). inl (accepted b r (eqb-true _ _ none)))
+      (λ (some : eqb (refusal b r) 0 ≡ false). let no = eqb-false _ _ some in inr (refused b r no, unchanged b r no))
+      (either-way (eqb (refusal b r) 0)),
+  events (outcome b r .bench) rs,
+)
+
+-- ---- the place in turn and the divisor list, each of one ground
+
+-- an answer with no number where the ground does not hold
+free : (k : ℕ) (h : Bool) (a : Answer) → h ≡ false → refusalOf a ≡ 0 → Answered 0xFFF (record { number = k; holds = h } ∷ []) a
+free k h a none e = inl (record { number = e; none = (none, tt) })
+
+-- a refusal by its number where it does
+held : (k : ℕ) (h : Bool) (a : Answer) → h ≡ true → a ≡ answer.Refused k → Answered 0xFFF (record { number = k; holds = h } ∷ []) a
+unfolding refusalOf valueOf
+held k h a some e = inr (record { listed = inl (some, ap refusalOf e); told = ap valueOf e })
+
+places : Places 0xFFF
+unfolding refusalOf
+places b n =
+    ⊎-elim (λ (above : lineAbove n ≡ true). held 1 _ _ above (place-refused (b .controller) n (ltb-true 7 n above)))
+    (λ (small : lineAbove n ≡ false). free 1 _ _ small (ap refusalOf (place-told (b .controller) n (below n (ltb-false 7 n small)))))
+    (either-way (lineAbove n))
+  where
+    below : (n : ℕ) → n ≤ 7 → n < 8
+    below n l = omega arith
+
+listed-among : (n : ℕ) (ms : List ℕ) → among n ms ≡ true → List·Memᴰ n ms
+listed-among n [] e = absurd (not-both e refl)
+listed-among n (m ∷ ms) e =
+    ⊎-elim (λ (here : eqb m n ≡ true). List·Memᴰ·head (sym (eqb-true m n here)))
+    (λ (other : eqb m n ≡ false). List·Memᴰ·tail (listed-among n ms (rw other at e))) (either-way (eqb m n))
+
+among-listed : (n : ℕ) (ms : List ℕ) → List·Memᴰ n ms → among n ms ≡ true
+among-listed n [] l = absurd (List·Memᴰ·not-nil l)
+among-listed n (m ∷ ms) l =
+    ⊎-elim (λ (e : n ≡ m). rw (eq-eqb m n (sym e))) (λ rest. ap (λ (x : Bool). eqb m n || x) (among-listed n ms rest) ∙ or-true (eqb m n)) (List·Memᴰ·cases-cons l)
+  where
+    or-true : (x : Bool) → (x || true) ≡ true
+    or-true true = refl
+    or-true false = refl
+
+divisors : Divisors 0xFFF
+unfolding refusalOf
+divisors rate clock =
+    ⊎-elim
+    (λ (in-list : (ltb clock 3 && among rate (ratesOf clock)) ≡ true).
+    let k = both (ltb clock 3) _ in-list in
+    free 10 _ _ (ap not in-list) (ap refusalOf (rates.accepted rate clock (ltb-true clock 3 (k .0), listed-among rate (ratesOf clock) (k .1)) .1)))
+    (λ (out : (ltb clock 3 && among rate (ratesOf clock)) ≡ false).
+    held 10 _ _ (ap not out)
+    (rates.refused rate clock
+    (λ l. not-both (ap₂ _&&_ (lt-ltb clock 3 (l .0)) (among-listed rate (ratesOf clock) (l .1))) out)))
+    (either-way (ltb clock 3 && among rate (ratesOf clock)))
+  where
+    both : (x y : Bool) → (x && y) ≡ true → (x ≡ true) × (y ≡ true)
+    both true y e = (refl, e)
+    both false y e = absurd (not-both e refl)
 
 pub demand-1 : Demand1
-demand-1 b [] = tt
-demand-1 b (r ∷ rs) = (answered b r, demand-1 (outcome b r .bench) rs)
+demand-1 = record { events = events; places = places; divisors = divisors }
+
+-- ---- another value: a record of no kind at power-up, a line above 7, a clock that is not there
+
+no-kind : Record
+no-kind = whole 9 0 0 0
+
+-- where the number is not 0 the answer is a refusal
+a-refusal : (value : ℕ) (gs : List Ground) (a : Answer) → (refusalOf a ≡ 0 → ⊥) → Answered value gs a → valueOf a ≡ value
+a-refusal value gs a some (inl x) = absurd (some (x .number))
+a-refusal value gs a some (inr x) = x .told
+
+pub only-fff : OnlyFFF
+unfolding laid-open no-kind list.divisorOf list.look list.ratesOf list.divisorsOf list.everywhere
+only-fff =
+    record {
+      events = λ value e.
+          ⊎-elim (λ x. absurd (above 2 (x .number))) (λ x. sym (x .0 .told)) (e powerUp (no-kind ∷ []) .0);
+      places = λ value p. sym (a-refusal value _ _ (above 0) (p powerUp 8));
+      divisors = λ value d. sym (a-refusal value _ _ (above 9) (d 0 3));
+    }
+  where
+    above : (n : ℕ) → suc n ≡ 0 → ⊥
+    above n e = omega arith

@@ -29,13 +29,14 @@ use Rattle.bench.specs.declared.Event.the-variants.{OfSeat, MasterReset, ReadCo
 use Rattle.bench.specs.declared.Decoded.{Decoded}
 use Rattle.bench.specs.declared.Decoded.the-variants.{Taken, Refused}
 use Rattle.bench.specs.Events.{Record, decoded}
-use Rattle.bench.specs.Seats.{noSeat, chair, seat, seatLine, lines}
+use Rattle.bench.specs.Seats.{noSeat, chair, seat, seatLine, lines, powerUp}
+use Rattle.bench.specs.Runs.{afterAll}
 use Rattle.bench.specs.Steps.{roomRefusal, after, answerTo, shown, met, outcome, dealt}
 use Rattle.bench.specs.MeetLaws.{outcome-dealt, write-met, acknowledge-met, read-met}
 use Rattle.bench.specs.FrameLaws.{mapped-at, chair-small}
 use Rattle.bench.specs.Wired.{Wired}
-use Rattle.bench.specs.WiredLaws.{wired-kept}
-use Rattle.demands.specs.Demand3.{Calm, owing, heard, told, Names, Kept, Demand3}
+use Rattle.bench.specs.WiredLaws.{wired-kept, wired-power-up}
+use Rattle.demands.specs.Demand3.{Calm, owing, heard, told, Names, Kept, Demand3, Demand3FromPowerUp}
 
 -- ---- what a record sends to the controller
 
@@ -196,3 +197,13 @@ pub demand-3-bench : Demand3
 unfolding Demand3 turn.Demand3
 demand-3-bench b n rs w st k =
     subst (InTurn (b .controller) n) (told-answers b rs) (demand-3 (b .controller) n (sent b rs) st (all-wait n false b rs w k))
+
+-- ---- from power-up
+
+pub wired-all : (b : Bench) (rs : List Record) → Wired b → Wired (afterAll b rs)
+wired-all b [] w = w
+wired-all b (r ∷ rs) w = wired-all (outcome b r .bench) rs (wired-kept b w r)
+
+pub demand-3-from-power-up : Demand3FromPowerUp
+unfolding Demand3
+demand-3-from-power-up before n rs = demand-3-bench (afterAll powerUp before) n rs (wired-all powerUp before wired-power-up)

@@ -1,6 +1,8 @@
+pub mod Opened
 pub mod Starred
 pub mod Worked
 pub mod Edges
+pub mod Contracts
 pub mod Demand1
 pub mod Demand2
 pub mod Demand3
@@ -10,3 +12,6 @@ pub mod Once
 pub mod OnceCalls
 pub mod OnceRefused
 pub mod ClosedLedger
+pub mod WrongPrograms
+pub mod Needed
+pub mod Statements

@@ -37,7 +37,9 @@ use Rattle.bench.specs.Runs.{Act, event, reset, actedAll, own, afterAll}
 use Rattle.bench.specs.MeetLaws.{outcome-dealt}
 use Rattle.bench.specs.FrameLaws.{seat-acts, chair-small}
 use Rattle.bench.specs.RunLaws.{eight-kept}
+use Rattle.demands.specs.Demand2.{ends}
 use Rattle.demands.specs.SeatLedger.{befalling, befalls, arrivedAt, readAt, lostAt, droppedAt, queuedAt, SoundAt, SeatLedger, SeatLedgerFromPowerUp}
+use Rattle.demands.proofs.Demand2.{outcome-meets, demand-2}
 
 -- ---- counts over a run in two parts
 
@@ -128,7 +130,7 @@ moments n b [] = []
 moments n b (r ∷ rs) = befalls n b r ++ moments n (outcome b r .bench) rs
 
 module _ (n : ℕ) where
-  all-arrived : (b : Bench) (rs : List Record) → arrivedIn (moments n b rs) ≡ arrivedAt n b rs
+  all-arrived : (b : Bench) (rs : List Record) → arrivedIn (moments n b rs) ≡ arrivedAt outcome n b rs
   unfolding moments arrivedIn
   all-arrived b [] = refl
   all-arrived b (r ∷ rs) =
@@ -137,7 +139,7 @@ module _ (n : ℕ) where
 
   -- what of the run is told in two parts, told record by record
   all-after : (b : Bench) → length (b .seats) ≡ 8 → (rs : List Record)
-      → side-run.afterAll (side (seat b n .channel)) (moments n b rs) ≡ side (seat (afterAll b rs) n .channel)
+      → side-run.afterAll (side (seat b n .channel)) (moments n b rs) ≡ side (seat (ends outcome b rs) n .channel)
   unfolding moments side-run.afterAll
   all-after b eight [] = refl
   all-after b eight (r ∷ rs) =
@@ -145,7 +147,7 @@ module _ (n : ℕ) where
       ∙ ap (λ (s : Side). side-run.afterAll s (moments n (outcome b r .bench) rs)) (sym (seat-side b eight n r))
       ∙ all-after (outcome b r .bench) (eight-kept b r ∙ eight) rs
 
-  all-read : (b : Bench) → length (b .seats) ≡ 8 → (rs : List Record) → readIn (side (seat b n .channel)) (moments n b rs) ≡ readAt n b rs
+  all-read : (b : Bench) → length (b .seats) ≡ 8 → (rs : List Record) → readIn (side (seat b n .channel)) (moments n b rs) ≡ readAt outcome n b rs
   unfolding moments readIn
   all-read b eight [] = refl
   all-read b eight (r ∷ rs) =
@@ -153,7 +155,7 @@ module _ (n : ℕ) where
       ∙ ap₂ _++_ (sym (record-told b n r))
       (ap (λ (s : Side). readIn s (moments n (outcome b r .bench) rs)) (sym (seat-side b eight n r)) ∙ all-read (outcome b r .bench) (eight-kept b r ∙ eight) rs)
 
-  all-lost : (b : Bench) → length (b .seats) ≡ 8 → (rs : List Record) → lostIn (side (seat b n .channel)) (moments n b rs) ≡ lostAt n b rs
+  all-lost : (b : Bench) → length (b .seats) ≡ 8 → (rs : List Record) → lostIn (side (seat b n .channel)) (moments n b rs) ≡ lostAt outcome n b rs
   unfolding moments lostIn
   all-lost b eight [] = refl
   all-lost b eight (r ∷ rs) =
@@ -161,7 +163,7 @@ module _ (n : ℕ) where
       ∙ ap (λ (k : ℕ). lostIn (side (seat b n .channel)) (befalls n b r) + k)
       (ap (λ (s : Side). lostIn s (moments n (outcome b r .bench) rs)) (sym (seat-side b eight n r)) ∙ all-lost (outcome b r .bench) (eight-kept b r ∙ eight) rs)
 
-  all-dropped : (b : Bench) → length (b .seats) ≡ 8 → (rs : List Record) → droppedIn (side (seat b n .channel)) (moments n b rs) ≡ droppedAt n b rs
+  all-dropped : (b : Bench) → length (b .seats) ≡ 8 → (rs : List Record) → droppedIn (side (seat b n .channel)) (moments n b rs) ≡ droppedAt outcome n b rs
   unfolding moments droppedIn
   all-dropped b eight [] = refl
   all-dropped b eight (r ∷ rs) =
@@ -180,8 +182,8 @@ seat-ledger n b rs eight sound =
     let end = all-after n b eight rs in
     record {
       in-order =
-          subst (λ (x : List ℕ). Subsequence (readAt n b rs ++ queuedAt n (afterAll b rs)) (queuedAt n b ++ x)) come
-          (subst (λ (x : List ℕ). Subsequence (x ++ queuedAt n (afterAll b rs)) (queuedAt n b ++ arrivedIn (moments n b rs))) reads
+          subst (λ (x : List ℕ). Subsequence (readAt outcome n b rs ++ queuedAt n (ends outcome b rs)) (queuedAt n b ++ x)) come
+          (subst (λ (x : List ℕ). Subsequence (x ++ queuedAt n (ends outcome b rs)) (queuedAt n b ++ arrivedIn (moments n b rs))) reads
           (subst (λ (s : Side). Subsequence (readIn (side (seat b n .channel)) (moments n b rs) ++ queued s) (queuedAt n b ++ arrivedIn (moments n b rs))) end
           (l .in-order)));
       balanced = omega (arith, l .balanced, ap length come, ap length reads, lost, drops, ap (λ (s : Side). length (queued s)) end);
@@ -195,16 +197,22 @@ seat-at-power-up n = ap (λ (s : Seat). s .channel) (getD-replicate 8 (chair n) 
 none-queued-at : (n : ℕ) → queuedAt n powerUp ≡ []
 none-queued-at n = ap (λ (c : Channel). queued (side c)) (seat-at-power-up n)
 
-sound-at : (n : ℕ) → SoundAt n powerUp
+pub sound-at : (n : ℕ) → SoundAt n powerUp
 sound-at n =
     subst (λ (c : Channel). soundReceiver (parts.fifo c) (c .receiver) ≡ true) (sym (seat-at-power-up n)) (power-up-sound (parts.fifo parts.powerUp))
+
+-- the definition's run leaves the bench of its own run
+runs-out : (rs : List Record) → ends outcome powerUp rs ≡ afterAll powerUp rs
+runs-out rs = demand-2 outcome outcome-meets powerUp rs .1
 
 pub seat-ledger-from-power-up : SeatLedgerFromPowerUp
 seat-ledger-from-power-up n rs =
     let l = seat-ledger n powerUp rs refl (sound-at n) in
+    let end = ap (λ (b : Bench). queuedAt n b) (runs-out rs) in
     record {
       in-order =
-          subst (λ (x : List ℕ). Subsequence (readAt n powerUp rs ++ queuedAt n (afterAll powerUp rs)) (x ++ arrivedAt n powerUp rs)) (none-queued-at n)
-          (l .in-order);
-      balanced = omega (arith, l .balanced, ap length (none-queued-at n));
+          subst (λ (x : List ℕ). Subsequence (readAt outcome n powerUp rs ++ x) (arrivedAt outcome n powerUp rs)) end
+          (subst (λ (x : List ℕ). Subsequence (readAt outcome n powerUp rs ++ queuedAt n (ends outcome powerUp rs)) (x ++ arrivedAt outcome n powerUp rs))
+          (none-queued-at n) (l .in-order));
+      balanced = omega (arith, l .balanced, ap length (none-queued-at n), ap length end);
     }

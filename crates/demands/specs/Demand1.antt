@@ -1,11 +1,16 @@
--- Demand 1: every event is answered, and a refused one leaves everything just as before.
+-- Demand 1: every event, place and divisor that is asked for is answered, and a refusal leaves everything just as before.
 use Prim.Native.Nat.{ℕ}
-use mathlib.Core.Bool.{true, false}
+use mathlib.Core.Bool.{Bool, true, false, not, _&&_, _||_}
 use mathlib.Core.List.{List, [], _∷_}
 use mathlib.Core.Path.{_≡_}
 use mathlib.Core.Logic.{_⊎_}
+use lib.Dec.{eqb, ltb}
+use Rattle.base.specs.declared.Answer.{Answer}
 use Rattle.base.specs.Answers.{refusalOf, valueOf}
 use Rattle.base.specs.Refusals.{Ground}
+use Rattle.rates.specs.Rates.{ratesOf, divisorOf}
+use Rattle.controller.specs.Refusals.{lineAbove}
+use Rattle.controller.specs.Steps.{placed}
 use Rattle.controller.specs.Turns.{outputOf}
 use Rattle.bench.specs.declared.Bench.{Bench}
 use Rattle.bench.specs.declared.Outcome.{Outcome}
@@ -24,30 +29,65 @@ abbrev pub Listed : ℕ → List Ground → Type 0
 Listed n [] = ⊥
 Listed n (g ∷ gs) = ((g .holds ≡ true) × (n ≡ g .number)) ⊎ ((g .holds ≡ false) × Listed n gs)
 
--- The tender: a refused event gives the number listed in document 01, the answer FFF, and a bench with every seat and the controller just as
--- before
-pub record Refused (b : Bench) (r : Record) (o : Outcome) : Type 0 where
-  pub listed : Listed (refusalOf (o .answer)) (grounds b r)
-  pub value : valueOf (o .answer) ≡ 0xFFF
+-- an accepted one has no number, and no ground of the list holds
+pub record Accepted (gs : List Ground) (a : Answer) : Type 0 where
+  pub number : refusalOf a ≡ 0
+  pub none : NoneHolds gs
+
+-- a refused one has the number listed in document 01, and a value that the demand names
+pub record Refused (value : ℕ) (gs : List Ground) (a : Answer) : Type 0 where
+  pub listed : Listed (refusalOf a) gs
+  pub told : valueOf a ≡ value
+
+-- it is answered: one or the other
+abbrev pub Answered : ℕ → List Ground → Answer → Type 0
+Answered value gs a = Accepted gs a ⊎ Refused value gs a
+
+-- ---- the three entries: events, the place in turn, the divisor list
+
+-- The tender: and a bench with every seat and the controller just as before
+pub record Unchanged (b : Bench) (o : Outcome) : Type 0 where
   pub seats : (n : ℕ) → seat (o .bench) n ≡ seat b n
   pub controller : o .bench .controller ≡ b .controller
   pub whole : o .bench ≡ b
   pub output : o .output ≡ outputOf (b .controller)
 
--- an accepted one has no number, and no ground of the list holds
-pub record Accepted (b : Bench) (r : Record) (o : Outcome) : Type 0 where
-  pub number : refusalOf (o .answer) ≡ 0
-  pub none : NoneHolds (grounds b r)
-
--- it is answered: one or the other
-abbrev pub Answered : Bench → Record → Outcome → Type 0
-Answered b r o = Accepted b r o ⊎ Refused b r o
-
 -- in any order: each record of a list, at the bench that it meets
-abbrev pub AllAnswered : Bench → List Record → Type 0
-AllAnswered b [] = Unit
-AllAnswered b (r ∷ rs) = Answered b r (outcome b r) × AllAnswered (outcome b r .bench) rs
+abbrev pub AllAnswered : ℕ → Bench → List Record → Type 0
+AllAnswered value b [] = Unit
+AllAnswered value b (r ∷ rs) =
+    (Accepted (grounds b r) (outcome b r .answer) ⊎ (Refused value (grounds b r) (outcome b r .answer) × Unchanged b (outcome b r)))
+    × AllAnswered value (outcome b r .bench) rs
 
--- The tender: every event on the bench, with any numbers in it and in any order, is answered
-abbrev pub Demand1 : Type 0
-Demand1 = (b : Bench) (rs : List Record) → AllAnswered b rs
+abbrev pub Events : ℕ → Type 0
+Events value = (b : Bench) (rs : List Record) → AllAnswered value b rs
+
+-- "line above 7 gives refusal 1"; a call gives the answer alone, so that there is no bench to change
+abbrev pub Places : ℕ → Type 0
+Places value = (b : Bench) (n : ℕ) → Answered value (record { number = 1; holds = lineAbove n } ∷ []) (placed (b .controller) n)
+
+-- a number is in a list
+abbrev pub among : ℕ → List ℕ → Bool
+among n [] = false
+among n (m ∷ ms) = eqb m n || among n ms
+
+-- "rate or clock not in the divisor list"; "Clocks are numbered 0 to 2"
+abbrev pub unlisted : ℕ → ℕ → Bool
+unlisted rate clock = not (ltb clock 3 && among rate (ratesOf clock))
+
+-- and so has this call no bench at all
+abbrev pub Divisors : ℕ → Type 0
+Divisors value = (rate clock : ℕ) → Answered value (record { number = 10; holds = unlisted rate clock } ∷ []) (divisorOf rate clock)
+
+-- The tender: every event on the bench, with any numbers in it and in any order, is answered; each public entry tests its own input; a refused
+-- one gives the answer FFF
+pub record Demand1 : Type 0 where
+  pub events : Events 0xFFF
+  pub places : Places 0xFFF
+  pub divisors : Divisors 0xFFF
+
+-- no entry keeps the demand with another value, 000 among them
+pub record OnlyFFF : Type 0 where
+  pub events : (value : ℕ) → Events value → value ≡ 0xFFF
+  pub places : (value : ℕ) → Places value → value ≡ 0xFFF
+  pub divisors : (value : ℕ) → Divisors value → value ≡ 0xFFF

@@ -9,6 +9,7 @@ use Rattle.bench.specs.Runs.{afterAll, outcomes}
 use Rattle.bench.specs.Steps.{outcome}
 use Rattle.listing.specs.Line.{line}
 use Rattle.listing.specs.Run.{listing}
+use Rattle.demands.specs.Contracts.{Ensured}
 
 -- a program's step: what it makes of a bench and a record
 abbrev pub Step : Type 0
@@ -16,7 +17,7 @@ Step = Bench → Record → Outcome
 
 -- it meets the contract of the step, for every bench and every record
 abbrev pub Meets : Step → Type 0
-Meets f = (b : Bench) (r : Record) → f b r ≡ outcome b r
+Meets f = (b : Bench) (r : Record) → Ensured b r (f b r)
 
 -- what it gives over a run, event by event, each on the bench that the one before left
 abbrev pub run : Step → Bench → List Record → List Outcome
@@ -28,10 +29,13 @@ abbrev pub ends : Step → Bench → List Record → Bench
 ends f b [] = b
 ends f b (r ∷ rs) = ends f (f b r .bench) rs
 
--- The tender: each event's answer, the bench after it and the interrupt output equal those that document 01 condenses. One that is right for
--- the first event and then pretends does not meet it
+-- a step of which no more is asked than this gives, over every run, what the definitions give
+abbrev pub Suffices : (Step → Type 0) → Type 0
+Suffices meets = (f : Step) → meets f → (b : Bench) (rs : List Record) → (run f b rs ≡ outcomes b rs) × (ends f b rs ≡ afterAll b rs)
+
+-- The tender: each event's answer, the bench after it and the interrupt output equal those that document 01 condenses
 abbrev pub Demand2 : Type 0
-Demand2 = (f : Step) → Meets f → (b : Bench) (rs : List Record) → (run f b rs ≡ outcomes b rs) × (ends f b rs ≡ afterAll b rs)
+Demand2 = Suffices Meets
 
 -- the lines that such a step gives, of which the first has number n
 abbrev pub lists : Step → Bench → ℕ → List Record → List ℕ

@@ -15,7 +15,8 @@ use Rattle.bench.specs.declared.Event.the-variants.{OfSeat, MasterReset, ReadCo
 use Rattle.bench.specs.declared.Decoded.{Decoded}
 use Rattle.bench.specs.declared.Decoded.the-variants.{Taken, Refused}
 use Rattle.bench.specs.Events.{Record, decoded}
-use Rattle.bench.specs.Seats.{seat, seatLine}
+use Rattle.bench.specs.Seats.{seat, seatLine, powerUp}
+use Rattle.bench.specs.Runs.{afterAll}
 use Rattle.bench.specs.Steps.{outcome}
 use Rattle.bench.specs.Wired.{Wired}
 
@@ -58,16 +59,28 @@ told b (r ∷ rs) = heard (decoded r) (outcome b r .answer) ++ told (outcome b r
 abbrev pub Names : ℕ → Controller → Decoded → Answer → Type 0
 Names n c d a = heard d a ≡ Vector (vector (c .setup) n) ∷ []
 
--- The tender: let its line stay high and unmasked until it is granted. Every record is calm, and after it the line of seat n is high; from the
--- record on that names it, nothing is asked
-abbrev pub Kept : ℕ → Bool → Bench → List Record → Type 0
-Kept n owed b [] = Unit
-Kept n owed b (r ∷ rs) =
+-- The tender: let its line stay high and unmasked until it is granted. Every record is calm, and the bench after it is as a rule asks; from the
+-- record on that names line n, nothing is asked
+abbrev pub KeptBy : (ℕ → Bench → Type 0) → ℕ → Bool → Bench → List Record → Type 0
+KeptBy stays n owed b [] = Unit
+KeptBy stays n owed b (r ∷ rs) =
     Calm n owed (decoded r)
     × (Names n (b .controller) (decoded r) (outcome b r .answer)
-    ⊎ ((seatLine (seat (outcome b r .bench) n) ≡ true) × Kept n (owing (b .controller) owed (decoded r)) (outcome b r .bench) rs))
+    ⊎ (stays n (outcome b r .bench) × KeptBy stays n (owing (b .controller) owed (decoded r)) (outcome b r .bench) rs))
+
+-- the rule: the line of seat n is high
+abbrev pub High : ℕ → Bench → Type 0
+High n b = seatLine (seat b n) ≡ true
+
+abbrev pub Kept : ℕ → Bool → Bench → List Record → Type 0
+Kept n owed b rs = KeptBy High n owed b rs
 
 -- The tender: only seats ahead of it at the start are granted before it, each at most once, and the eighth acknowledge at the latest names it.
 -- The start is that of one controller, its line n that of seat n
 unfoldable pub Demand3 : Type 0
 Demand3 = (b : Bench) (n : ℕ) (rs : List Record) → Wired b → Start (b .controller) n → Kept n false b rs → InTurn (b .controller) n (told b rs)
+
+-- and from power-up on nothing is asked of the bench: it is the one that any records leave
+abbrev pub Demand3FromPowerUp : Type 0
+Demand3FromPowerUp = (before : List Record) (n : ℕ) (rs : List Record) → Start (afterAll powerUp before .controller) n
+    → Kept n false (afterAll powerUp before) rs → InTurn (afterAll powerUp before .controller) n (told (afterAll powerUp before) rs)

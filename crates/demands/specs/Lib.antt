@@ -1,9 +1,13 @@
 pub mod Starred
 pub mod Worked
 pub mod Edges
+pub mod Contracts
 pub mod Demand1
 pub mod Demand2
 pub mod Demand3
 pub mod SeatLedger
 pub mod Once
 pub mod OnceCalls
+pub mod WrongPrograms
+pub mod Needed
+pub mod Statements

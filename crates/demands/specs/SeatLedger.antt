@@ -15,6 +15,7 @@ use Rattle.bench.specs.Events.{Record, decoded}
 use Rattle.bench.specs.Seats.{chair, seat, powerUp}
 use Rattle.bench.specs.Steps.{outcome}
 use Rattle.bench.specs.Runs.{Act, event, reset, own, afterAll}
+use Rattle.demands.specs.Demand2.{Step, ends}
 
 -- what befalls the receive side of seat n by a record: nothing, where the record is another seat's, the controller's, or refused
 abbrev pub befalling : Channel → List Act → List Moment
@@ -25,24 +26,30 @@ befalling c (reset ∷ rest) = resets ∷ befalling (masterReset c) rest
 abbrev pub befalls : ℕ → Bench → Record → List Moment
 befalls n b r = befalling (seat b n .channel) (own (chair n) (decoded r))
 
+-- ---- over a run of a program's step, each record on the bench that the one before left
+
 -- the characters whose arrival at seat n is accepted, first to last
-abbrev pub arrivedAt : ℕ → Bench → List Record → List ℕ
-arrivedAt n b [] = []
-arrivedAt n b (r ∷ rs) = arrivedIn (befalls n b r) ++ arrivedAt n (outcome b r .bench) rs
+abbrev pub arrivedAt : Step → ℕ → Bench → List Record → List ℕ
+arrivedAt f n b [] = []
+arrivedAt f n b (r ∷ rs) = arrivedIn (befalls n b r) ++ arrivedAt f n (f b r .bench) rs
 
 -- the characters read from seat n, as the answers tell them
-abbrev pub readAt : ℕ → Bench → List Record → List ℕ
-readAt n b [] = []
-readAt n b (r ∷ rs) = toldIn (side (seat b n .channel)) (outcome b r .answer) (befalls n b r) ++ readAt n (outcome b r .bench) rs
+abbrev pub readAt : Step → ℕ → Bench → List Record → List ℕ
+readAt f n b [] = []
+readAt f n b (r ∷ rs) = toldIn (side (seat b n .channel)) (f b r .answer) (befalls n b r) ++ readAt f n (f b r .bench) rs
 
 -- how many an overrun loses there, and how many are dropped with the queue
-abbrev pub lostAt : ℕ → Bench → List Record → ℕ
-lostAt n b [] = 0
-lostAt n b (r ∷ rs) = lostIn (side (seat b n .channel)) (befalls n b r) + lostAt n (outcome b r .bench) rs
+abbrev pub lostAt : Step → ℕ → Bench → List Record → ℕ
+lostAt f n b [] = 0
+lostAt f n b (r ∷ rs) = lostIn (side (seat b n .channel)) (befalls n b r) + lostAt f n (f b r .bench) rs
 
-abbrev pub droppedAt : ℕ → Bench → List Record → ℕ
-droppedAt n b [] = 0
-droppedAt n b (r ∷ rs) = droppedIn (side (seat b n .channel)) (befalls n b r) + droppedAt n (outcome b r .bench) rs
+abbrev pub droppedAt : Step → ℕ → Bench → List Record → ℕ
+droppedAt f n b [] = 0
+droppedAt f n b (r ∷ rs) = droppedIn (side (seat b n .channel)) (befalls n b r) + droppedAt f n (f b r .bench) rs
+
+-- and both
+abbrev pub goneAt : Step → ℕ → Bench → List Record → ℕ
+goneAt f n b rs = lostAt f n b rs + droppedAt f n b rs
 
 -- the characters in the receive queue of seat n, the oldest first
 abbrev pub queuedAt : ℕ → Bench → List ℕ
@@ -52,21 +59,29 @@ queuedAt n b = queued (side (seat b n .channel))
 abbrev pub SoundAt : ℕ → Bench → Type 0
 SoundAt n b = soundReceiver (fifo (seat b n .channel)) (seat b n .channel .receiver) ≡ true
 
+-- every character is accounted for: it is read, gone, as a rule counts those, or still waits
+abbrev pub Balanced : (Step → ℕ → Bench → List Record → ℕ) → Step → ℕ → Bench → List Record → Type 0
+Balanced gone f n b rs =
+    length (arrivedAt f n b rs) + length (queuedAt n b) ≡ length (readAt f n b rs) + gone f n b rs + length (queuedAt n (ends f b rs))
+
 -- from any bench of eight seats on, where the receive side of seat n is sound: what is read, and then what still waits, came in that order; and
 -- every character is accounted for
-pub record Kept (n : ℕ) (b : Bench) (rs : List Record) : Type 0 where
-  pub in-order : Subsequence (readAt n b rs ++ queuedAt n (afterAll b rs)) (queuedAt n b ++ arrivedAt n b rs)
-  pub balanced : length (arrivedAt n b rs) + length (queuedAt n b)
-      ≡ length (readAt n b rs) + lostAt n b rs + droppedAt n b rs + length (queuedAt n (afterAll b rs))
+pub record Kept (f : Step) (n : ℕ) (b : Bench) (rs : List Record) : Type 0 where
+  pub in-order : Subsequence (readAt f n b rs ++ queuedAt n (ends f b rs)) (queuedAt n b ++ arrivedAt f n b rs)
+  pub balanced : Balanced goneAt f n b rs
+
+-- a step keeps the ledger
+abbrev pub Keeps : Step → Type 0
+Keeps f = (n : ℕ) (b : Bench) (rs : List Record) → length (b .seats) ≡ 8 → SoundAt n b → Kept f n b rs
 
 abbrev pub SeatLedger : Type 0
-SeatLedger = (n : ℕ) (b : Bench) (rs : List Record) → length (b .seats) ≡ 8 → SoundAt n b → Kept n b rs
+SeatLedger = Keeps outcome
 
 -- and from power-up on, where nothing is queued
 pub record FromPowerUp (n : ℕ) (rs : List Record) : Type 0 where
-  pub in-order : Subsequence (readAt n powerUp rs ++ queuedAt n (afterAll powerUp rs)) (arrivedAt n powerUp rs)
-  pub balanced : length (arrivedAt n powerUp rs)
-      ≡ length (readAt n powerUp rs) + lostAt n powerUp rs + droppedAt n powerUp rs + length (queuedAt n (afterAll powerUp rs))
+  pub in-order : Subsequence (readAt outcome n powerUp rs ++ queuedAt n (afterAll powerUp rs)) (arrivedAt outcome n powerUp rs)
+  pub balanced : length (arrivedAt outcome n powerUp rs)
+      ≡ length (readAt outcome n powerUp rs) + goneAt outcome n powerUp rs + length (queuedAt n (afterAll powerUp rs))
 
 abbrev pub SeatLedgerFromPowerUp : Type 0
 SeatLedgerFromPowerUp = (n : ℕ) (rs : List Record) → FromPowerUp n rs

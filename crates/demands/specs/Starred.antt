@@ -4,6 +4,7 @@ use mathlib.Core.Bool.{Bool, true, _&&_}
 use mathlib.Core.List.{List, [], _∷_, _++_}
 use mathlib.Core.Path.{_≡_}
 use lib.Dec.{eqb}
+use lib.ListN.{length}
 use Rattle.base.specs.Bits.{digit}
 use Rattle.base.specs.Answers.{refusalOf, valueOf}
 use Rattle.controller.specs.Steps.{placed}
@@ -73,38 +74,38 @@ served-3 = initialised ++ (rises 3 ++ (gives 8 0 0 0 0x043 0 ∷ []))
 
 abbrev pub cases : List (List Line)
 cases =
-    -- "Power-up: LSR 60, IIR 01, MSR 00."
+    -- "★ 1. Power-up: LSR 60, IIR 01, MSR 00."
     (reads 5 0x60 ∷ reads 2 0x01 ∷ reads 6 0x00 ∷ [])
-    -- "16450, arrivals 41 and 42: LSR 63, RBR 42."
+    -- "★ 2. 16450, arrivals 41 and 42: LSR 63, RBR 42."
     ∷ (set-up ++ (arrives 0 0x41 ∷ arrives 0 0x42 ∷ reads 5 0x63 ∷ reads 0 0x42 ∷ []))
-    -- "FIFO, 17 arrivals: LSR 63; sixteen reads give the first 16."
+    -- "★ 3. FIFO, 17 arrivals: LSR 63; sixteen reads give the first 16."
     ∷ (set-up-fifo ++ (arrivals 17 1 ++ (reads 5 0x63 ∷ reads-of 16 1)))
-    -- "IER 01, trigger 8: seven arrivals IIR C1, eighth C4."
+    -- "★ 4. IER 01, trigger 8: seven arrivals IIR C1, eighth C4."
     ∷ (set-up-fifo ++ (writes 1 0x01 ∷ arrivals 7 1 ++ (reads 2 0xC1 ∷ arrives 0 8 ∷ reads 2 0xC4 ∷ [])))
-    -- "IER 01, seven arrivals, four character times: CC; one RBR read: C1."
+    -- "★ 5. IER 01, seven arrivals, four character times: CC; one RBR read: C1."
     ∷ (set-up-fifo
     ++ (writes 1 0x01 ∷ arrivals 7 1 ++ (does 4 0 0 0 ∷ does 4 0 0 0 ∷ does 4 0 0 0 ∷ does 4 0 0 0 ∷ reads 2 0xCC ∷ reads 0 1 ∷ reads 2 0xC1 ∷ [])))
-    -- "Idle, IER 02: IIR 02, read again 01."
+    -- "★ 6. Idle, IER 02: IIR 02, read again 01."
     ∷ (set-up ++ (writes 1 0x02 ∷ reads 2 0x02 ∷ reads 2 0x01 ∷ []))
-    -- "16450, IER 0F, arrival with framing mark: IIR 06, LSR 69, then IIR 04."
+    -- "★ 7. 16450, IER 0F, arrival with framing mark: IIR 06, LSR 69, then IIR 04."
     ∷ (set-up ++ (writes 1 0x0F ∷ arrives 2 0x41 ∷ reads 2 0x06 ∷ reads 5 0x69 ∷ reads 2 0x04 ∷ []))
-    -- "RI active: MSR 40; inactive: 04; read again 00."
+    -- "★ 8. RI active: MSR 40; inactive: 04; read again 00."
     ∷ (does 3 0 0 4 ∷ reads 6 0x40 ∷ does 3 0 0 0 ∷ reads 6 0x04 ∷ reads 6 0x00 ∷ [])
-    -- "Base 40, lines 3 and 5 rise: 043, output 0; write 20: output 1; then 045."
+    -- "★ 9. Base 40, lines 3 and 5 rise: 043, output 0; write 20: output 1; then 045."
     ∷ (initialised ++ (rises 3 ++ (rises 5 ++ (gives 8 0 0 0 0x043 0 ∷ gives 7 0 0 0x20 0x000 1 ∷ gives 8 0 0 0 0x045 0 ∷ []))))
-    -- "Line 3 in service, write A0: place of 4 is 0, of 3 is 7."
+    -- "★ 10. Line 3 in service, write A0: place of 4 is 0, of 3 is 7."
     ∷ (served-3 ++ (gives 7 0 0 0xA0 0x000 0 ∷ ranks 4 0 ∷ ranks 3 7 ∷ []))
-    -- "Nothing stands, base 40: 147, in-service 00."
+    -- "★ 11. Nothing stands, base 40: 147, in-service 00."
     ∷ (initialised ++ (gives 8 0 0 0 0x147 0 ∷ does 7 0 0 0x0B ∷ gives 6 0 0 0 0x00 0 ∷ []))
-    -- "Line 3 in service and masked, write 68, line 5 stands: 045."
+    -- "★ 12. Line 3 in service and masked, write 68, line 5 stands: 045."
     ∷ (served-3 ++ (does 7 0 1 0x08 ∷ does 7 0 0 0x68 ∷ rises 5 ++ (gives 8 0 0 0 0x045 0 ∷ [])))
     ∷ []
 
--- each of them holds from power-up
+-- "Each case starts from power-up."
 unfoldable pub all : List (List Line) → Bool
 all [] = true
 all (ls ∷ rest) = holds powerUp ls && all rest
 
 -- "The twelve starred cases form a single list with a single theorem over the definitions."
 abbrev pub Tasted : Type 0
-Tasted = all cases ≡ true
+Tasted = (length cases ≡ 12) × (all cases ≡ true)

@@ -84,7 +84,11 @@ Names t c (read port) = ⊥
 Names t c (write port b) = ⊥
 Names t c acknowledge = step c acknowledge .answer ≡ Vector (vector (c .setup) t)
 
--- each signal may come, until one names the line; after that nothing is asked
+-- each signal may come, by a rule that says which, until one names the line; after that nothing is asked
+abbrev pub WaitsBy : (ℕ → Bool → Signal → Type 0) → ℕ → Bool → Controller → List Signal → Type 0
+WaitsBy may t owed c [] = Unit
+WaitsBy may t owed c (signal ∷ rest) = may t owed signal × (Names t c signal ⊎ WaitsBy may t (owes c owed signal) (after c signal) rest)
+
+-- and by the tender's rule
 abbrev pub Waits : ℕ → Bool → Controller → List Signal → Type 0
-Waits t owed c [] = Unit
-Waits t owed c (signal ∷ rest) = May t owed signal × (Names t c signal ⊎ Waits t (owes c owed signal) (after c signal) rest)
+Waits t owed c signals = WaitsBy May t owed c signals

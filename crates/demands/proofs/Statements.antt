@@ -1,0 +1,32 @@
+-- Every statement of this room is proved.
+use Rattle.demands.specs.Statements.{Statements}
+use Rattle.demands.proofs.Contracts.{contracts-say}
+use Rattle.demands.proofs.Demand1.{demand-1, only-fff}
+use Rattle.demands.proofs.Demand2.{demand-2, demand-2-listed}
+use Rattle.demands.proofs.Demand3.{demand-3-bench, demand-3-from-power-up}
+use Rattle.demands.proofs.SeatLedger.{seat-ledger, seat-ledger-from-power-up}
+use Rattle.demands.proofs.WrongPrograms.{shut-out, let-in}
+use Rattle.demands.proofs.Needed.{needed}
+use Rattle.demands.proofs.Starred.{tasted}
+use Rattle.demands.proofs.Worked.{worked}
+use Rattle.demands.proofs.Edges.{at-the-edges}
+
+pub statements : Statements
+statements =
+    record {
+      contracts-say = contracts-say;
+      demand-1 = demand-1;
+      only-fff = only-fff;
+      demand-2 = demand-2;
+      demand-2-listed = demand-2-listed;
+      demand-3 = demand-3-bench;
+      demand-3-from-power-up = demand-3-from-power-up;
+      seat-ledger = seat-ledger;
+      seat-ledger-from-power-up = seat-ledger-from-power-up;
+      shut-out = shut-out;
+      let-in = let-in;
+      needed = needed;
+      tasted = tasted;
+      worked = worked;
+      at-the-edges = at-the-edges;
+    }

@@ -1,0 +1,34 @@
+-- What the toolchain reads from the contracts of the three public entries in the code: the results that they let through. What is passed by
+-- value is at the exit what it was.
+use Prim.Native.Nat.{ℕ}
+use mathlib.Core.Path.{_≡_}
+use Rattle.base.specs.declared.Answer.{Answer}
+use Rattle.rates.specs.Rates.{divisorOf}
+use Rattle.rates.proofs.divisor.Reads as of-divisor
+use Rattle.controller.specs.Steps.{placed}
+use Rattle.bench.specs.declared.Bench.{Bench}
+use Rattle.bench.specs.declared.Outcome.{Outcome}
+use Rattle.bench.specs.Events.{Record, whole, short}
+use Rattle.bench.specs.Steps.{outcome}
+use Rattle.bench.proofs.Bench.step.Reads as of-step
+use Rattle.bench.proofs.Bench.step_short.Reads as of-step-short
+use Rattle.bench.proofs.Bench.place.Reads as of-place
+
+-- `Bench::step` and `Bench::step_short`
+abbrev pub Ensured : Bench → Record → Outcome → Type 0
+Ensured b (whole kind seat number value) o = of-step.Post tt (b, (kind, (seat, (number, (value, tt))))) o (b, (kind, (seat, (number, (value, tt)))))
+Ensured b short o = of-step-short.Post tt (b, tt) o (b, tt)
+
+-- `Bench::place`
+abbrev pub EnsuredPlace : Bench → ℕ → Answer → Type 0
+EnsuredPlace b n a = of-place.Post tt (b, (n, tt)) a (b, (n, tt))
+
+-- `rates::divisor`
+abbrev pub EnsuredDivisor : ℕ → ℕ → Answer → Type 0
+EnsuredDivisor rate clock a = of-divisor.Post tt (rate, (clock, tt)) a (rate, (clock, tt))
+
+-- each lets the definition's result through, and no other
+pub record ContractsSay : Type 0 where
+  pub step : (b : Bench) (r : Record) (o : Outcome) → (Ensured b r o → o ≡ outcome b r) × (o ≡ outcome b r → Ensured b r o)
+  pub place : (b : Bench) (n : ℕ) (a : Answer) → (EnsuredPlace b n a → a ≡ placed (b .controller) n) × (a ≡ placed (b .controller) n → EnsuredPlace b n a)
+  pub divisor : (rate clock : ℕ) (a : Answer) → (EnsuredDivisor rate clock a → a ≡ divisorOf rate clock) × (a ≡ divisorOf rate clock → EnsuredDivisor rate clock a)

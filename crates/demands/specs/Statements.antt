@@ -1,0 +1,28 @@
+-- The statements of this room. The proofs give the record whole.
+use Rattle.demands.specs.Contracts.{ContractsSay}
+use Rattle.demands.specs.Demand1.{Demand1, OnlyFFF}
+use Rattle.demands.specs.Demand2.{Demand2, Demand2Listed}
+use Rattle.demands.specs.Demand3.{Demand3, Demand3FromPowerUp}
+use Rattle.demands.specs.SeatLedger.{SeatLedger, SeatLedgerFromPowerUp}
+use Rattle.demands.specs.WrongPrograms.{ShutOut, LetIn}
+use Rattle.demands.specs.Needed.{Needed}
+use Rattle.demands.specs.Starred.{Tasted}
+use Rattle.demands.specs.Worked.{Worked}
+use Rattle.demands.specs.Edges.{Edges}
+
+pub record Statements : Type 0 where
+  pub contracts-say : ContractsSay
+  pub demand-1 : Demand1
+  pub only-fff : OnlyFFF
+  pub demand-2 : Demand2
+  pub demand-2-listed : Demand2Listed
+  pub demand-3 : Demand3
+  pub demand-3-from-power-up : Demand3FromPowerUp
+  pub seat-ledger : SeatLedger
+  pub seat-ledger-from-power-up : SeatLedgerFromPowerUp
+  pub shut-out : ShutOut
+  pub let-in : LetIn
+  pub needed : Needed
+  pub tasted : Tasted
+  pub worked : Worked
+  pub at-the-edges : Edges

@@ -1,0 +1,125 @@
+"""tools/checks/06-statements on a small tree."""
+import importlib.machinery
+import importlib.util
+import unittest
+from pathlib import Path
+
+from room import Room
+
+PATH = Path(__file__).parent / "checks/06-statements"
+LOADER = importlib.machinery.SourceFileLoader("statements", str(PATH))
+check = importlib.util.module_from_spec(importlib.util.spec_from_loader("statements", LOADER))
+LOADER.exec_module(check)
+check.RECORDS = (("cups", "Statements"),)
+check.NO_STATEMENTS = {("cups", "Sip"): "a type"}
+
+SPECS = "crates/cups/specs/"
+PROOFS = "crates/cups/proofs/"
+
+CUPS = """-- Cups.
+abbrev pub Sip : Type 0
+Sip = Cup → Cup
+
+unfoldable pub Full : Type 0
+Full = (c : Cup) → filled c ≡ true
+
+abbrev pub Over : Cup → Type 0
+Over c = ⊥
+"""
+
+STATEMENTS = """use Rattle.cups.specs.Cups.{Full}
+
+pub record Statements : Type 0 where
+  pub full : Full
+"""
+
+GIVEN = """use Rattle.cups.specs.Statements.{Statements}
+
+pub statements : Statements
+statements = record { full = full }
+"""
+
+PROMISES = """| Call | Shut out by |
+|---|---|
+| `none` | law `full`, edit *half_full_twin*; `second/` |
+"""
+
+
+class Statements(Room):
+    def setUp(self):
+        super().setUp()
+        self.write(SPECS + "Lib.antt", "pub mod Cups\npub mod Statements\n")
+        self.write(SPECS + "Cups.antt", CUPS)
+        self.write(SPECS + "Statements.antt", STATEMENTS)
+        self.write(PROOFS + "Lib.antt", "pub mod Statements\n")
+        self.write(PROOFS + "Statements.antt", GIVEN)
+        self.write("crates/cups/must-fail/half_full_twin.edit", "file: src/lib.rt\n")
+        self.write("second/second.c", "")
+        self.write("docs/PROMISES.md", PROMISES)
+
+    def unproved(self):
+        return list(check.unproved(self.root))
+
+    def missing(self):
+        return list(check.missing(self.root))
+
+    def fails(self, reason, name, text):
+        self.write(name, text)
+        self.assertIn(reason, "\n".join(self.unproved()))
+
+    def test_all_is_bound(self):
+        self.assertEqual(self.unproved() + self.missing(), [])
+
+    def test_a_statement_without_a_field(self):
+        more = "\nabbrev pub Empty : Type 0\nEmpty = ⊥\n"
+        self.fails("Empty of crates/cups/specs is in no record", SPECS + "Cups.antt", CUPS + more)
+
+    def test_a_record_is_a_statement(self):
+        more = "\npub record Dry : Type 0 where\n  pub dry : ⊥\n"
+        self.fails("Dry of crates/cups/specs is in no record", SPECS + "Cups.antt", CUPS + more)
+
+    def test_a_field_in_a_comment(self):
+        less = STATEMENTS.replace("  pub full", "  -- pub full")
+        self.fails("Full of crates/cups/specs is in no record", SPECS + "Statements.antt", less)
+
+    def test_no_declaration(self):
+        self.fails("0 declarations", PROOFS + "Statements.antt", "-- none\n")
+
+    def test_a_declaration_in_a_comment(self):
+        shut = GIVEN.replace("pub statements", "{- pub statements") + "-}\n"
+        self.fails("0 declarations", PROOFS + "Statements.antt", shut)
+
+    def test_a_declaration_of_another_type(self):
+        other = GIVEN.replace(": Statements", ": Statements → Statements")
+        self.fails("0 declarations", PROOFS + "Statements.antt", other)
+
+    def test_a_record_of_its_own(self):
+        self.fails("0 declarations", PROOFS + "Statements.antt", "record Statements : Type 0 where\n\n" + GIVEN)
+
+    def test_an_axiom(self):
+        bare = GIVEN.replace("statements = record { full = full }\n", "")
+        self.fails("0 declarations", PROOFS + "Statements.antt", bare)
+
+    def test_a_file_that_is_not_declared(self):
+        self.fails("0 declarations", PROOFS + "Lib.antt", "-- pub mod Statements\n")
+        self.fails("has no record Statements", SPECS + "Lib.antt", "pub mod Cups\n")
+
+    def test_a_law_an_edit_and_a_path_that_are_gone(self):
+        for gone in ("full`", "half_full_twin*", "second/`"):
+            self.write("docs/PROMISES.md", PROMISES.replace(gone, "x" + gone))
+            self.assertEqual(len(self.missing()), 1)
+
+    def test_a_function_is_no_law(self):
+        self.write("crates/cups/src/lib.rt", "pub fn sip() {\n}\n")
+        self.write("docs/PROMISES.md", PROMISES.replace("law `full`", "contract of `sip`, laws of `cups`"))
+        self.assertEqual(self.missing(), [])
+        self.write("docs/PROMISES.md", PROMISES.replace("law `full`", "law `sip`, law `cups`"))
+        self.assertEqual(len(self.missing()), 2)
+
+    def test_a_law_of_a_file_that_is_not_declared(self):
+        self.write(SPECS + "Lib.antt", "pub mod Cups\n")
+        self.assertEqual(self.missing(), ["docs/PROMISES.md:3: there is no full"])
+
+
+if __name__ == "__main__":
+    unittest.main()
