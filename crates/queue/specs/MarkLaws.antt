@@ -19,13 +19,13 @@ dataOf = map (λ ch. ch .«data»)
 abbrev pub marksOf : List Character → List ℕ
 marksOf = map (λ ch. ch .marks)
 
--- ---- "the marks it showed" are cleared
+-- ---- which are cleared
 
 first-unmarked : (slots : List Character) → getD (set slots 0 (plain (getD slots 0 noCharacter))) 0 noCharacter .marks ≡ 0
 first-unmarked [] = refl
 first-unmarked (ch ∷ l) = refl
 
--- the oldest of any queue shows none after
+-- "the marks it showed" are cleared: the oldest of any queue shows none after
 pub unmark-clears : (q : Queue) → oldest (unmarked q) .marks ≡ 0
 unfolding oldest unmarked
 unmark-clears q =
@@ -43,7 +43,7 @@ pub unmark-data : (l : List Character) → dataOf (contents (unmarked (holding l
 unmark-data [] = ap (λ (q : Queue). dataOf (contents q)) unmark-none
 unmark-data (ch ∷ l) = ap (λ (q : Queue). dataOf (contents q)) (unmark-oldest ch l) ∙ ap dataOf (contents-of (plain ch ∷ l))
 
--- ---- "some queued character has a mark"
+-- ---- when there is one
 
 or-true : (b : Bool) → (b || true) ≡ true
 or-true true = refl
@@ -54,7 +54,7 @@ unfolding anyMarked
 one-marked [] ch after has = rw (ne-eqb _ _ has)
 one-marked (b ∷ before) ch after has = rw (one-marked before ch after has) (or-true (not (eqb (b .marks) 0)))
 
--- one is enough, wherever it stands
+-- "some queued character has a mark": one is enough, wherever it stands
 pub marked-one : (before : List Character) (ch : Character) (after : List Character) → (ch .marks ≡ 0 → ⊥)
     → marked (holding (before ++ (ch ∷ after))) ≡ true
 marked-one before ch after has = marked-is (before ++ (ch ∷ after)) ∙ one-marked before ch after has

@@ -28,7 +28,7 @@ abbrev pub foundFull : Bool → Queue → List Character → ℕ
 foundFull fifo q [] = 0
 foundFull fifo q (ch ∷ l) = pick (accepted fifo q ch .full) 1 0 + foundFull fifo (accepted fifo q ch .queue) l
 
--- ---- FIFO mode, "queues of 16"
+-- ---- FIFO mode
 
 fifo-run : (k l : List Character) → length k ≤ 16
     → (acceptedAll true (holding k) l ≡ holding (take 16 (k ++ l))) × (foundFull true (holding k) l ≡ length k + length l - 16)
@@ -54,7 +54,7 @@ fifo-run k (ch ∷ l) fits =
     ))
     (either-way (ltb (length k) 16))
 
--- the first 16 are held, in order
+-- "FIFO mode, queues of 16": the first 16 are held, in order
 pub first-16-held : (l : List Character) → acceptedAll true emptyQueue l ≡ holding (take 16 l)
 first-16-held l = fifo-run [] l (omega arith) .0
 
@@ -62,7 +62,7 @@ first-16-held l = fifo-run [] l (omega arith) .0
 pub told-past-16 : (l : List Character) → foundFull true emptyQueue l ≡ length l - 16
 told-past-16 l = fifo-run [] l (omega arith) .1 ∙ omega arith
 
--- ---- 16450 mode, "queues of 1"
+-- ---- 16450 mode
 
 one-run : (held : Character) (l : List Character) (ch : Character) → acceptedAll false (holding (held ∷ [])) (l ++ (ch ∷ [])) ≡ holding (ch ∷ [])
 one-run held [] ch = ap (λ (p : Put). p .queue) (accept-replaced held ch)
@@ -78,7 +78,7 @@ first-in : (ch : Character) → accepted false emptyQueue ch ≡ record { queue 
 unfolding capacity pick
 first-in ch = accept-room false [] ch (omega arith)
 
--- the last alone is held
+-- "16450 mode, queues of 1": the last alone is held
 pub last-held : (l : List Character) (ch : Character) → acceptedAll false emptyQueue (l ++ (ch ∷ [])) ≡ holding (ch ∷ [])
 last-held [] ch = ap (λ (p : Put). p .queue) (first-in ch)
 last-held (first ∷ l) ch = ap (λ (p : Put). acceptedAll false (p .queue) (l ++ (ch ∷ []))) (first-in first) ∙ one-run first l ch

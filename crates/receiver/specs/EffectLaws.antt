@@ -25,9 +25,9 @@ use Rattle.receiver.specs.WaitingLaws.{wait-none, times-out}
 use Rattle.receiver.specs.Sound.{soundReceiver}
 use Rattle.receiver.specs.SoundLaws.{parts}
 
--- ---- LSR read: "A read clears overrun, and the marks it showed, after answering."
+-- ---- LSR read
 
--- in both modes, of any receive side: a second read shows neither
+-- "A read clears overrun, and the marks it showed, after answering." Of any receive side, in both modes: a second read shows neither
 pub look-again : (fifo : Bool) (r : Receiver) → (shownMarks fifo (looked fifo r) ≡ 0) × (looked fifo r .overrun ≡ false)
 unfolding shownMarks looked pick
 look-again true r = (unmark-clears (r .queue), refl)
@@ -103,8 +103,9 @@ power-up-shows-none false = (refl, refl)
 pub first-read : got quiet .byte ≡ 0
 first-read = ap (λ (g : Got). g .byte) (read-none quiet refl)
 
--- ---- "sets the time-out count to 0", "The time-out count becomes 0": four character times must pass anew
+-- ---- four character times must pass anew
 
+-- "RBR read takes the oldest character and sets the time-out count to 0."
 pub read-counts-anew : (r : Receiver) (ch next : Character) (l : List Character) (n : ℕ) → r .queue ≡ holding (ch ∷ next ∷ l) → length l < 15
     → timeoutStands (waits true n (got r .receiver)) ≡ leb 4 n
 read-counts-anew r ch next l n held fits =
@@ -128,6 +129,7 @@ arrival-held r (first ∷ l) ch n held fits =
     times-out (received true r ch) first l (ap (λ (s : Receiver). s .queue) e) (ap (λ (s : Receiver). s .timeout) e) n)
     (either-way (ltb (length (first ∷ l)) 16))
 
+-- "The time-out count becomes 0."
 pub arrival-counts-anew : (r : Receiver) (ch : Character) (n : ℕ) → soundReceiver true r ≡ true
     → timeoutStands (waits true n (received true r ch)) ≡ leb 4 n
 arrival-counts-anew r ch n sound =

@@ -34,8 +34,9 @@ none-waiting-leaves t k held =
     let one : suc k ≡ 1 + k = omega arith in
     ap (λ (n : ℕ). sending n t) one ∙ waiting-leaves [] t k (omega arith) held
 
--- ---- "queues and shift register empty", "flags, marks and counts 0": at power-up there is nothing to send, and nothing to tell
+-- ---- power-up
 
+-- "queues and shift register empty": there is nothing to send
 pub power-up-idle : (k : ℕ) → sending k still ≡ replicate k Idle
 unfolding sending pick
 power-up-idle zero = refl
@@ -48,10 +49,11 @@ flag-clear (suc k) t held =
     let e = shift-none t held in
     flag-clear k (shifted t) (ap (λ (u : Transmitter). u .queue) e) ∙ ap (λ (u : Transmitter). u .flag) e
 
+-- "flags, marks and counts 0": nor is there anything to tell
 pub power-up-tells-nothing : (k : ℕ) → afterTimes k still .flag ≡ false
 power-up-tells-nothing k = flag-clear k still refl
 
--- ---- "The shift register stays": emptied, a send side still sends what had left its queue, and nothing of what waited
+-- ---- emptied
 
 empty-after : (t : Transmitter) → emptied t .queue ≡ holding []
 unfolding emptied flagSetIf
@@ -61,10 +63,11 @@ leaving-after : (t : Transmitter) → leaving (emptied t) ≡ leaving t
 unfolding emptied flagSetIf
 leaving-after t = pick-through leaving _ _ _ ∙ pick-same _ (leaving t)
 
+-- "The shift register stays": what had left the queue is still sent, and nothing of what waited
 pub emptied-leaves : (t : Transmitter) (k : ℕ) → sending (suc k) (emptied t) ≡ leaving t ∷ replicate k Idle
 emptied-leaves t k = none-waiting-leaves (emptied t) k (empty-after t) ∙ ap (λ (a : Answer). a ∷ replicate k Idle) (leaving-after t)
 
--- ---- "Full: 16450 mode replaces, FIFO mode drops it": any number of bytes, written to an idle send side
+-- ---- any number of bytes, written to an idle send side
 
 written-queue : (fifo : Bool) (t : Transmitter) (bytes : List ℕ) → writtenAll fifo t bytes .queue ≡ acceptedAll fifo (t .queue) (map toSend bytes)
 unfolding writtenAll written
@@ -82,7 +85,7 @@ some-of zero bytes = refl
 some-of (suc n) [] = refl
 some-of (suc n) (byte ∷ bytes) = ap (λ (l : List Character). toSend byte ∷ l) (some-of n bytes)
 
--- FIFO mode: the first 16 leave
+-- "FIFO mode drops it": the first 16 leave
 pub sends-first-16 : (t : Transmitter) → soundTransmitter true t ≡ true → allSent t ≡ true → (bytes : List ℕ) (k : ℕ)
     → sending (suc (length (take 16 bytes)) + k) (writtenAll true t bytes) ≡ Idle ∷ (map Sent (take 16 bytes) ++ replicate k Idle)
 sends-first-16 t sound idle bytes k =
@@ -93,7 +96,7 @@ sends-first-16 t sound idle bytes k =
     waiting-leaves (take 16 bytes) (writtenAll true t bytes) k (omega (arith, length-take 16 bytes)) held
     ∙ ap (λ (a : Answer). a ∷ (map Sent (take 16 bytes) ++ replicate k Idle)) (written-leaving true t bytes ∙ pick-false _ _ _ (start .1))
 
--- 16450 mode: the last alone leaves
+-- "Full: 16450 mode replaces": the last alone leaves
 pub sends-last : (t : Transmitter) → soundTransmitter false t ≡ true → allSent t ≡ true → (bytes : List ℕ) (byte k : ℕ)
     → sending (2 + k) (writtenAll false t (bytes ++ (byte ∷ []))) ≡ Idle ∷ Sent byte ∷ replicate k Idle
 sends-last t sound idle bytes byte k =
