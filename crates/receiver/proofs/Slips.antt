@@ -1,9 +1,7 @@
 -- Closed instances of laws, each false under a slip of `must-fail`, which names it.
 use Prim.Native.Nat.{ℕ}
 use mathlib.Core.Bool.{true, false}
-use mathlib.Core.List.{[], _∷_}
 use mathlib.Core.Path.{_≡_, refl}
-use lib.Bits.{bitOr}
 use Rattle.base.specs.Pick.{pick}
 use Rattle.queue.specs.declared.Character.{Character}
 use Rattle.queue.specs.Queue.{room, entered, replaced, capacity, accepted, movedDown, taken}

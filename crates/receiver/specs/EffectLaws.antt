@@ -18,7 +18,8 @@ use Rattle.queue.specs.MarkLaws.{unmark-clears}
 use Rattle.queue.specs.CanonicalLaws.{holds}
 use Rattle.receiver.specs.declared.Receiver.{Receiver}
 use Rattle.receiver.specs.declared.Got.{Got}
-use Rattle.receiver.specs.Receiver.{quiet, noneQueued, received, got, shownMarks, someMarked, looked, waited, cleared, turned, restarted, dataStands, timeoutStands}
+use Rattle.receiver.specs.Receiver.{quiet, noneQueued, received, got, shownMarks, someMarked, looked, waited, cleared, turned, restarted}
+use Rattle.receiver.specs.Receiver.{dataStands, timeoutStands}
 use Rattle.receiver.specs.CallLaws.{none-queued, arrive-fifo, arrive-fifo-full, read-oldest, read-none}
 use Rattle.receiver.specs.Waiting.{waits}
 use Rattle.receiver.specs.WaitingLaws.{wait-none, times-out}

@@ -1,12 +1,10 @@
 -- Closed instances of laws, each false under a slip of `must-fail`, which names it.
-use Prim.Native.Nat.{ℕ}
 use mathlib.Core.Bool.{true, false}
-use mathlib.Core.List.{List, [], _∷_, map}
+use mathlib.Core.List.{[], _∷_, map}
 use mathlib.Core.Path.{_≡_, refl}
 use Rattle.base.specs.Pick.{pick}
 use Rattle.base.specs.Answers.{valueOf}
 use Rattle.queue.specs.Queue.{room, entered, capacity, accepted, movedDown, taken}
-use Rattle.transmitter.specs.declared.Transmitter.{Transmitter}
 use Rattle.transmitter.specs.Transmitter.{still, noneWaiting, flagSetIf, written, emptied, next, shifted}
 use Rattle.transmitter.specs.Sending.{writtenAll, sending}
 

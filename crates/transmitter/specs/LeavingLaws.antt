@@ -2,7 +2,7 @@
 use Prim.Native.Nat.{ℕ, zero, suc, _+_, _≤_}
 use mathlib.Core.Bool.{Bool, true, false}
 use mathlib.Core.List.{List, [], _∷_, _++_, map, map-append}
-use mathlib.Core.Path.{_≡_, refl, ap, ap₂, sym, _∙_}
+use mathlib.Core.Path.{_≡_, refl, ap, _∙_}
 use native.Mathlib.Omega.{arith}
 use lib.ListN.{length, take, replicate, length-take}
 use Rattle.base.specs.Pick.{pick}
@@ -15,7 +15,7 @@ use Rattle.queue.specs.Queue.{emptyQueue}
 use Rattle.queue.specs.QueueLaws.{holding}
 use Rattle.queue.specs.RunLaws.{acceptedAll, first-16-held, last-held}
 use Rattle.transmitter.specs.declared.Transmitter.{Transmitter}
-use Rattle.transmitter.specs.Transmitter.{still, noneWaiting, allSent, flagSetIf, written, emptied, shifted}
+use Rattle.transmitter.specs.Transmitter.{still, allSent, flagSetIf, written, emptied, shifted}
 use Rattle.transmitter.specs.Sending.{toSend, writtenAll, leaving, sending, afterTimes}
 use Rattle.transmitter.specs.CallLaws.{shift-none}
 use Rattle.transmitter.specs.Sound.{soundTransmitter}
