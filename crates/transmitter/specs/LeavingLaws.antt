@@ -42,16 +42,17 @@ unfolding sending pick
 power-up-idle zero = refl
 power-up-idle (suc k) = none-waiting-leaves still k refl
 
-flag-clear : (k : ℕ) (t : Transmitter) → t .queue ≡ holding [] → afterTimes k t .flag ≡ t .flag
+-- nothing waits: the flag stays as it is
+flag-stays : (k : ℕ) (t : Transmitter) → t .queue ≡ holding [] → afterTimes k t .flag ≡ t .flag
 unfolding afterTimes
-flag-clear zero t held = refl
-flag-clear (suc k) t held =
+flag-stays zero t held = refl
+flag-stays (suc k) t held =
     let e = shift-none t held in
-    flag-clear k (shifted t) (ap (λ (u : Transmitter). u .queue) e) ∙ ap (λ (u : Transmitter). u .flag) e
+    flag-stays k (shifted t) (ap (λ (u : Transmitter). u .queue) e) ∙ ap (λ (u : Transmitter). u .flag) e
 
 -- "flags, marks and counts 0": nor is there anything to tell
 pub power-up-tells-nothing : (k : ℕ) → afterTimes k still .flag ≡ false
-power-up-tells-nothing k = flag-clear k still refl
+power-up-tells-nothing k = flag-stays k still refl
 
 -- ---- emptied
 
