@@ -3,3 +3,5 @@ pub mod QueueLaws
 pub mod CanonicalLaws
 pub mod FactsLaws
 pub mod AcceptLaws
+pub mod MarkLaws
+pub mod RunLaws

@@ -1,3 +1,4 @@
 pub mod Rates
 pub mod Row
 pub mod RatesLaws
+pub mod ListedLaws

@@ -100,6 +100,13 @@ marks-behind (first ∷ l) ch all small =
     let each = both-hold (ltb (first .marks) 8) (marksWithin l) all in
     rw (each .0) (marks-behind l ch (each .1) small)
 
+-- each of them is below 8
+pub marks-each : (before : List Character) (ch : Character) (after : List Character) → marksWithin (before ++ (ch ∷ after)) ≡ true → ch .marks < 8
+unfolding marksWithin
+marks-each [] ch after all = ltb-true _ _ (both-hold (ltb (ch .marks) 8) (marksWithin after) all .0)
+marks-each (first ∷ before) ch after all =
+    marks-each before ch after (both-hold (ltb (first .marks) 8) (marksWithin (before ++ (ch ∷ after))) all .1)
+
 -- what a canonical queue holds
 marks-held : (fifo : Bool) (q : Queue) (h : Holds (capacity fifo) q) → marksWithin (contents q) ≡ true → marksWithin (h .list) ≡ true
 marks-held fifo q h all = ap marksWithin (sym (contents-of (h .list)) ∙ ap contents (sym (h .same))) ∙ all

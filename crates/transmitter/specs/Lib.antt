@@ -4,3 +4,4 @@ pub mod Sending
 pub mod CallLaws
 pub mod SoundLaws
 pub mod SendingLaws
+pub mod LeavingLaws

@@ -79,7 +79,7 @@ stays-idle (suc k) t held idle =
     ap₂ (λ (a : Answer) (l : List Answer). a ∷ l) (leaves-idle t idle)
     (stays-idle k (shifted t) (ap (λ (u : Transmitter). u .queue) e) (ap (λ (u : Transmitter). u .busy) e))
 
-all-leave : (bytes : List ℕ) (t : Transmitter) (k : ℕ) → length bytes ≤ 16 → t .queue ≡ holding (map toSend bytes)
+pub all-leave : (bytes : List ℕ) (t : Transmitter) (k : ℕ) → length bytes ≤ 16 → t .queue ≡ holding (map toSend bytes)
     → sending (length bytes + k) (shifted t) ≡ map Sent bytes ++ replicate k Idle
 unfolding sending
 all-leave [] t k fits held =

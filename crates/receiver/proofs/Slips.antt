@@ -1,0 +1,42 @@
+-- Closed instances of laws, each false under a slip of `must-fail`, which names it.
+use Prim.Native.Nat.{ℕ}
+use mathlib.Core.Bool.{true, false}
+use mathlib.Core.Path.{_≡_, refl}
+use Rattle.base.specs.Pick.{pick}
+use Rattle.queue.specs.declared.Character.{Character}
+use Rattle.queue.specs.Queue.{room, entered, replaced, capacity, accepted, movedDown, taken}
+use Rattle.receiver.specs.declared.Receiver.{Receiver}
+use Rattle.receiver.specs.Receiver.{quiet, noneQueued, received, got, waited, turned, timeoutStands}
+use Rattle.receiver.specs.Waiting.{waits}
+
+abbrev ch : ℕ → ℕ → Character
+ch byte marks = record { «data» = byte; marks = marks }
+
+-- two characters in FIFO mode
+abbrev two : Receiver
+two = received true (received true quiet (ch 0x41 0)) (ch 0x42 0)
+
+-- "In 16450 mode marks are also added to kept marks."
+both-marks-kept : received false (received false quiet (ch 0x41 1)) (ch 0x42 2) .kept ≡ 3
+unfolding pick room entered replaced capacity accepted received
+both-marks-kept = refl
+
+-- "A changed bit 0 empties both"
+changed-mode-empties : noneQueued (turned two) ≡ true
+unfolding pick room entered capacity accepted noneQueued received turned
+changed-mode-empties = refl
+
+-- "RBR read takes the oldest character and sets the time-out count to 0."
+read-counts-from-0 : got (waits true 3 two) .receiver .timeout ≡ 0
+unfolding pick room entered capacity accepted movedDown taken noneQueued received got waited waits
+read-counts-from-0 = refl
+
+-- "in FIFO mode with a character in the receive queue the time-out count rises": never in 16450 mode
+no-count-in-16450-mode : waited false (received false quiet (ch 0x41 0)) .timeout ≡ 0
+unfolding pick room entered capacity accepted noneQueued received waited
+no-count-in-16450-mode = refl
+
+-- `times-out`: the fourth
+fourth-times-out : timeoutStands (waits true 4 two) ≡ true
+unfolding pick room entered capacity accepted noneQueued received waited waits timeoutStands
+fourth-times-out = refl
