@@ -1,7 +1,6 @@
 -- What the wrong programs of must-fail/ get wrong: closed runs, each false under the edit that names it.
-use Prim.Native.Nat.{ℕ}
-use mathlib.Core.Bool.{Bool, true, false}
-use mathlib.Core.List.{List, [], _∷_}
+use mathlib.Core.Bool.{false}
+use mathlib.Core.List.{[], _∷_}
 use mathlib.Core.Path.{_≡_, refl}
 use Rattle.base.specs.Pick.{pick}
 use Rattle.base.specs.Bits.{bit}
@@ -9,25 +8,12 @@ use Rattle.base.specs.Answers.{valueOf}
 use Rattle.base.specs.Refusals.{firstHeld}
 use Rattle.rank.specs.Rank.{aboveEvery, find, firstPlace}
 use Rattle.controller.specs.State.{powerUp}
-use Rattle.controller.specs.Signals.{Signal, levels, read, write, acknowledge}
+use Rattle.controller.specs.Signals.{levels, read, write, acknowledge}
 use Rattle.controller.specs.Turns.{settled, requests, asks, hinders, grantable, outputOf, found, granted, taken, grant, acknowledged}
 use Rattle.controller.specs.Words.{icw1, icw2, icw4, ended, madeLast, served, plainEnd, rotatingEnd, command, ocw2, ocw3, written0, written1, written, shown}
 use Rattle.controller.specs.Refusals.{refusal}
 use Rattle.controller.specs.Steps.{step}
-use Rattle.controller.specs.declared.Controller.{Controller}
-
-run : Controller → List Signal → Controller
-run c [] = c
-run c (s ∷ l) = run (step c s .controller) l
-
--- what the signals are answered with, as document 01's values
-told : Controller → List Signal → List ℕ
-told c [] = []
-told c (s ∷ l) = valueOf (step c s .answer) ∷ told (step c s .controller) l
-
--- base 40, edge mode, with this ICW4
-start : ℕ → Controller
-start icw4 = run powerUp (write 0 0x13 ∷ write 1 0x40 ∷ write 1 icw4 ∷ [])
+use Rattle.controller.proofs.Runs.{run, told, start}
 
 -- `granted-effect`, its latch, and `spurious-effect`: line 3 rises once and is granted once
 grant-clears-its-latch : told (start 0x03) (levels 0b1000 ∷ acknowledge ∷ acknowledge ∷ []) ≡ 0 ∷ 0x43 ∷ 0x147 ∷ []

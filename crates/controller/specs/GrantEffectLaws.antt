@@ -16,9 +16,7 @@ use Rattle.controller.specs.GrantableLaws.{Grantable, FirstRanked, grant
 use Rattle.controller.specs.OutputLaws.{step-acknowledge}
 use Rattle.controller.specs.Steps.{step}
 use Rattle.controller.specs.declared.Controller.{Controller}
-use Rattle.controller.specs.declared.Operation.{Operation}
 use Rattle.controller.specs.declared.Stepped.{Stepped}
-use Rattle.controller.specs.declared.Turn.the-variants.{Nobody}
 
 pub record Granted (n : ℕ) (c : Controller) (s : Stepped) : Type 0 where
   -- "vector base + line"

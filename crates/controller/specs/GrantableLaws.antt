@@ -1,7 +1,7 @@
 -- Who is grantable, who hinders and who is first-ranked, in the words of document 01 over the fields alone; and the output by them.
 use Prim.Native.Nat.{ℕ, _<_, _≤_}
 use mathlib.Core.Bool.{Bool, true, false, not, _&&_}
-use mathlib.Core.Path.{_≡_, refl, sym, ap, ap₂, _∙_, subst}
+use mathlib.Core.Path.{_≡_, refl, sym, ap, ap₂, _∙_}
 use mathlib.Core.Logic.{⊎-elim}
 use native.Mathlib.Nat.{le-antisymm}
 use borrow.Author.Tests.{eq-eqb}
@@ -12,7 +12,7 @@ use Rattle.rank.specs.Rank.{place}
 use Rattle.rank.specs.RankLaws.{place-apart}
 use Rattle.controller.specs.State.{ready}
 use Rattle.controller.specs.Turns.{requests, asks, hinders, grantable, outputOf, granted}
-use Rattle.controller.specs.GrantLaws.{Foremost, Finds, foremost, nobody, granted-first, grantable-parts, grantable-by}
+use Rattle.controller.specs.GrantLaws.{Finds, foremost, nobody, granted-first, grantable-parts, grantable-by}
 use Rattle.controller.specs.LineLaws.{stands-level, stands-edge}
 use Rattle.controller.specs.declared.Controller.{Controller}
 use Rattle.controller.specs.declared.Operation.{Operation}

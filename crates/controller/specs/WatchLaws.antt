@@ -6,7 +6,7 @@ use Rattle.base.specs.PickLaws.{pick-true, pick-false}
 use Rattle.base.specs.declared.Answer.the-variants.{Byte, Done}
 use Rattle.rank.specs.Sets.{has}
 use Rattle.controller.specs.Signals.{levels, read, write}
-use Rattle.controller.specs.Turns.{settled, requests}
+use Rattle.controller.specs.Turns.{requests}
 use Rattle.controller.specs.RefusalLaws.{step-levels}
 use Rattle.controller.specs.MoveLaws.{latch-lines}
 use Rattle.controller.specs.FrameLaws.{settled-levels}
