@@ -108,8 +108,9 @@ module _ (first : ℕ) (test : ℕ → Bool) (Kind : ℕ → Type 0) (told : (m 
   finds-none t (foremost k f) none = absurd (none k (f .small) (told k (f .passes)))
   finds-none t (nobody f) none = refl
 
--- ---- "The output is high exactly if ready and some line is grantable."
+-- ---- the output
 
+-- "The output is high exactly if ready and some line is grantable."
 pub output-raised : (c : Controller) (n : ℕ) → c .setup .stage ≡ 3 → n < 8 → Grantable c n → outputOf c ≡ true
 unfolding outputOf
 output-raised c n up small g = ap₂ _&&_ (eq-eqb (c .setup .stage) 3 up) (one-some (grantable c) n small (grantable-from c n g))

@@ -51,13 +51,13 @@ watched c high =
       operation = w .2;
     })
 
--- ---- "Port 0 reads the standing requests, masked or not, or in-service."
+-- ---- what port 0 and port 1 show
 
 module _ (c : Controller) (up : c .setup .stage ≡ 3) (chosen : c .operation .selected ≡ false) where
   shows : (s : ℕ) → requests c ≡ s → step c (read 0) ≡ record { controller = c; answer = Byte s }
   shows s e = read-requests c up chosen ∙ ap (λ (x : ℕ). record { controller = c; answer = Byte x }) e
 
-  -- line n is bit n of the byte (`has-bit`): high in level mode, latched in edge mode; no mask is looked at
+  -- "Port 0 reads the standing requests, masked or not": line n is bit n of the byte (`has-bit`), high in level mode, latched in edge mode
   pub read-level : c .setup .level ≡ true → step c (read 0) ≡ record { controller = c; answer = Byte (c .lines .levels) }
   unfolding requests
   read-level e = shows (c .lines .levels) (pick-true (c .setup .level) (c .lines .levels) (c .lines .latches) e)
