@@ -1,5 +1,5 @@
 -- What the wrong programs of must-fail/ get wrong: closed runs, each false under the edit that names it.
-use mathlib.Core.Bool.{false}
+use mathlib.Core.Bool.{Bool, true, false}
 use mathlib.Core.List.{[], _∷_}
 use mathlib.Core.Path.{_≡_, refl}
 use Rattle.base.specs.Pick.{pick}
