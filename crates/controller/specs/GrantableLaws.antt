@@ -96,7 +96,8 @@ module _ (c : Controller) (n : ℕ) where
 
 -- ---- what a search finds is the first-ranked, and nobody where there is none
 
-module _ (first : ℕ) (test : ℕ → Bool) (Kind : ℕ → Type 0) (told : (m : ℕ) → test m ≡ true → Kind m) (from : (m : ℕ) → Kind m → test m ≡ true) where
+module _ (first : ℕ) (test : ℕ → Bool) (Kind : ℕ → Type 0)
+    (told : (m : ℕ) → test m ≡ true → Kind m) (from : (m : ℕ) → Kind m → test m ≡ true) where
   pub finds-first : (n : ℕ) (t : Turn) → Finds first test t → FirstRanked first Kind n → t ≡ Line n
   finds-first n t (foremost k f) r =
       let same : place first k ≡ place first n =
