@@ -1,4 +1,4 @@
--- The words by their bytes: initialisation from any state, the table of OCW2, OCW3, and the mask both ways.
+-- Which word a byte is, at each port and stage, and what it then does by the definitions; initialisation from any state.
 use Prim.Native.Nat.{ℕ, _*_, _/_, _%_}
 use mathlib.Core.Bool.{Bool, true, false, not, _&&_, _||_}
 use mathlib.Core.Path.{_≡_, refl, ap, _∙_}
@@ -154,18 +154,3 @@ commands o n =
       rotation-off = refl;
       no-command = refl;
     }
-
--- OCW3 by its bytes: 68 and 48 for special mask, 0B and 0A for the selection; each leaves the rest, and both halves act in one word
-pub record Selections (o : Operation) : Type 0 where
-  pub special-on : ocw3 o 0x68 ≡ record { mask = o .mask; service = o .service; first = o .first; rotation = o .rotation; special = true; selected = o .selected }
-  pub special-off : ocw3 o 0x48 ≡ record { mask = o .mask; service = o .service; first = o .first; rotation = o .rotation; special = false; selected = o .selected }
-  pub in-service : ocw3 o 0x0B ≡ record { mask = o .mask; service = o .service; first = o .first; rotation = o .rotation; special = o .special; selected = true }
-  pub neither : ocw3 o 0x08 ≡ o
-  pub half-words : ocw3 o 0x29 ≡ o
-  pub both : ocw3 o 0x6B ≡ record { mask = o .mask; service = o .service; first = o .first; rotation = o .rotation; special = true; selected = true }
-  pub bit-7 : ocw3 o 0xCA ≡ record { mask = o .mask; service = o .service; first = o .first; rotation = o .rotation; special = false; selected = false }
-  pub requested : ocw3 o 0x0A ≡ record { mask = o .mask; service = o .service; first = o .first; rotation = o .rotation; special = o .special; selected = false }
-
-pub selections : (o : Operation) → Selections o
-unfolding ocw3 pick bit
-selections o = record { special-on = refl; special-off = refl; in-service = refl; requested = refl; neither = refl; half-words = refl; both = refl; bit-7 = refl }

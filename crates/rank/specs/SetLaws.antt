@@ -20,6 +20,10 @@ line-lt n = mod-lt n (zero-lt-suc 7)
 pub line-same : (n : ℕ) → n < 8 → line n ≡ n
 line-same n small = omega arith
 
+-- line n is bit n of the byte
+pub has-bit : (s n : ℕ) → n < 8 → has s n ≡ bit n s
+has-bit s n small = ap (λ (k : ℕ). bit k s) (line-same n small)
+
 pub has-line : (s n : ℕ) → has s (line n) ≡ has s n
 has-line s n = let e : n % 8 % 8 ≡ n % 8 = omega arith in ap (λ (k : ℕ). bit k s) e
 
