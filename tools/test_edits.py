@@ -22,7 +22,8 @@ FALSE_TEST = AT + """expected type `lit ≡ true`, but this has type `lit ≡ li
   computed as far as they go, the two types are `Path Bool false true` (expected) and `Path Bool false false` (found)
 """
 FALSE_LIST = AT + """as printed, the two types differ only where one has `256 ∷ 512 ∷ []` (expected)
-  computed as far as they go, the two types differ only where one has `[]` (expected) and the other has `768 ∷ []` (found)
+  computed as far as they go, the two types differ only where one has `[]`
+  (expected) and the other has `768 ∷ []` (found)
 """
 BROKEN_SCRIPT = """specs/LampLaws.antt:9:1: error: `lamp-lit`: expected type `lit ≡ on`, but this has type `on ≡ lit`
 fn lamp::shine: not proved
