@@ -1,6 +1,5 @@
 -- What is right where an edit of must-fail/ goes wrong: closed runs from power-up, each false under the edit that names it.
 use Prim.Native.Nat.{ℕ}
-use mathlib.Core.Bool.{false}
 use mathlib.Core.List.{List, [], _∷_}
 use mathlib.Core.Path.{_≡_, refl}
 use Rattle.base.specs.Pick.{pick}
@@ -39,7 +38,7 @@ unfolding told stepped refusal grounds firstHeld registerAbove noDivisor arrival
 flag-outlives-04 = refl
 
 -- "The seat's line is high exactly if a cause is named and MCR bit 3 is set.": with no cause it is low. Of `line-high`
-line-low-with-no-cause : line (stepped powerUp (Write 4 0x08) .channel) ≡ false
+line-low-with-no-cause : digit (line (stepped powerUp (Write 4 0x08) .channel)) ≡ 0
 unfolding stepped refusal grounds firstHeld registerAbove noDivisor arrivalWrong levelsAbove loopAsked effect registerAt plainRegister pick bit digit bits afterWrite line cause causes firstCause
 line-low-with-no-cause = refl
 

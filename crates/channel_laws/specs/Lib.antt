@@ -6,6 +6,9 @@ pub mod ResetLaws
 pub mod WireLaws
 pub mod SoundLaws
 pub mod SoundStepLaws
+pub mod Shown
+pub mod NumberLaws
+pub mod AgainLaws
 pub mod SideLaws
 pub mod AnswerLaws
 pub mod Sends
