@@ -98,10 +98,10 @@ module _ (c : Channel) where
   -- ---- IIR
 
   -- the code that a read names
-  abbrev named : ℕ
+  abbrev pub named : ℕ
   named = shown c 2 % 16
 
-  named-is : named ≡ cause c
+  pub named-is : named ≡ cause c
   named-is = ap (λ (n : ℕ). n % 16) (shows-iir c) ∙ iir-cause c
 
   -- "A read that named 02 clears that flag.": it is set after exactly if it was set and not named, and nothing else of the channel changes

@@ -9,6 +9,8 @@ pub mod SoundStepLaws
 pub mod Shown
 pub mod NumberLaws
 pub mod AgainLaws
+pub mod LevelLaws
+pub mod EmptyingLaws
 pub mod SideLaws
 pub mod AnswerLaws
 pub mod Sends
