@@ -12,6 +12,8 @@ pub mod AgainLaws
 pub mod LevelLaws
 pub mod EmptyingLaws
 pub mod SideLaws
+pub mod ShiftLaws
+pub mod FlagLaws
 pub mod AnswerLaws
 pub mod Sends
 pub mod SendingLaws
