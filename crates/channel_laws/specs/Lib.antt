@@ -14,6 +14,7 @@ pub mod EmptyingLaws
 pub mod SideLaws
 pub mod ShiftLaws
 pub mod FlagLaws
+pub mod QueuedLaws
 pub mod AnswerLaws
 pub mod Sends
 pub mod SendingLaws
