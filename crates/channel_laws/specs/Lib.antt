@@ -18,3 +18,5 @@ pub mod QueuedLaws
 pub mod AnswerLaws
 pub mod Sends
 pub mod SendingLaws
+pub mod HearingLaws
+pub mod DrainLaws
