@@ -28,7 +28,7 @@ use Rattle.channel.specs.Steps.{stepped}
 use Rattle.channel_laws.specs.RefusalLaws.{undivided}
 use Rattle.channel_laws.specs.WireLaws.{sent, idle}
 use Rattle.channel_laws.specs.SideLaws.{thr-writes, time-shifts}
-use Rattle.channel_laws.specs.QueuedLaws.{places, joined, thr-joins}
+use Rattle.channel_laws.specs.QueuedLaws.{places, joined, joined-fits, thr-joins}
 use Rattle.channel_laws.specs.Shown.{after}
 use Rattle.channel_laws.specs.Sends.{answersTo}
 
@@ -101,15 +101,14 @@ module _ (c : Channel) (byte : ℕ) (plain : bit 7 (c .settings .lcr) ≡ false)
   abbrev waiting : List Character
   waiting = joined (fifo c) l (toSend byte)
 
-  pub thr-leaves : length waiting ≤ 16 → undivided c ≡ false → bit 6 (c .settings .lcr) ≡ false → (k : ℕ)
+  pub thr-leaves : undivided c ≡ false → bit 6 (c .settings .lcr) ≡ false → (k : ℕ)
       → answersTo c (Write 0 byte ∷ replicate (suc (length waiting) + k) Time)
       ≡ Done ∷ onTheWire c ∷ (map (λ (ch : Character). Sent (cut (c .settings .lcr) (ch .«data»))) waiting ++ replicate k Idle)
   unfolding answersTo written
-  thr-leaves fits going clear k =
+  thr-leaves going clear k =
       let did = thr-writes c plain byte in
       let later = after c (Write 0 byte) in
-      let still : later .settings ≡ c .settings = ap (λ (s : Stepped). s .channel .settings) did in
       ap₂ (λ (a : Answer) (rest : List Answer). a ∷ rest) (ap (λ (s : Stepped). s .answer) did)
-      (drains waiting later (thr-joins c byte plain l held within) fits
+      (drains waiting later (thr-joins c byte plain l held within) (joined-fits (fifo c) l (toSend byte) within)
       (ap (λ (s : Stepped). undivided (s .channel)) did ∙ going) (ap (λ (s : Stepped). bit 6 (s .channel .settings .lcr)) did ∙ clear) k
       ∙ ap (λ (s : Stepped). onTheWire (s .channel) ∷ (map (sentOf (s .channel .settings .lcr)) waiting ++ replicate k Idle)) did)

@@ -22,7 +22,7 @@ use Rattle.channel.specs.Parts.{withReceiver, fifo}
 use Rattle.channel.specs.Steps.{stepped}
 use Rattle.channel_laws.specs.RefusalLaws.{accepts}
 use Rattle.channel_laws.specs.SideLaws.{arrival-received, rbr-gets}
-use Rattle.channel_laws.specs.QueuedLaws.{places, joined, arrival-joins}
+use Rattle.channel_laws.specs.QueuedLaws.{places, joined, joined-fits, arrival-joins}
 use Rattle.channel_laws.specs.Shown.{after}
 use Rattle.channel_laws.specs.Sends.{answersTo}
 
@@ -90,14 +90,15 @@ module _ (c : Channel) (marks byte : ℕ) (served : accepts c (Arrival marks byt
   abbrev waiting : List Character
   waiting = joined (fifo c) l (record { «data» = byte; marks = marks })
 
-  pub arrival-read : length waiting ≤ 16 → (k : ℕ)
+  pub arrival-read : (k : ℕ)
       → answersTo c (Arrival marks byte ∷ reading (length waiting + k))
       ≡ Done ∷ (map byteOf waiting ++ replicate k (Byte (lastRead (c .receiver .last) waiting)))
   unfolding answersTo received
-  arrival-read fits k =
+  arrival-read k =
       let did = arrival-received c marks byte served in
       let still : bit 7 (after c (Arrival marks byte) .settings .lcr) ≡ false = ap (λ (s : Stepped). bit 7 (s .channel .settings .lcr)) did ∙ plain in
       let last : after c (Arrival marks byte) .receiver .last ≡ c .receiver .last = ap (λ (s : Stepped). s .channel .receiver .last) did in
       ap₂ (λ (a : Answer) (rest : List Answer). a ∷ rest) (ap (λ (s : Stepped). s .answer) did)
-      (reads-give waiting (after c (Arrival marks byte)) still (arrival-joins c marks byte served l held within) fits k
+      (reads-give waiting (after c (Arrival marks byte)) still (arrival-joins c marks byte served l held within)
+      (joined-fits (fifo c) l (record { «data» = byte; marks = marks }) within) k
       ∙ ap (λ (b : ℕ). map byteOf waiting ++ replicate k (Byte (lastRead b waiting))) last)

@@ -20,3 +20,4 @@ pub mod Sends
 pub mod SendingLaws
 pub mod HearingLaws
 pub mod DrainLaws
+pub mod TimeOutLaws

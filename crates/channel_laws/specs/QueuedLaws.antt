@@ -17,7 +17,7 @@ use Rattle.queue.specs.declared.Queue.{Queue}
 use Rattle.queue.specs.declared.Put.{Put}
 use Rattle.queue.specs.Queue.{noCharacter, capacity, accepted, oldest, anyMarked, marked}
 use Rattle.queue.specs.QueueLaws.{holding, oldest-is, oldest-none, marked-is}
-use Rattle.queue.specs.AcceptLaws.{accept-cases}
+use Rattle.queue.specs.AcceptLaws.{capacity-small, accept-cases}
 use Rattle.receiver.specs.Receiver.{received}
 use Rattle.receiver.specs.CallLaws.{arrive-overrun}
 use Rattle.transmitter.specs.Transmitter.{written}
@@ -71,6 +71,23 @@ module _ (mode : Bool) (l : List Character) (ch : Character) (within : length l 
       ap (λ (q : List Character). eqb (length q) 0) (joined-full mode l ch more ∙ pick-true _ _ _ on)
       ∙ ne-eqb _ _ (λ (e : length l ≡ 0). omega arith))
       (λ old more off one. ap (λ (q : List Character). eqb (length q) 0) (joined-full mode l ch more ∙ pick-false _ _ _ off))
+
+  -- nor longer than the queue
+  pub joined-fits : length (joined mode l ch) ≤ 16
+  unfolding capacity pick
+  joined-fits =
+      let most : places mode ≤ 16 = capacity-small mode in
+      accept-cases mode l ch (λ (p : Put). length (joined mode l ch) ≤ 16) within
+      (λ less.
+      let n : length (l ++ (ch ∷ [])) ≡ suc (length l) = length-append l (ch ∷ []) ∙ add-one (length l) in
+      let e : length (joined mode l ch) ≡ length (l ++ (ch ∷ [])) = ap length (joined-room mode l ch less) in
+      omega arith)
+      (λ more on.
+      let e : length (joined mode l ch) ≡ length l = ap length (joined-full mode l ch more ∙ pick-true _ _ _ on) in
+      omega arith)
+      (λ old more off one.
+      let e : length (joined mode l ch) ≡ 1 = ap length (joined-full mode l ch more ∙ pick-false _ _ _ off) in
+      omega arith)
 
 -- ---- what LSR shows of a receive queue
 
