@@ -13,8 +13,10 @@ use Rattle.base.specs.Bits.{bit}
 use Rattle.base.specs.Answers.{valueOf}
 use Rattle.queue.specs.declared.Character.{Character}
 use Rattle.queue.specs.declared.Queue.{Queue}
-use Rattle.queue.specs.Queue.{marked, anyMarked}
+use Rattle.queue.specs.Queue.{plain, anyMarked}
 use Rattle.queue.specs.QueueLaws.{holding}
+use Rattle.receiver.specs.Receiver.{looked}
+use Rattle.receiver.specs.CallLaws.{look-fifo, look-16450}
 use Rattle.channel.specs.declared.Channel.{Channel}
 use Rattle.channel.specs.declared.Stepped.{Stepped}
 use Rattle.channel.specs.declared.SeatEvent.the-variants.{Read}
@@ -94,6 +96,29 @@ module _ (c : Channel) where
   pub lsr-twice-marked : fifo c ≡ true → (ch : Character) (l : List Character) → c .receiver .queue ≡ holding (ch ∷ l)
       → bit 7 (shown (after c (Read 5)) 5) ≡ anyMarked l
   lsr-twice-marked mode ch l held = ap (bit 7) again-lsr ∙ lsr-again-marked c mode ch l held
+
+  -- what an LSR read leaves of the receive side in FIFO mode: the oldest without its marks, the others as they were, and overrun cleared
+  pub lsr-leaves-fifo : fifo c ≡ true → (ch : Character) (l : List Character) → c .receiver .queue ≡ holding (ch ∷ l)
+      → after c (Read 5) .receiver
+      ≡ record {
+        queue = holding (plain ch ∷ l);
+        overrun = false;
+        kept = c .receiver .kept;
+        timeout = c .receiver .timeout;
+        last = c .receiver .last;
+      }
+  unfolding lsrRead
+  lsr-leaves-fifo mode ch l held =
+      ap (λ (s : Stepped). s .channel .receiver) (read-lsr c) ∙ ap (λ (m : Bool). looked m (c .receiver)) mode
+      ∙ look-fifo (c .receiver) ch l held .1
+
+  -- and in 16450 mode: the queue with all its marks, and neither overrun nor kept marks
+  pub lsr-leaves-16450 : fifo c ≡ false
+      → after c (Read 5) .receiver
+      ≡ record { queue = c .receiver .queue; overrun = false; kept = 0; timeout = c .receiver .timeout; last = c .receiver .last }
+  unfolding lsrRead
+  lsr-leaves-16450 mode =
+      ap (λ (s : Stepped). s .channel .receiver) (read-lsr c) ∙ ap (λ (m : Bool). looked m (c .receiver)) mode ∙ look-16450 (c .receiver) .1
 
   -- ---- IIR
 

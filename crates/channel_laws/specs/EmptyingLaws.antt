@@ -33,7 +33,7 @@ use Rattle.channel.specs.Effects.{fcrWritten, afterWrite}
 use Rattle.channel.specs.Steps.{stepped}
 use Rattle.channel.specs.StatusLaws.{lsr-data, lsr-overrun, lsr-kept, lsr-oldest, lsr-empty, lsr-idle, lsr-marked, iir-mode}
 use Rattle.channel.specs.CauseLaws.{troubled, cause-named}
-use Rattle.channel.specs.ModeLaws.{mode-after, fcr-sent, fcr-heard, trigger-chosen}
+use Rattle.channel.specs.ModeLaws.{fcr-bit, mode-after, fcr-sent, fcr-heard, trigger-chosen}
 use Rattle.channel_laws.specs.BackLaws.{write-at}
 use Rattle.channel_laws.specs.AgainLaws.{shows-iir, shows-lsr, named, named-is}
 use Rattle.channel_laws.specs.Shown.{shown, after}
@@ -160,6 +160,11 @@ module _ (c : Channel) (byte : ℕ) where
 
   mode-now : fifo (after c (Write 2 byte)) ≡ bit 0 byte
   mode-now = ap fifo written ∙ mode-after c byte
+
+  -- "bit 3 is stored", with bits 0, 6 and 7, and no other; "all FCR bits 0" where bit 0 is clear
+  pub fcr-keeps : (k : ℕ) → k < 8 → bit k (after c (Write 2 byte) .settings .fcr) ≡ (bit 0 byte && (bit k byte && bit k 0xC9))
+  unfolding fcrWritten
+  fcr-keeps k less = ap (λ (d : Channel). bit k (d .settings .fcr)) written ∙ fcr-bit byte k less
 
   -- an LSR read after it, beside one before
   pub record LsrAfter : Type 0 where

@@ -17,17 +17,22 @@ use Rattle.queue.specs.declared.Queue.{Queue}
 use Rattle.queue.specs.declared.Put.{Put}
 use Rattle.queue.specs.Queue.{noCharacter, capacity, accepted, oldest, anyMarked, marked}
 use Rattle.queue.specs.QueueLaws.{holding, oldest-is, oldest-none, marked-is}
+use Rattle.queue.specs.CanonicalLaws.{Holds, holds}
 use Rattle.queue.specs.AcceptLaws.{capacity-small, accept-cases}
 use Rattle.receiver.specs.Receiver.{received}
 use Rattle.receiver.specs.CallLaws.{arrive-overrun}
+use Rattle.receiver.specs.SoundLaws as heard
 use Rattle.transmitter.specs.Transmitter.{written}
 use Rattle.transmitter.specs.Sending.{toSend}
+use Rattle.transmitter.specs.SoundLaws as sending
 use Rattle.channel.specs.declared.Channel.{Channel}
 use Rattle.channel.specs.declared.Stepped.{Stepped}
 use Rattle.channel.specs.declared.SeatEvent.the-variants.{Write, Arrival}
 use Rattle.channel.specs.Parts.{fifo}
+use Rattle.channel.specs.Sound.{soundChannel}
 use Rattle.channel.specs.StatusLaws.{lsr-data, lsr-overrun, lsr-kept, lsr-oldest, lsr-empty, lsr-idle, lsr-marked}
 use Rattle.channel_laws.specs.RefusalLaws.{accepts}
+use Rattle.channel_laws.specs.SoundLaws.{parts}
 use Rattle.channel_laws.specs.SideLaws.{arrival-received, thr-writes}
 use Rattle.channel_laws.specs.AgainLaws.{shows-lsr}
 use Rattle.channel_laws.specs.Shown.{shown, after}
@@ -88,6 +93,14 @@ module _ (mode : Bool) (l : List Character) (ch : Character) (within : length l 
       (λ old more off one.
       let e : length (joined mode l ch) ≡ 1 = ap length (joined-full mode l ch more ∙ pick-false _ _ _ off) in
       omega arith)
+
+-- both queues of a sound channel hold such lists
+pub sound-queues : (c : Channel) → soundChannel c ≡ true → Holds (places (fifo c)) (c .receiver .queue) × Holds (places (fifo c)) (c .transmitter .queue)
+unfolding capacity
+sound-queues c sound = (
+  holds _ (c .receiver .queue) (heard.parts (fifo c) (c .receiver) (parts c sound .receiver) .tidy),
+  holds _ (c .transmitter .queue) (sending.parts (fifo c) (c .transmitter) (parts c sound .transmitter) .tidy),
+)
 
 -- ---- what LSR shows of a receive queue
 
