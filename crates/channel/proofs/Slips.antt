@@ -6,7 +6,7 @@ use Rattle.base.specs.Pick.{pick}
 use Rattle.base.specs.Bits.{bit, digit, bits}
 use Rattle.base.specs.Answers.{valueOf}
 use Rattle.base.specs.Refusals.{firstHeld}
-use Rattle.queue.specs.Queue.{room, entered, replaced, capacity, accepted, movedDown, taken, oldest, unmarked, anyMarked, marked}
+use Rattle.queue.specs.Queue.{room, entered, capacity, accepted, movedDown, taken, oldest, anyMarked, marked}
 use Rattle.receiver.specs.Receiver.{noneQueued, received, got, shownMarks, someMarked, looked, waited, cleared, turned, dataStands, timeoutStands}
 use Rattle.transmitter.specs.Transmitter.{noneWaiting, allSent, flagSetIf, written, emptied, next, shifted, enabled}
 use Rattle.registers.specs.Words.{trigger, badArrival}

@@ -1,18 +1,16 @@
 -- A second read of LSR, MSR or IIR: what the first cleared is gone, and all else shows as before.
-use Prim.Native.Nat.{ℕ, zero, suc, _+_, _%_, _<_}
+use Prim.Native.Nat.{ℕ, zero, suc, _%_, _<_}
 use mathlib.Core.Bool.{Bool, true, false, not, _&&_, and-true, and-false}
-use mathlib.Core.List.{List, [], _∷_}
+use mathlib.Core.List.{List, _∷_}
 use mathlib.Core.Path.{_≡_, refl, ap, sym, _∙_}
 use mathlib.Core.Logic.{⊎-elim}
 use native.Mathlib.Omega.{arith}
 use lib.Dec.{eqb}
-use lib.ListN.{drop}
 use Rattle.base.specs.Pick.{pick}
 use Rattle.base.specs.PickLaws.{pick-true, pick-false, either-way}
 use Rattle.base.specs.Bits.{bit}
 use Rattle.base.specs.Answers.{valueOf}
 use Rattle.queue.specs.declared.Character.{Character}
-use Rattle.queue.specs.declared.Queue.{Queue}
 use Rattle.queue.specs.Queue.{plain, anyMarked}
 use Rattle.queue.specs.QueueLaws.{holding}
 use Rattle.receiver.specs.Receiver.{looked}
@@ -23,10 +21,9 @@ use Rattle.channel.specs.declared.SeatEvent.the-variants.{Read}
 use Rattle.channel.specs.Parts.{fifo}
 use Rattle.channel.specs.Status.{lsr, msr, cause, iir}
 use Rattle.channel.specs.Effects.{iirRead, lsrRead, msrRead}
-use Rattle.channel.specs.Steps.{stepped}
 use Rattle.channel.specs.CauseLaws.{moved}
-use Rattle.channel.specs.IirLaws.{flagged, iir-clears, iir-leaves, iir-again}
-use Rattle.channel.specs.StatusLaws.{lsr-marked, iir-cause}
+use Rattle.channel.specs.IirLaws.{flagged, iir-clears, iir-again}
+use Rattle.channel.specs.StatusLaws.{iir-cause}
 use Rattle.channel_laws.specs.ReadLaws.{read-iir, read-lsr, read-msr, lsr-again-overrun, lsr-again-marks, lsr-again-data, lsr-again-sending, lsr-again-marked, msr-again-changes, msr-again-levels}
 use Rattle.channel_laws.specs.Shown.{shown, after}
 

@@ -1,6 +1,6 @@
 -- Character times over whatever is on its way out: the shift register's byte, then what waits, in order, then nothing more.
-use Prim.Native.Nat.{ℕ, zero, suc, _+_, _<_, _≤_}
-use mathlib.Core.Bool.{Bool, true, false}
+use Prim.Native.Nat.{ℕ, zero, suc, _+_, _≤_}
+use mathlib.Core.Bool.{true, false}
 use mathlib.Core.List.{List, [], _∷_, _++_, map}
 use mathlib.Core.Path.{_≡_, refl, ap, ap₂, sym, _∙_}
 use mathlib.Core.Logic.{⊎-elim}
@@ -12,7 +12,6 @@ use Rattle.base.specs.Bits.{bit}
 use Rattle.base.specs.declared.Answer.{Answer}
 use Rattle.base.specs.declared.Answer.the-variants.{Done, Sent, Idle}
 use Rattle.queue.specs.declared.Character.{Character}
-use Rattle.queue.specs.declared.Queue.{Queue}
 use Rattle.queue.specs.QueueLaws.{holding}
 use Rattle.receiver.specs.Receiver.{waited}
 use Rattle.transmitter.specs.declared.Transmitter.{Transmitter}

@@ -1,10 +1,9 @@
 -- What an FCR write leaves of the two sides, as reads show it.
-use Prim.Native.Nat.{ℕ, zero, suc, _+_, _/_, _%_, _<_}
+use Prim.Native.Nat.{ℕ, _+_, _/_, _%_, _<_}
 use mathlib.Core.Bool.{Bool, true, false, not, _&&_, _||_, xor, and-true, and-false, or-true, or-false}
 use mathlib.Core.List.{List, [], _∷_}
 use mathlib.Core.Path.{_≡_, refl, ap, ap₂, sym, _∙_}
 use mathlib.Core.Logic.{⊎-elim}
-use native.Mathlib.Omega.{arith}
 use lib.Dec.{leb, eqb}
 use lib.ListN.{length, getD}
 use lib.Pow.{pow-pos}
@@ -18,7 +17,7 @@ use Rattle.queue.specs.declared.Queue.{Queue}
 use Rattle.queue.specs.Queue.{emptyQueue, oldest, anyMarked, marked}
 use Rattle.queue.specs.QueueLaws.{holding}
 use Rattle.receiver.specs.declared.Receiver.{Receiver}
-use Rattle.receiver.specs.Receiver.{noneQueued, shownMarks, someMarked}
+use Rattle.receiver.specs.Receiver.{shownMarks}
 use Rattle.transmitter.specs.declared.Transmitter.{Transmitter}
 use Rattle.registers.specs.declared.Settings.{Settings}
 use Rattle.registers.specs.declared.Register.the-variants.{IirFcr}
@@ -145,8 +144,8 @@ module _ (c : Channel) (byte : ℕ) where
       ap (λ (d : Channel). d .receiver) written ∙ fcr-heard c byte
       ∙ ap (λ (mode : Bool). heardAs mode (bit 0 byte) (bit 1 byte) (c .receiver)) (sym mode-before)
 
-  -- the send side with another queue and flag: "The shift register stays."
-  abbrev sentAs : Bool → Transmitter
+  -- "Emptying a transmit queue that held something sets the holding-empty flag. The shift register stays.": the send side, by the mode before
+  abbrev pub sentAs : Bool → Transmitter
   sentAs mode =
       record {
         queue = pick (xor mode (bit 0 byte) || (bit 0 byte && bit 2 byte)) emptyQueue (c .transmitter .queue);
@@ -155,7 +154,7 @@ module _ (c : Channel) (byte : ℕ) where
         flag = c .transmitter .flag || ((xor mode (bit 0 byte) || (bit 0 byte && bit 2 byte)) && not (eqb (c .transmitter .queue .count) 0));
       }
 
-  send-side : after c (Write 2 byte) .transmitter ≡ sentAs (bit 7 (shown c 2))
+  pub send-side : after c (Write 2 byte) .transmitter ≡ sentAs (bit 7 (shown c 2))
   send-side = ap (λ (d : Channel). d .transmitter) written ∙ fcr-sent c byte ∙ ap sentAs (sym mode-before)
 
   mode-now : fifo (after c (Write 2 byte)) ≡ bit 0 byte

@@ -7,15 +7,14 @@ use native.Mathlib.Omega.{arith}
 use lib.Dec.{ltb, eqb}
 use borrow.Author.Tests.{ltb-true, ltb-false, ne-eqb}
 use Rattle.base.specs.Pick.{pick}
-use Rattle.base.specs.PickLaws.{pick-true, pick-false, both-hold, either-way, never}
+use Rattle.base.specs.PickLaws.{both-hold, either-way, never}
 use Rattle.base.specs.Bits.{bit}
 use Rattle.base.specs.BitLaws.{bit-cut}
-use Rattle.base.specs.Every.{every}
 use Rattle.base.specs.EveryLaws.{every-each}
-use Rattle.queue.specs.Queue.{emptyQueue, taken}
+use Rattle.queue.specs.Queue.{emptyQueue}
 use Rattle.queue.specs.declared.Queue.{Queue}
 use Rattle.transmitter.specs.declared.Transmitter.{Transmitter}
-use Rattle.transmitter.specs.Transmitter.{noneWaiting, flagSetIf, written, left, loaded, next, shifted}
+use Rattle.transmitter.specs.Transmitter.{written, shifted}
 use Rattle.registers.specs.declared.Register.{Register}
 use Rattle.registers.specs.declared.Register.the-variants.{RbrThr, Ier, IirFcr, Lcr, Mcr, Lsr, Msr, Scratch, Dll, Dlm}
 use Rattle.registers.specs.Registers.{plainRegister, registerAt}
@@ -24,13 +23,12 @@ use Rattle.channel.specs.declared.Stepped.{Stepped}
 use Rattle.channel.specs.declared.SeatEvent.{SeatEvent}
 use Rattle.channel.specs.declared.SeatEvent.the-variants.{Read, Write, Arrival, Levels, Time}
 use Rattle.channel.specs.Parts.{divisorShown, fifo}
-use Rattle.channel.specs.Status.{cause}
 use Rattle.channel.specs.Effects.{iirRead, lsrRead, msrRead, ierWritten, fcrWritten, afterRead, afterWrite, afterArrival, afterLevels, afterTime}
-use Rattle.channel.specs.Steps.{effect, stepped}
-use Rattle.channel.specs.StatusLaws.{lsr-empty, lsr-idle}
+use Rattle.channel.specs.Steps.{effect}
+use Rattle.channel.specs.StatusLaws.{lsr-empty}
 use Rattle.channel.specs.IirLaws.{iir-clears}
 use Rattle.channel.specs.ModeLaws.{fcr-sent, ier-sent}
-use Rattle.channel_laws.specs.RefusalLaws.{accepts, undivided, done, refused}
+use Rattle.channel_laws.specs.RefusalLaws.{accepts, done, refused}
 use Rattle.channel_laws.specs.AgainLaws.{shows-lsr, named, named-is}
 use Rattle.channel_laws.specs.ShiftLaws.{moved-flag}
 use Rattle.channel_laws.specs.Shown.{shown, after}

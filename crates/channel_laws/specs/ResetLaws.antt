@@ -91,6 +91,13 @@ pub power-up-reads : listed 8 (shown powerUp) ≡ 0x00 ∷ 0x00 ∷ 0x01 ∷ 0x0
 unfolding stepped refusal grounds firstHeld registerAbove noDivisor arrivalWrong levelsAbove loopAsked effect registerAt plainRegister pick bit digit bits valueOf byteAt afterWrite got iir cause causes firstCause lsr msr msrOf noneQueued shownMarks someMarked noneWaiting allSent
 power-up-reads = refl
 
+-- and what no read shows then is 0 too: the holding-empty flag, the shift register and its byte, kept marks and the time-out count
+pub power-up-hidden : digit (powerUp .transmitter .flag) ∷ digit (powerUp .transmitter .busy) ∷ powerUp .transmitter .shift ∷ powerUp .receiver .kept
+    ∷ powerUp .receiver .timeout ∷ []
+    ≡ 0 ∷ 0 ∷ 0 ∷ 0 ∷ 0 ∷ []
+unfolding digit pick
+power-up-hidden = refl
+
 -- registers 0 and 1 with LCR bit 7 set: the divisor
 abbrev pub divisorReads : Channel → List ℕ
 divisorReads c = listed 2 (shown (after c (Write 3 0x80)))

@@ -1,7 +1,7 @@
 -- The time-out count over character times: where it rises, how far, and where it stays.
 use Prim.Native.Nat.{ℕ, zero, suc, _+_, _<_, _≤_, min}
 use mathlib.Core.Bool.{Bool, true, false, not, _&&_}
-use mathlib.Core.List.{List, [], _∷_}
+use mathlib.Core.List.{List, _∷_}
 use mathlib.Core.Path.{_≡_, refl, ap, sym, _∙_}
 use mathlib.Core.Logic.{⊎-elim}
 use native.Mathlib.Omega.{arith}
@@ -20,7 +20,7 @@ use Rattle.channel.specs.declared.Channel.{Channel}
 use Rattle.channel.specs.declared.SeatEvent.the-variants.{Time}
 use Rattle.channel.specs.Parts.{fifo}
 use Rattle.channel.specs.StatusLaws.{lsr-data}
-use Rattle.channel.specs.CauseLaws.{Named, troubled, ready, cause-named}
+use Rattle.channel.specs.CauseLaws.{troubled, ready, cause-named}
 use Rattle.channel_laws.specs.RefusalLaws.{undivided}
 use Rattle.channel_laws.specs.SideLaws.{time-shifts}
 use Rattle.channel_laws.specs.AgainLaws.{shows-lsr, named, named-is}

@@ -5,7 +5,7 @@ use lib.Dec.{eqb}
 use Rattle.base.specs.Pick.{pick}
 use Rattle.base.specs.Bits.{bit, digit, bits}
 use Rattle.registers.specs.declared.Settings.{Settings}
-use Rattle.registers.specs.Registers.{plainRegister, registerAt, fcrKept, kept, divisor, withDlm}
+use Rattle.registers.specs.Registers.{plainRegister, registerAt, kept, divisor, withDlm}
 use Rattle.registers.specs.Words.{cut}
 use Rattle.registers.specs.Modem.{changesAfter}
 
