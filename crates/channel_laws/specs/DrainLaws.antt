@@ -13,7 +13,6 @@ use Rattle.base.specs.declared.Answer.{Answer}
 use Rattle.base.specs.declared.Answer.the-variants.{Done, Sent, Idle}
 use Rattle.queue.specs.declared.Character.{Character}
 use Rattle.queue.specs.QueueLaws.{holding}
-use Rattle.receiver.specs.Receiver.{waited}
 use Rattle.transmitter.specs.declared.Transmitter.{Transmitter}
 use Rattle.transmitter.specs.Transmitter.{written, shifted}
 use Rattle.transmitter.specs.Sending.{toSend}
@@ -27,6 +26,7 @@ use Rattle.channel.specs.Steps.{stepped}
 use Rattle.channel_laws.specs.RefusalLaws.{undivided}
 use Rattle.channel_laws.specs.WireLaws.{sent, idle}
 use Rattle.channel_laws.specs.SideLaws.{thr-writes, time-shifts}
+use Rattle.channel_laws.specs.SendingLaws.{passed}
 use Rattle.channel_laws.specs.QueuedLaws.{places, joined, joined-fits, thr-joins}
 use Rattle.channel_laws.specs.Shown.{after}
 use Rattle.channel_laws.specs.Sends.{answersTo}
@@ -41,10 +41,6 @@ leaves c going clear =
     (λ (full : c .transmitter .busy ≡ true). sent c going clear full ∙ sym (pick-true _ _ _ full))
     (λ (empty : c .transmitter .busy ≡ false). idle c going clear empty ∙ sym (pick-false _ _ _ empty))
     (either-way (c .transmitter .busy))
-
--- the channel after one
-abbrev passed : Channel → Channel
-passed c = record { settings = c .settings; receiver = waited (fifo c) (c .receiver); transmitter = shifted (c .transmitter); modem = c .modem }
 
 -- "the oldest queued moves in"
 moved-in : (t : Transmitter) (ch : Character) (l : List Character) → t .queue ≡ holding (ch ∷ l) → length (ch ∷ l) ≤ 16

@@ -6,11 +6,9 @@ use mathlib.Core.Path.{_≡_, refl, ap, ap₂, sym, _∙_}
 use mathlib.Core.Logic.{⊎-elim}
 use lib.Dec.{leb, eqb}
 use lib.ListN.{length, getD}
-use lib.Pow.{pow-pos}
 use Rattle.base.specs.Pick.{pick}
 use Rattle.base.specs.PickLaws.{pick-true, pick-false, pick-same, either-way}
 use Rattle.base.specs.Bits.{bit}
-use Rattle.base.specs.BitLaws.{bit-past}
 use Rattle.base.specs.declared.Answer.the-variants.{Done}
 use Rattle.queue.specs.declared.Character.{Character}
 use Rattle.queue.specs.declared.Queue.{Queue}
@@ -33,13 +31,10 @@ use Rattle.channel.specs.Steps.{stepped}
 use Rattle.channel.specs.StatusLaws.{lsr-data, lsr-overrun, lsr-kept, lsr-oldest, lsr-empty, lsr-idle, lsr-marked, iir-mode}
 use Rattle.channel.specs.CauseLaws.{troubled, cause-named}
 use Rattle.channel.specs.ModeLaws.{fcr-bit, mode-after, fcr-sent, fcr-heard, trigger-chosen}
+use Rattle.channel_laws.specs.ReadLaws.{no-bit}
 use Rattle.channel_laws.specs.BackLaws.{write-at}
 use Rattle.channel_laws.specs.AgainLaws.{shows-iir, shows-lsr, named, named-is}
 use Rattle.channel_laws.specs.Shown.{shown, after}
-
--- a number of no bits
-no-bit : (k : ℕ) → bit k 0 ≡ false
-no-bit k = bit-past k 0 (pow-pos k)
 
 -- the marks that LSR bits 2 to 4 show, in either mode
 marks-shown : (d : Channel) (k : ℕ) → k < 3 → bit (2 + k) (lsr d) ≡ bit k (shownMarks (fifo d) (d .receiver))
@@ -57,7 +52,7 @@ unfolding pick
 data-left true q = sym (and-false (not (eqb (q .count) 0)))
 data-left false q = sym (and-true (not (eqb (q .count) 0)))
 
-none-left : (empties : Bool) (q : Queue) → eqb (pick empties emptyQueue q .count) 0 ≡ (eqb (q .count) 0 || empties)
+pub none-left : (empties : Bool) (q : Queue) → eqb (pick empties emptyQueue q .count) 0 ≡ (eqb (q .count) 0 || empties)
 unfolding pick
 none-left true q = sym (or-true (eqb (q .count) 0))
 none-left false q = sym (or-false (eqb (q .count) 0))
@@ -105,9 +100,6 @@ module _ (c : Channel) (byte : ℕ) where
 
   abbrev now : ℕ
   now = shown (after c (Write 2 byte)) 5
-
-  now-shows : now ≡ lsr (fcrWritten c byte)
-  now-shows = shows-lsr (after c (Write 2 byte)) ∙ ap lsr written
 
   -- "Bit 0 clear: 16450 mode"; "Bit 0 set: FIFO mode": "In FIFO mode C0 is added."
   pub mode-shows : (bit 7 (shown (after c (Write 2 byte)) 2) ≡ bit 0 byte) × (bit 6 (shown (after c (Write 2 byte)) 2) ≡ bit 0 byte)
@@ -225,4 +217,5 @@ module _ (c : Channel) (byte : ℕ) where
       let count : d .receiver .queue .count ≡ length l = ap (λ (q : Queue). q .count) held in
       ap (λ (n : ℕ). eqb n 0x04) (named-is d) ∙ cause-named d .character
       ∙ ap (λ (b : Bool). not (troubled d) && (bit 0 (d .settings .ier) && b))
-      ((λ i. (mode i && leb (chosen i) (count i)) || (not (mode i) && not (eqb (count i) 0))) ∙ or-false (leb (getD (1 ∷ 4 ∷ 8 ∷ 14 ∷ []) (byte / 64 % 4) 0) (length l)))
+      ((λ i. (mode i && leb (chosen i) (count i)) || (not (mode i) && not (eqb (count i) 0)))
+      ∙ or-false (leb (getD (1 ∷ 4 ∷ 8 ∷ 14 ∷ []) (byte / 64 % 4) 0) (length l)))

@@ -1,6 +1,6 @@
 -- The holding-empty flag after any event, by what LSR bit 5 shows before and after.
 use Prim.Native.Nat.{ℕ, zero, suc, _<_, _≤_, _%_, _^_}
-use mathlib.Core.Bool.{Bool, true, false, not, _&&_, _||_, xor, or-true, or-false}
+use mathlib.Core.Bool.{Bool, true, false, not, _&&_, _||_, xor}
 use mathlib.Core.Path.{_≡_, refl, ap, sym, subst, _∙_}
 use mathlib.Core.Logic.{⊎-elim}
 use native.Mathlib.Omega.{arith}
@@ -11,8 +11,6 @@ use Rattle.base.specs.PickLaws.{both-hold, either-way, never}
 use Rattle.base.specs.Bits.{bit}
 use Rattle.base.specs.BitLaws.{bit-cut}
 use Rattle.base.specs.EveryLaws.{every-each}
-use Rattle.queue.specs.Queue.{emptyQueue}
-use Rattle.queue.specs.declared.Queue.{Queue}
 use Rattle.transmitter.specs.declared.Transmitter.{Transmitter}
 use Rattle.transmitter.specs.Transmitter.{written, shifted}
 use Rattle.registers.specs.declared.Register.{Register}
@@ -30,6 +28,7 @@ use Rattle.channel.specs.IirLaws.{iir-clears}
 use Rattle.channel.specs.ModeLaws.{fcr-sent, ier-sent}
 use Rattle.channel_laws.specs.RefusalLaws.{accepts, done, refused}
 use Rattle.channel_laws.specs.AgainLaws.{shows-lsr, named, named-is}
+use Rattle.channel_laws.specs.EmptyingLaws.{none-left}
 use Rattle.channel_laws.specs.ShiftLaws.{moved-flag}
 use Rattle.channel_laws.specs.Shown.{shown, after}
 
@@ -156,11 +155,6 @@ passed-at false false true i = refl
 passed-at false false false true = refl
 passed-at false false false false = refl
 
-left-by : (e : Bool) (q : Queue) → eqb (pick e emptyQueue q .count) 0 ≡ (eqb (q .count) 0 || e)
-unfolding pick
-left-by true q = sym (or-true (eqb (q .count) 0))
-left-by false q = sym (or-false (eqb (q .count) 0))
-
 module _ (c : Channel) where
   abbrev f : Bool
   f = c .transmitter .flag
@@ -200,7 +194,7 @@ module _ (c : Channel) where
       let e = xor (fifo c) (bit 0 byte) || (bit 0 byte && bit 2 byte) in
       by-counts c (fcrWritten c byte) false false
       (ap (λ (t : Transmitter). t .flag) (fcr-sent c byte) ∙ emptied-at f x e i
-      ∙ (λ k. stands f x (sym (left-by e (c .transmitter .queue)) k) i i false false)
+      ∙ (λ k. stands f x (sym (none-left e (c .transmitter .queue)) k) i i false false)
       ∙ (λ k. stands f x (eqb (sym (fcr-sent c byte) k .queue .count) 0) i i false false))
   by-write Lcr byte = quiet c (afterWrite c Lcr byte) refl refl
   by-write Mcr byte = quiet c (afterWrite c Mcr byte) refl refl

@@ -15,7 +15,6 @@ use Rattle.queue.specs.QueueLaws.{holding}
 use Rattle.receiver.specs.declared.Receiver.{Receiver}
 use Rattle.receiver.specs.Receiver.{noneQueued, waited}
 use Rattle.receiver.specs.WaitingLaws.{wait-counts, wait-at-most}
-use Rattle.transmitter.specs.Transmitter.{shifted}
 use Rattle.channel.specs.declared.Channel.{Channel}
 use Rattle.channel.specs.declared.SeatEvent.the-variants.{Time}
 use Rattle.channel.specs.Parts.{fifo}
@@ -23,13 +22,10 @@ use Rattle.channel.specs.StatusLaws.{lsr-data}
 use Rattle.channel.specs.CauseLaws.{troubled, ready, cause-named}
 use Rattle.channel_laws.specs.RefusalLaws.{undivided}
 use Rattle.channel_laws.specs.SideLaws.{time-shifts}
+use Rattle.channel_laws.specs.SendingLaws.{passed}
 use Rattle.channel_laws.specs.AgainLaws.{shows-lsr, named, named-is}
 use Rattle.channel_laws.specs.Shown.{shown, after}
 use Rattle.channel_laws.specs.Sends.{afterEvents}
-
--- the channel after one character time
-abbrev passed : Channel → Channel
-passed c = record { settings = c .settings; receiver = waited (fifo c) (c .receiver); transmitter = shifted (c .transmitter); modem = c .modem }
 
 -- "in FIFO mode with a character in the receive queue the time-out count rises": in 16450 mode, and with LSR bit 0 clear, the receive side is equal
 pub no-rise : (c : Channel) → undivided c ≡ false → (fifo c && bit 0 (shown c 5)) ≡ false → after c Time .receiver ≡ c .receiver
