@@ -1,4 +1,4 @@
--- What is right where an edit of must-fail/ goes wrong: closed runs from power-up, each false under the edit that names it.
+-- What is right where an edit of must-fail/ goes wrong: closed runs of a few events, each false under the edit that names it.
 use Prim.Native.Nat.{ℕ}
 use mathlib.Core.List.{List, [], _∷_}
 use mathlib.Core.Path.{_≡_, refl}
@@ -7,17 +7,16 @@ use Rattle.base.specs.Bits.{bit, digit, bits}
 use Rattle.base.specs.Answers.{valueOf}
 use Rattle.base.specs.Refusals.{firstHeld}
 use Rattle.queue.specs.Queue.{room, entered, capacity, accepted, movedDown, taken, oldest, anyMarked, marked}
-use Rattle.receiver.specs.Receiver.{noneQueued, received, got, shownMarks, someMarked, looked, waited, cleared, turned, dataStands, timeoutStands}
-use Rattle.transmitter.specs.Transmitter.{noneWaiting, allSent, flagSetIf, written, emptied, next, shifted, enabled}
+use Rattle.receiver.specs.Receiver.{noneQueued, received, got, shownMarks, someMarked, cleared, turned, dataStands, timeoutStands}
+use Rattle.transmitter.specs.Transmitter.{noneWaiting, allSent, flagSetIf, written, emptied, enabled}
 use Rattle.registers.specs.Words.{trigger, badArrival}
 use Rattle.registers.specs.Registers.{plainRegister, registerAt, fcrKept}
-use Rattle.registers.specs.Modem.{msrOf}
 use Rattle.channel.specs.declared.Channel.{Channel}
 use Rattle.channel.specs.declared.SeatEvent.{SeatEvent}
-use Rattle.channel.specs.declared.SeatEvent.the-variants.{Read, Write, Arrival, Time}
-use Rattle.channel.specs.Parts.{powerUp}
-use Rattle.channel.specs.Status.{lsr, msr, lineTrouble, modemChanged, causes, firstCause, cause, iir, line}
-use Rattle.channel.specs.Effects.{iirRead, lsrRead, byteAt, afterRead, ierWritten, modeChanged, fcrReceiver, fcrTransmitter, fcrWritten, afterWrite, afterArrival, afterTime, timeAnswer}
+use Rattle.channel.specs.declared.SeatEvent.the-variants.{Read, Write, Arrival}
+use Rattle.channel.specs.Parts.{powerUp, withSettings, withReceiver}
+use Rattle.channel.specs.Status.{lsr, causes, firstCause, cause, iir, line}
+use Rattle.channel.specs.Effects.{iirRead, byteAt, afterRead, ierWritten, modeChanged, fcrReceiver, fcrTransmitter, fcrWritten, afterWrite, afterArrival}
 use Rattle.channel.specs.Steps.{registerAbove, noDivisor, arrivalWrong, levelsAbove, loopAsked, grounds, refusal, effect, stepped}
 
 -- what a channel answers to these events, in order
@@ -25,31 +24,37 @@ unfoldable told : Channel → List SeatEvent → List ℕ
 told c [] = []
 told c (e ∷ es) = valueOf (stepped c e .answer) ∷ told (stepped c e .channel) es
 
--- "IER write that turns bit 1 from 0 to 1": a second one leaves the flag. Of `ier-sent`
-flag-only-at-the-rise : told powerUp (Write 1 0x02 ∷ Read 2 ∷ Write 1 0x02 ∷ Read 2 ∷ []) ≡ 0x00 ∷ 0x02 ∷ 0x00 ∷ 0x01 ∷ []
-unfolding told stepped refusal grounds firstHeld registerAbove noDivisor arrivalWrong levelsAbove loopAsked effect registerAt plainRegister pick bit digit bits valueOf byteAt afterRead iirRead iir cause causes firstCause lineTrouble modemChanged lsr msr msrOf noneQueued shownMarks someMarked oldest noneWaiting allSent dataStands timeoutStands trigger afterWrite ierWritten enabled flagSetIf
+-- power-up with divisor 12, LCR 03, and these in IER and FCR
+abbrev set : ℕ → ℕ → Channel
+set ier fcr = withSettings powerUp (record { ier = ier; fcr = fcr; lcr = 0x03; mcr = 0; scratch = 0; dll = 12; dlm = 0 })
+
+-- "IER write that turns bit 1 from 0 to 1": one that finds it set leaves the flag. Of `ier-sent`
+flag-only-at-the-rise : told (set 0x02 0x00) (Write 1 0x02 ∷ Read 2 ∷ []) ≡ 0x00 ∷ 0x01 ∷ []
+unfolding told stepped refusal grounds firstHeld registerAbove noDivisor arrivalWrong levelsAbove loopAsked effect registerAt plainRegister pick bit valueOf byteAt iir cause causes firstCause afterWrite ierWritten enabled flagSetIf
 flag-only-at-the-rise = refl
 
 -- "A read that named 02 clears that flag.": one that named 04 leaves it. Of `iir-clears`
-flag-outlives-04 : told powerUp
-    (Write 3 0x83 ∷ Write 0 12 ∷ Write 3 0x03 ∷ Write 1 0x03 ∷ Arrival 0 0x41 ∷ Read 2 ∷ Read 0 ∷ Read 2 ∷ [])
-    ≡ 0x00 ∷ 0x00 ∷ 0x00 ∷ 0x00 ∷ 0x00 ∷ 0x04 ∷ 0x41 ∷ 0x02 ∷ []
-unfolding told stepped refusal grounds firstHeld registerAbove noDivisor arrivalWrong badArrival levelsAbove loopAsked effect registerAt plainRegister pick bit digit bits valueOf byteAt afterRead iirRead iir cause causes firstCause lineTrouble modemChanged lsr msr msrOf noneQueued shownMarks someMarked oldest noneWaiting allSent dataStands timeoutStands trigger afterWrite ierWritten enabled flagSetIf afterArrival received accepted capacity room entered got taken movedDown
+flag-outlives-04 : told (set 0x01 0x00) (Write 1 0x03 ∷ Arrival 0 0x41 ∷ Read 2 ∷ Read 0 ∷ Read 2 ∷ []) ≡ 0x00 ∷ 0x00 ∷ 0x04 ∷ 0x41 ∷ 0x02 ∷ []
+unfolding told stepped refusal grounds firstHeld registerAbove noDivisor arrivalWrong badArrival levelsAbove loopAsked effect registerAt plainRegister pick bit valueOf byteAt afterRead iirRead iir cause causes firstCause noneQueued noneWaiting dataStands timeoutStands afterWrite ierWritten enabled flagSetIf afterArrival received accepted capacity room entered got taken movedDown
 flag-outlives-04 = refl
 
 -- "The seat's line is high exactly if a cause is named and MCR bit 3 is set.": with no cause it is low. Of `line-high`
 line-low-with-no-cause : digit (line (stepped powerUp (Write 4 0x08) .channel)) ≡ 0
-unfolding stepped refusal grounds firstHeld registerAbove noDivisor arrivalWrong levelsAbove loopAsked effect registerAt plainRegister pick bit digit bits afterWrite line cause causes firstCause
+unfolding stepped refusal grounds firstHeld registerAbove noDivisor arrivalWrong levelsAbove loopAsked effect registerAt plainRegister pick bit digit afterWrite line cause causes firstCause
 line-low-with-no-cause = refl
 
 -- "A changed bit 0 empties both and clears kept marks.": LSR bits 5 and 6 are set again. Of `fcr-sent`
-mode-change-empties-the-transmit-queue : told powerUp (Write 0 0x41 ∷ Read 5 ∷ Write 2 0x01 ∷ Read 5 ∷ []) ≡ 0x00 ∷ 0x00 ∷ 0x00 ∷ 0x60 ∷ []
-unfolding told stepped refusal grounds firstHeld registerAbove noDivisor arrivalWrong levelsAbove loopAsked effect registerAt plainRegister pick bit digit bits valueOf byteAt afterRead lsrRead looked lsr noneQueued shownMarks someMarked oldest anyMarked marked noneWaiting allSent afterWrite written accepted capacity room entered fcrWritten fcrReceiver fcrTransmitter modeChanged fcrKept cleared turned emptied flagSetIf
+mode-change-empties-the-transmit-queue : told powerUp (Write 0 0x41 ∷ Write 2 0x01 ∷ Read 5 ∷ []) ≡ 0x00 ∷ 0x00 ∷ 0x60 ∷ []
+unfolding told stepped refusal grounds firstHeld registerAbove noDivisor arrivalWrong levelsAbove loopAsked effect registerAt plainRegister pick bit digit bits valueOf byteAt lsr noneQueued shownMarks someMarked oldest anyMarked marked noneWaiting allSent afterWrite written accepted capacity room entered fcrWritten fcrReceiver fcrTransmitter modeChanged fcrKept cleared turned emptied flagSetIf
 mode-change-empties-the-transmit-queue = refl
 
--- "04 data" stands before "0C time-out count 4": a trigger of 1 reached, and then four character times. Of `cause-named`
-trigger-goes-before-the-time-out : told powerUp
-    (Write 3 0x83 ∷ Write 0 12 ∷ Write 3 0x03 ∷ Write 2 0x01 ∷ Write 1 0x01 ∷ Arrival 0 0x41 ∷ Time ∷ Time ∷ Time ∷ Time ∷ Read 2 ∷ [])
-    ≡ 0x00 ∷ 0x00 ∷ 0x00 ∷ 0x00 ∷ 0x00 ∷ 0x00 ∷ 0x100 ∷ 0x100 ∷ 0x100 ∷ 0x100 ∷ 0xC4 ∷ []
-unfolding told stepped refusal grounds firstHeld registerAbove noDivisor arrivalWrong badArrival levelsAbove loopAsked effect registerAt plainRegister pick bit digit bits valueOf byteAt afterRead iirRead iir cause causes firstCause lineTrouble modemChanged lsr msr msrOf noneQueued shownMarks someMarked oldest anyMarked marked noneWaiting allSent dataStands timeoutStands trigger afterWrite ierWritten enabled flagSetIf fcrWritten fcrReceiver fcrTransmitter modeChanged fcrKept turned cleared emptied afterArrival received accepted capacity room entered afterTime timeAnswer waited shifted next
+-- one character with a time-out count of 4
+abbrev late : Channel
+late =
+    withReceiver (set 0x01 0x01)
+    (record { queue = stepped (set 0x01 0x01) (Arrival 0 0x41) .channel .receiver .queue; overrun = powerUp .receiver .overrun; kept = 0; timeout = 4; last = 0 })
+
+-- "04 data" stands before "0C time-out count 4": here the trigger is 1. Of `cause-named`
+trigger-goes-before-the-time-out : told late (Read 2 ∷ []) ≡ 0xC4 ∷ []
+unfolding told stepped refusal grounds firstHeld registerAbove noDivisor arrivalWrong badArrival levelsAbove loopAsked effect registerAt plainRegister pick bit valueOf byteAt iir cause causes firstCause dataStands timeoutStands trigger afterArrival received accepted capacity room entered
 trigger-goes-before-the-time-out = refl
