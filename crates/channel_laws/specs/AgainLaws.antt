@@ -24,7 +24,8 @@ use Rattle.channel.specs.Effects.{iirRead, lsrRead, msrRead}
 use Rattle.channel.specs.CauseLaws.{moved}
 use Rattle.channel.specs.IirLaws.{flagged, iir-clears, iir-again}
 use Rattle.channel.specs.StatusLaws.{iir-cause}
-use Rattle.channel_laws.specs.ReadLaws.{read-iir, read-lsr, read-msr, lsr-again-overrun, lsr-again-marks, lsr-again-data, lsr-again-sending, lsr-again-marked, msr-again-changes, msr-again-levels}
+use Rattle.channel_laws.specs.ReadLaws.{read-iir, read-lsr, read-msr, msr-again-changes, msr-again-levels}
+use Rattle.channel_laws.specs.ReadLaws.{lsr-again-overrun, lsr-again-marks, lsr-again-data, lsr-again-sending, lsr-again-marked}
 use Rattle.channel_laws.specs.Shown.{shown, after}
 
 -- ---- what reads of 2, 5 and 6 show, in either state of LCR bit 7

@@ -2,7 +2,7 @@
 use Prim.Native.Nat.{ℕ, zero, suc, _+_, _<_, _≤_, min}
 use mathlib.Core.Bool.{Bool, true, false, not, _&&_}
 use mathlib.Core.List.{List, _∷_}
-use mathlib.Core.Path.{_≡_, refl, ap, sym, _∙_}
+use mathlib.Core.Path.{_≡_, ap, sym, _∙_}
 use mathlib.Core.Logic.{⊎-elim}
 use native.Mathlib.Omega.{arith}
 use lib.Dec.{ltb, leb, eqb}
@@ -36,25 +36,25 @@ no-rise c going none =
     let idle : (fifo c && not (eqb (r .queue .count) 0) && ltb (r .timeout) 4) ≡ false
     = ap (λ (b : Bool). fifo c && b && ltb (r .timeout) 4) (sym some) ∙ ap (λ (b : Bool). b && ltb (r .timeout) 4) none in
     ap (λ (d : Channel). d .receiver) (time-shifts c going)
-    ∙ ap (λ (n : ℕ). record { queue = r .queue; overrun = r .overrun; kept = r .kept; timeout = n; last = r .last }) (pick-false _ (r .timeout + 1) (r .timeout) idle)
+    ∙ ap (λ (n : ℕ). record { queue = r .queue; overrun = r .overrun; kept = r .kept; timeout = n; last = r .last })
+    (pick-false _ (r .timeout + 1) (r .timeout) idle)
 
 module _ (ch : Character) (l : List Character) where
   -- FIFO mode, something queued: one more at each, "up to 4"
-  waits : (r : Receiver) → r .queue ≡ holding (ch ∷ l) → r .timeout ≤ 4
-      → (waited true r .timeout ≡ min (suc (r .timeout)) 4) × (waited true r .queue ≡ r .queue)
-  unfolding waited
+  waits : (r : Receiver) → r .queue ≡ holding (ch ∷ l) → r .timeout ≤ 4 → waited true r .timeout ≡ min (suc (r .timeout)) 4
   waits r held most =
       ⊎-elim
       (λ (e : ltb (r .timeout) 4 ≡ true).
       let less : r .timeout < 4 = ltb-true _ _ e in
       let more : r .timeout + 1 ≡ min (suc (r .timeout)) 4 = omega arith in
-      (ap (λ (s : Receiver). s .timeout) (wait-counts r ch l held less) ∙ more, refl))
+      ap (λ (s : Receiver). s .timeout) (wait-counts r ch l held less) ∙ more)
       (λ (e : ltb (r .timeout) 4 ≡ false).
       let past : 4 ≤ r .timeout = ltb-false _ _ e in
       let same : r .timeout ≡ min (suc (r .timeout)) 4 = omega arith in
-      (ap (λ (s : Receiver). s .timeout) (wait-at-most true r past) ∙ same, refl))
+      ap (λ (s : Receiver). s .timeout) (wait-at-most true r past) ∙ same)
       (either-way (ltb (r .timeout) 4))
 
+  -- so many character times later
   pub counts : (k : ℕ) (c : Channel) → fifo c ≡ true → c .receiver .queue ≡ holding (ch ∷ l) → c .receiver .timeout ≤ 4 → undivided c ≡ false
       → afterEvents c (replicate k Time) .receiver .timeout ≡ min (k + c .receiver .timeout) 4
   unfolding afterEvents waited
@@ -62,7 +62,7 @@ module _ (ch : Character) (l : List Character) where
   counts (suc k) c mode held most going =
       let r = c .receiver in
       let one : passed c .receiver .timeout ≡ min (suc (r .timeout)) 4
-      = ap (λ (m : Bool). waited m r .timeout) mode ∙ waits r held most .0 in
+      = ap (λ (m : Bool). waited m r .timeout) mode ∙ waits r held most in
       let sum : min (k + passed c .receiver .timeout) 4 ≡ min (suc k + r .timeout) 4 = omega arith in
       ap (λ (d : Channel). afterEvents d (replicate k Time) .receiver .timeout) (time-shifts c going)
       ∙ counts k (passed c) mode held (omega arith) going ∙ sum

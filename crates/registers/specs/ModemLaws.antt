@@ -47,7 +47,9 @@ module _ (changes before after : ℕ) where
   ring-falls active inactive = rung ∙ (λ i. bit 2 changes || (active i && not (inactive i))) ∙ or-true (bit 2 changes)
 
   pub ring-rises : bit 2 after ≡ true → bit 2 (changesAfter changes before after) ≡ bit 2 changes
-  ring-rises active = rung ∙ (λ i. bit 2 changes || (bit 2 before && not (active i))) ∙ ap (λ (b : Bool). bit 2 changes || b) (and-false (bit 2 before)) ∙ or-false (bit 2 changes)
+  ring-rises active =
+      rung ∙ (λ i. bit 2 changes || (bit 2 before && not (active i))) ∙ ap (λ (b : Bool). bit 2 changes || b) (and-false (bit 2 before))
+      ∙ or-false (bit 2 changes)
 
   pub ring-low : bit 2 before ≡ false → bit 2 (changesAfter changes before after) ≡ bit 2 changes
   ring-low inactive = rung ∙ (λ i. bit 2 changes || (inactive i && not (bit 2 after))) ∙ or-false (bit 2 changes)
