@@ -71,7 +71,7 @@ unmarked-count : (q : Queue) → unmarked q .count ≡ q .count
 unfolding unmarked
 unmarked-count q = pick-through (λ (p : Queue). p .count) (eqb (q .count) 0) _ _ ∙ pick-same (eqb (q .count) 0) (q .count)
 
-no-bit : (k : ℕ) → bit k 0 ≡ false
+pub no-bit : (k : ℕ) → bit k 0 ≡ false
 no-bit k = bit-past k 0 (pow-pos k)
 
 module _ (c : Channel) where

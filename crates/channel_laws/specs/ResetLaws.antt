@@ -1,17 +1,27 @@
--- Master reset is power-up, with divisor, scratch, modem levels and last byte read kept.
+-- Power-up, as reads show it; and master reset, which is power-up with divisor, scratch, modem levels and last byte read kept.
 use Prim.Native.Nat.{ℕ, _+_, _<_}
 use mathlib.Core.Bool.{false}
+use mathlib.Core.List.{List, [], _∷_}
 use mathlib.Core.Path.{_≡_, refl, sym, _∙_}
 use lib.Pow.{pow-pos}
 use Rattle.base.specs.Pick.{pick}
 use Rattle.base.specs.Bits.{bit, digit, bits}
 use Rattle.base.specs.BitLaws.{bit-past}
-use Rattle.receiver.specs.Receiver.{restarted, noneQueued, shownMarks, someMarked}
+use Rattle.base.specs.ListLaws.{listed}
+use Rattle.base.specs.Answers.{valueOf}
+use Rattle.base.specs.Refusals.{firstHeld}
+use Rattle.receiver.specs.Receiver.{restarted, noneQueued, got, shownMarks, someMarked}
 use Rattle.transmitter.specs.Transmitter.{noneWaiting, allSent}
+use Rattle.registers.specs.Modem.{msrOf}
+use Rattle.registers.specs.Registers.{plainRegister, registerAt}
 use Rattle.channel.specs.declared.Channel.{Channel}
+use Rattle.channel.specs.declared.SeatEvent.the-variants.{Write}
 use Rattle.channel.specs.Parts.{powerUp, masterReset}
 use Rattle.channel.specs.Status.{lsr, msr, causes, firstCause, cause, iir, line}
 use Rattle.channel.specs.StatusLaws.{msr-changes, msr-levels}
+use Rattle.channel.specs.Effects.{byteAt, afterWrite}
+use Rattle.channel.specs.Steps.{registerAbove, noDivisor, arrivalWrong, levelsAbove, loopAsked, grounds, refusal, effect, stepped}
+use Rattle.channel_laws.specs.Shown.{shown, after}
 
 -- power-up with the things that a reset keeps
 abbrev pub poweredWith : (dll dlm scratch levels last : ℕ) → Channel
@@ -72,3 +82,33 @@ module _ (c : Channel) where
   pub reset-levels : (k : ℕ) → k < 4 → bit (4 + k) (msr (masterReset c)) ≡ bit (4 + k) (msr c)
   unfolding masterReset
   reset-levels k less = msr-levels (masterReset c) k less ∙ sym (msr-levels c k less)
+
+-- ---- as reads show it, register by register
+
+-- "Power-up: all registers, divisor, scratch, modem inputs, flags, marks and counts 0, queues and shift register empty.": LSR shows the empty
+-- queues, IIR that there is no cause
+pub power-up-reads : listed 8 (shown powerUp) ≡ 0x00 ∷ 0x00 ∷ 0x01 ∷ 0x00 ∷ 0x00 ∷ 0x60 ∷ 0x00 ∷ 0x00 ∷ []
+unfolding stepped refusal grounds firstHeld registerAbove noDivisor arrivalWrong levelsAbove loopAsked effect registerAt plainRegister pick bit digit bits valueOf byteAt afterWrite got iir cause causes firstCause lsr msr msrOf noneQueued shownMarks someMarked noneWaiting allSent
+power-up-reads = refl
+
+-- and what no read shows then is 0 too: the holding-empty flag, the shift register and its byte, kept marks and the time-out count
+pub power-up-hidden : digit (powerUp .transmitter .flag) ∷ digit (powerUp .transmitter .busy) ∷ powerUp .transmitter .shift ∷ powerUp .receiver .kept
+    ∷ powerUp .receiver .timeout ∷ []
+    ≡ 0 ∷ 0 ∷ 0 ∷ 0 ∷ 0 ∷ []
+unfolding digit pick
+power-up-hidden = refl
+
+-- registers 0 and 1 with LCR bit 7 set: the divisor
+abbrev pub divisorReads : Channel → List ℕ
+divisorReads c = listed 2 (shown (after c (Write 3 0x80)))
+
+pub power-up-divisor : divisorReads powerUp ≡ 0x00 ∷ 0x00 ∷ []
+unfolding stepped refusal grounds firstHeld registerAbove noDivisor arrivalWrong levelsAbove loopAsked effect registerAt plainRegister pick bit digit bits valueOf byteAt afterWrite got iir cause causes firstCause lsr msr msrOf noneQueued shownMarks someMarked noneWaiting allSent
+power-up-divisor = refl
+
+-- after a master reset RBR gives the last byte read; IER, LCR and MCR are 0; IIR is 01, LSR 60
+pub reset-reads : (c : Channel)
+    → (listed 6 (shown (masterReset c)) ≡ c .receiver .last ∷ 0x00 ∷ 0x01 ∷ 0x00 ∷ 0x00 ∷ 0x60 ∷ [])
+    × (shown (masterReset c) 7 ≡ c .settings .scratch) × (divisorReads (masterReset c) ≡ c .settings .dll ∷ c .settings .dlm ∷ [])
+unfolding masterReset restarted stepped refusal grounds firstHeld registerAbove noDivisor arrivalWrong levelsAbove loopAsked effect registerAt plainRegister pick bit digit bits valueOf byteAt afterWrite got iir cause causes firstCause lsr msr msrOf noneQueued shownMarks someMarked noneWaiting allSent
+reset-reads c = (refl, refl, refl)

@@ -68,7 +68,7 @@ writes-told (byte ∷ bytes) c plain =
 -- ---- character times
 
 -- the channel after one
-abbrev passed : Channel → Channel
+abbrev pub passed : Channel → Channel
 passed c = record { settings = c .settings; receiver = waited (fifo c) (c .receiver); transmitter = shifted (c .transmitter); modem = c .modem }
 
 after-times : (k : ℕ) (c : Channel) → undivided c ≡ false → afterEvents c (replicate k Time) .transmitter ≡ afterTimes k (c .transmitter)

@@ -2,5 +2,6 @@ pub mod Registers
 pub mod Words
 pub mod Modem
 pub mod RegisterLaws
+pub mod KeptLaws
 pub mod WordLaws
 pub mod ModemLaws

@@ -1,6 +1,6 @@
 -- The MSR and its change bits, bit by bit.
 use Prim.Native.Nat.{ℕ, zero, suc, _+_, _^_, _<_}
-use mathlib.Core.Bool.{Bool, true, false, not, _&&_, _||_, xor}
+use mathlib.Core.Bool.{Bool, true, false, not, _&&_, _||_, xor, and-false, or-true, or-false}
 use mathlib.Core.Path.{_≡_, refl, ap, sym, _∙_}
 use native.Mathlib.Nat.{le-of-suc-le-suc, not-suc-le-zero}
 use lib.Dec.{eqb}
@@ -41,6 +41,18 @@ module _ (changes before after : ℕ) where
   pub rung : bit 2 (changesAfter changes before after) ≡ (bit 2 changes || (bit 2 before && not (bit 2 after)))
   unfolding changesAfter
   rung = bit-bits 2 _
+
+  -- so its fall is told, whatever stood; its rise, and a level that stays, leave what stood
+  pub ring-falls : bit 2 before ≡ true → bit 2 after ≡ false → bit 2 (changesAfter changes before after) ≡ true
+  ring-falls active inactive = rung ∙ (λ i. bit 2 changes || (active i && not (inactive i))) ∙ or-true (bit 2 changes)
+
+  pub ring-rises : bit 2 after ≡ true → bit 2 (changesAfter changes before after) ≡ bit 2 changes
+  ring-rises active =
+      rung ∙ (λ i. bit 2 changes || (bit 2 before && not (active i))) ∙ ap (λ (b : Bool). bit 2 changes || b) (and-false (bit 2 before))
+      ∙ or-false (bit 2 changes)
+
+  pub ring-low : bit 2 before ≡ false → bit 2 (changesAfter changes before after) ≡ bit 2 changes
+  ring-low inactive = rung ∙ (λ i. bit 2 changes || (inactive i && not (bit 2 after))) ∙ or-false (bit 2 changes)
 
   -- and there are no more than these four
   pub changes-small : changesAfter changes before after < 2 ^ 4

@@ -1,0 +1,61 @@
+-- What is right where an edit of must-fail/ goes wrong: closed runs of a few events, each false under the edit that names it.
+use Prim.Native.Nat.{ℕ}
+use mathlib.Core.List.{List, [], _∷_}
+use mathlib.Core.Path.{_≡_, refl}
+use Rattle.base.specs.Pick.{pick}
+use Rattle.base.specs.Bits.{bit, digit, bits}
+use Rattle.base.specs.Answers.{valueOf}
+use Rattle.base.specs.Refusals.{firstHeld}
+use Rattle.queue.specs.Queue.{room, entered, replaced, capacity, accepted, movedDown, taken, oldest, unmarked, anyMarked, marked}
+use Rattle.receiver.specs.Receiver.{noneQueued, received, got, shownMarks, someMarked, looked, cleared, turned, dataStands, timeoutStands}
+use Rattle.transmitter.specs.Transmitter.{noneWaiting, allSent, flagSetIf, written, emptied, enabled}
+use Rattle.registers.specs.Words.{trigger, badArrival}
+use Rattle.registers.specs.Registers.{plainRegister, registerAt, fcrKept}
+use Rattle.registers.specs.Modem.{msrOf}
+use Rattle.channel.specs.declared.Channel.{Channel}
+use Rattle.channel.specs.declared.SeatEvent.{SeatEvent}
+use Rattle.channel.specs.declared.SeatEvent.the-variants.{Read, Write, Arrival}
+use Rattle.channel.specs.Parts.{powerUp, withSettings, withReceiver}
+use Rattle.channel.specs.Status.{lsr, msr, lineTrouble, modemChanged, causes, firstCause, cause, iir, line}
+use Rattle.channel.specs.Effects.{iirRead, lsrRead, byteAt, afterRead, ierWritten, modeChanged, fcrReceiver, fcrTransmitter, fcrWritten, afterWrite, afterArrival}
+use Rattle.channel.specs.Steps.{registerAbove, noDivisor, arrivalWrong, levelsAbove, loopAsked, grounds, refusal, effect, stepped}
+
+-- what a channel answers to these events, in order
+unfoldable told : Channel → List SeatEvent → List ℕ
+told c [] = []
+told c (e ∷ es) = valueOf (stepped c e .answer) ∷ told (stepped c e .channel) es
+
+-- power-up with divisor 12, LCR 03, and these in IER and FCR
+abbrev set : ℕ → ℕ → Channel
+set ier fcr = withSettings powerUp (record { ier = ier; fcr = fcr; lcr = 0x03; mcr = 0; scratch = 0; dll = 12; dlm = 0 })
+
+-- "IER write that turns bit 1 from 0 to 1": one that finds it set leaves the flag. Of `ier-sent`
+flag-only-at-the-rise : told (set 0x02 0x00) (Write 1 0x02 ∷ Read 2 ∷ []) ≡ 0x00 ∷ 0x01 ∷ []
+unfolding told stepped refusal grounds firstHeld registerAbove noDivisor arrivalWrong badArrival levelsAbove loopAsked effect registerAt plainRegister fcrKept pick bit digit bits valueOf byteAt afterRead iirRead lsrRead looked got taken movedDown unmarked iir cause causes firstCause lineTrouble modemChanged lsr msr msrOf noneQueued shownMarks someMarked oldest anyMarked marked noneWaiting allSent dataStands timeoutStands trigger afterWrite ierWritten enabled flagSetIf fcrWritten fcrReceiver fcrTransmitter modeChanged cleared turned emptied written accepted capacity room entered replaced afterArrival received
+flag-only-at-the-rise = refl
+
+-- "A read that named 02 clears that flag.": one that named 04 leaves it. Of `iir-clears`
+flag-outlives-04 : told (set 0x01 0x00) (Write 1 0x03 ∷ Arrival 0 0x41 ∷ Read 2 ∷ Read 0 ∷ Read 2 ∷ []) ≡ 0x00 ∷ 0x00 ∷ 0x04 ∷ 0x41 ∷ 0x02 ∷ []
+unfolding told stepped refusal grounds firstHeld registerAbove noDivisor arrivalWrong badArrival levelsAbove loopAsked effect registerAt plainRegister fcrKept pick bit digit bits valueOf byteAt afterRead iirRead lsrRead looked got taken movedDown unmarked iir cause causes firstCause lineTrouble modemChanged lsr msr msrOf noneQueued shownMarks someMarked oldest anyMarked marked noneWaiting allSent dataStands timeoutStands trigger afterWrite ierWritten enabled flagSetIf fcrWritten fcrReceiver fcrTransmitter modeChanged cleared turned emptied written accepted capacity room entered replaced afterArrival received
+flag-outlives-04 = refl
+
+-- "The seat's line is high exactly if a cause is named and MCR bit 3 is set.": with no cause it is low. Of `line-high`
+line-low-with-no-cause : digit (line (stepped powerUp (Write 4 0x08) .channel)) ≡ 0
+unfolding line stepped refusal grounds firstHeld registerAbove noDivisor arrivalWrong badArrival levelsAbove loopAsked effect registerAt plainRegister fcrKept pick bit digit bits valueOf byteAt afterRead iirRead lsrRead looked got taken movedDown unmarked iir cause causes firstCause lineTrouble modemChanged lsr msr msrOf noneQueued shownMarks someMarked oldest anyMarked marked noneWaiting allSent dataStands timeoutStands trigger afterWrite ierWritten enabled flagSetIf fcrWritten fcrReceiver fcrTransmitter modeChanged cleared turned emptied written accepted capacity room entered replaced afterArrival received
+line-low-with-no-cause = refl
+
+-- "A changed bit 0 empties both and clears kept marks.": LSR bits 5 and 6 are set again. Of `fcr-sent`
+mode-change-empties-the-transmit-queue : told powerUp (Write 0 0x41 ∷ Write 2 0x01 ∷ Read 5 ∷ []) ≡ 0x00 ∷ 0x00 ∷ 0x60 ∷ []
+unfolding told stepped refusal grounds firstHeld registerAbove noDivisor arrivalWrong badArrival levelsAbove loopAsked effect registerAt plainRegister fcrKept pick bit digit bits valueOf byteAt afterRead iirRead lsrRead looked got taken movedDown unmarked iir cause causes firstCause lineTrouble modemChanged lsr msr msrOf noneQueued shownMarks someMarked oldest anyMarked marked noneWaiting allSent dataStands timeoutStands trigger afterWrite ierWritten enabled flagSetIf fcrWritten fcrReceiver fcrTransmitter modeChanged cleared turned emptied written accepted capacity room entered replaced afterArrival received
+mode-change-empties-the-transmit-queue = refl
+
+-- one character with a time-out count of 4
+abbrev late : Channel
+late =
+    withReceiver (set 0x01 0x01)
+    (record { queue = stepped (set 0x01 0x01) (Arrival 0 0x41) .channel .receiver .queue; overrun = powerUp .receiver .overrun; kept = 0; timeout = 4; last = 0 })
+
+-- "04 data" stands before "0C time-out count 4": here the trigger is 1. Of `cause-named`
+trigger-goes-before-the-time-out : told late (Read 2 ∷ []) ≡ 0xC4 ∷ []
+unfolding told stepped refusal grounds firstHeld registerAbove noDivisor arrivalWrong badArrival levelsAbove loopAsked effect registerAt plainRegister fcrKept pick bit digit bits valueOf byteAt afterRead iirRead lsrRead looked got taken movedDown unmarked iir cause causes firstCause lineTrouble modemChanged lsr msr msrOf noneQueued shownMarks someMarked oldest anyMarked marked noneWaiting allSent dataStands timeoutStands trigger afterWrite ierWritten enabled flagSetIf fcrWritten fcrReceiver fcrTransmitter modeChanged cleared turned emptied written accepted capacity room entered replaced afterArrival received
+trigger-goes-before-the-time-out = refl

@@ -1,0 +1,194 @@
+-- What waits in the two queues after an arrival and after a THR write, as a list; and what LSR shows of such a list.
+use Prim.Native.Nat.{ℕ, suc, _+_, _<_, _≤_}
+use mathlib.Core.Bool.{Bool, true, false, not, _&&_, _||_}
+use mathlib.Core.List.{List, [], _∷_, _++_}
+use mathlib.Core.Path.{_≡_, ap, sym, _∙_}
+use native.Mathlib.Omega.{arith}
+use native.Mathlib.Numerals.{add-one}
+use lib.Dec.{ltb, leb, eqb}
+use lib.ListN.{length, getD, length-append}
+use borrow.Author.Tests.{lt-ltb, le-ltb, ne-eqb}
+use Rattle.base.specs.Pick.{pick}
+use Rattle.base.specs.PickLaws.{pick-true, pick-false}
+use Rattle.base.specs.Bits.{bit}
+use Rattle.base.specs.BitLaws.{bit-or}
+use Rattle.queue.specs.declared.Character.{Character}
+use Rattle.queue.specs.declared.Queue.{Queue}
+use Rattle.queue.specs.declared.Put.{Put}
+use Rattle.queue.specs.Queue.{noCharacter, capacity, accepted, oldest, anyMarked, marked}
+use Rattle.queue.specs.QueueLaws.{holding, oldest-is, oldest-none, marked-is}
+use Rattle.queue.specs.CanonicalLaws.{Holds, holds}
+use Rattle.queue.specs.AcceptLaws.{capacity-small, accept-cases}
+use Rattle.receiver.specs.Receiver.{received}
+use Rattle.receiver.specs.CallLaws.{arrive-overrun}
+use Rattle.receiver.specs.SoundLaws as heard
+use Rattle.transmitter.specs.Transmitter.{written}
+use Rattle.transmitter.specs.Sending.{toSend}
+use Rattle.transmitter.specs.SoundLaws as sending
+use Rattle.channel.specs.declared.Channel.{Channel}
+use Rattle.channel.specs.declared.Stepped.{Stepped}
+use Rattle.channel.specs.declared.SeatEvent.the-variants.{Write, Arrival}
+use Rattle.channel.specs.Parts.{fifo}
+use Rattle.channel.specs.Sound.{soundChannel}
+use Rattle.channel.specs.StatusLaws.{lsr-data, lsr-overrun, lsr-kept, lsr-oldest, lsr-empty, lsr-idle, lsr-marked}
+use Rattle.channel_laws.specs.RefusalLaws.{accepts}
+use Rattle.channel_laws.specs.SoundLaws.{parts}
+use Rattle.channel_laws.specs.SideLaws.{arrival-received, thr-writes}
+use Rattle.channel_laws.specs.AgainLaws.{shows-lsr}
+use Rattle.channel_laws.specs.Shown.{shown, after}
+
+-- "queues of 1"; "queues of 16"
+abbrev pub places : Bool → ℕ
+places mode = pick mode 16 1
+
+-- a list with one more: behind the others where there is room; full, in FIFO mode the new one is lost, and in 16450 mode it is alone
+unfoldable pub joined : Bool → List Character → Character → List Character
+joined mode l ch = pick (ltb (length l) (places mode)) (l ++ (ch ∷ [])) (pick mode l (ch ∷ []))
+
+joined-room : (mode : Bool) (l : List Character) (ch : Character) → length l < places mode → joined mode l ch ≡ l ++ (ch ∷ [])
+unfolding joined
+joined-room mode l ch less = pick-true _ _ _ (lt-ltb _ _ less)
+
+joined-full : (mode : Bool) (l : List Character) (ch : Character) → places mode ≤ length l → joined mode l ch ≡ pick mode l (ch ∷ [])
+unfolding joined
+joined-full mode l ch more = pick-false _ _ _ (le-ltb _ _ more)
+
+module _ (mode : Bool) (l : List Character) (ch : Character) (within : length l ≤ places mode) where
+  -- a queue that takes one more holds that list
+  takes : accepted mode (holding l) ch .queue ≡ holding (joined mode l ch)
+  unfolding capacity
+  takes =
+      accept-cases mode l ch (λ (p : Put). p .queue ≡ holding (joined mode l ch)) within
+      (λ less. ap holding (sym (joined-room mode l ch less)))
+      (λ more on. ap holding (sym (joined-full mode l ch more ∙ pick-true _ _ _ on)))
+      (λ old more off one. ap holding (sym (joined-full mode l ch more ∙ pick-false _ _ _ off)))
+
+  -- which is never empty
+  pub joined-some : eqb (length (joined mode l ch)) 0 ≡ false
+  unfolding capacity pick
+  joined-some =
+      accept-cases mode l ch (λ (p : Put). eqb (length (joined mode l ch)) 0 ≡ false) within
+      (λ less.
+      let n : length (l ++ (ch ∷ [])) ≡ suc (length l) = length-append l (ch ∷ []) ∙ add-one (length l) in
+      ap (λ (q : List Character). eqb (length q) 0) (joined-room mode l ch less) ∙ ne-eqb _ _ (λ (e : length (l ++ (ch ∷ [])) ≡ 0). omega arith))
+      (λ more on.
+      let all : 16 ≤ length l = rw on at more in
+      ap (λ (q : List Character). eqb (length q) 0) (joined-full mode l ch more ∙ pick-true _ _ _ on)
+      ∙ ne-eqb _ _ (λ (e : length l ≡ 0). omega arith))
+      (λ old more off one. ap (λ (q : List Character). eqb (length q) 0) (joined-full mode l ch more ∙ pick-false _ _ _ off))
+
+  -- nor longer than the queue
+  pub joined-fits : length (joined mode l ch) ≤ 16
+  unfolding capacity pick
+  joined-fits =
+      let most : places mode ≤ 16 = capacity-small mode in
+      accept-cases mode l ch (λ (p : Put). length (joined mode l ch) ≤ 16) within
+      (λ less.
+      let n : length (l ++ (ch ∷ [])) ≡ suc (length l) = length-append l (ch ∷ []) ∙ add-one (length l) in
+      let e : length (joined mode l ch) ≡ length (l ++ (ch ∷ [])) = ap length (joined-room mode l ch less) in
+      omega arith)
+      (λ more on.
+      let e : length (joined mode l ch) ≡ length l = ap length (joined-full mode l ch more ∙ pick-true _ _ _ on) in
+      omega arith)
+      (λ old more off one.
+      let e : length (joined mode l ch) ≡ 1 = ap length (joined-full mode l ch more ∙ pick-false _ _ _ off) in
+      omega arith)
+
+-- both queues of a sound channel hold such lists
+pub sound-queues : (c : Channel) → soundChannel c ≡ true → Holds (places (fifo c)) (c .receiver .queue) × Holds (places (fifo c)) (c .transmitter .queue)
+unfolding capacity
+sound-queues c sound = (
+  holds _ (c .receiver .queue) (heard.parts (fifo c) (c .receiver) (parts c sound .receiver) .tidy),
+  holds _ (c .transmitter .queue) (sending.parts (fifo c) (c .transmitter) (parts c sound .transmitter) .tidy),
+)
+
+-- ---- what LSR shows of a receive queue
+
+module _ (c : Channel) (l : List Character) (held : c .receiver .queue ≡ holding l) where
+  -- bit 0: "queue not empty"
+  pub holds-data : bit 0 (shown c 5) ≡ not (eqb (length l) 0)
+  holds-data = ap (bit 0) (shows-lsr c) ∙ lsr-data c ∙ ap (λ (q : Queue). not (eqb (q .count) 0)) held
+
+  -- bit 7: "in FIFO mode some queued character has a mark, else 0"
+  pub holds-marked : bit 7 (shown c 5) ≡ (fifo c && anyMarked l)
+  holds-marked = ap (bit 7) (shows-lsr c) ∙ lsr-marked c ∙ ap (λ (b : Bool). fifo c && b) (ap marked held ∙ marked-is l)
+
+first-is : (l : List Character) → oldest (holding l) ≡ getD l 0 noCharacter
+first-is [] = oldest-none
+first-is (ch ∷ l) = oldest-is ch l
+
+-- bits 2 to 4, in FIFO mode: "the oldest character's in FIFO mode (none: 0)"
+pub holds-marks : (c : Channel) (l : List Character) → c .receiver .queue ≡ holding l → fifo c ≡ true → (k : ℕ) → k < 3
+    → bit (2 + k) (shown c 5) ≡ bit k (getD l 0 noCharacter .marks)
+holds-marks c l held mode k less =
+    ap (bit (2 + k)) (shows-lsr c) ∙ lsr-oldest c mode k less ∙ ap (λ (q : Queue). bit k (oldest q .marks)) held
+    ∙ ap (λ (ch : Character). bit k (ch .marks)) (first-is l)
+
+-- ---- an arrival
+
+module _ (c : Channel) (marks byte : ℕ) (served : accepts c (Arrival marks byte) ≡ true) where
+  abbrev arrived : Character
+  arrived = record { «data» = byte; marks = marks }
+
+  abbrev later : Channel
+  later = after c (Arrival marks byte)
+
+  module _ (l : List Character) (held : c .receiver .queue ≡ holding l) (within : length l ≤ places (fifo c)) where
+    -- "Room in the queue: it is queued with its marks. Full in 16450 mode: the new one replaces the old, overrun set. Full in FIFO mode: the new one
+    -- is lost, overrun set."
+    pub arrival-joins : later .receiver .queue ≡ holding (joined (fifo c) l arrived)
+    unfolding received
+    arrival-joins =
+        ap (λ (s : Stepped). s .channel .receiver .queue) (arrival-received c marks byte served)
+        ∙ ap (λ (q : Queue). accepted (fifo c) q arrived .queue) held ∙ takes (fifo c) l arrived within
+
+    pub arrival-overruns : bit 1 (shown later 5) ≡ (bit 1 (shown c 5) || leb (places (fifo c)) (length l))
+    unfolding capacity
+    arrival-overruns =
+        ap (bit 1) (shows-lsr later) ∙ lsr-overrun later
+        ∙ ap (λ (s : Stepped). s .channel .receiver .overrun) (arrival-received c marks byte served)
+        ∙ arrive-overrun (fifo c) (c .receiver) l arrived held within
+        ∙ ap (λ (b : Bool). b || leb (places (fifo c)) (length l)) (sym (ap (bit 1) (shows-lsr c) ∙ lsr-overrun c))
+
+    -- so there is something to read, in every case
+    pub arrival-waits : bit 0 (shown later 5) ≡ true
+    arrival-waits =
+        holds-data later (joined (fifo c) l arrived) arrival-joins ∙ ap not (joined-some (fifo c) l arrived within)
+
+  -- "In 16450 mode marks are also added to kept marks.", which bits 2 to 4 show
+  pub arrival-marks : fifo c ≡ false → (k : ℕ) → k < 3 → bit (2 + k) (shown later 5) ≡ (bit (2 + k) (shown c 5) || bit k marks)
+  unfolding received
+  arrival-marks mode k less =
+      let same : later .settings ≡ c .settings = ap (λ (s : Stepped). s .channel .settings) (arrival-received c marks byte served) in
+      ap (bit (2 + k)) (shows-lsr later) ∙ lsr-kept later (ap (λ s. bit 0 (s .fcr)) same ∙ mode) k less
+      ∙ ap (λ (s : Stepped). bit k (s .channel .receiver .kept)) (arrival-received c marks byte served)
+      ∙ ap (bit k) (pick-false _ _ _ mode) ∙ bit-or k (c .receiver .kept) marks
+      ∙ ap (λ (b : Bool). b || bit k marks) (sym (ap (bit (2 + k)) (shows-lsr c) ∙ lsr-kept c mode k less))
+
+  -- "The time-out count becomes 0."
+  pub arrival-restarts : later .receiver .timeout ≡ 0
+  unfolding received
+  arrival-restarts = ap (λ (s : Stepped). s .channel .receiver .timeout) (arrival-received c marks byte served)
+
+-- ---- a THR write
+
+module _ (c : Channel) (byte : ℕ) (plain : bit 7 (c .settings .lcr) ≡ false) (l : List Character) (held : c .transmitter .queue ≡ holding l)
+    (within : length l ≤ places (fifo c)) where
+  abbrev filled : Channel
+  filled = after c (Write 0 byte)
+
+  -- "THR write queues the byte"; "Full: 16450 mode replaces, FIFO mode drops it."
+  pub thr-joins : filled .transmitter .queue ≡ holding (joined (fifo c) l (toSend byte))
+  unfolding written
+  thr-joins =
+      ap (λ (s : Stepped). s .channel .transmitter .queue) (thr-writes c plain byte)
+      ∙ ap (λ (q : Queue). accepted (fifo c) q (toSend byte) .queue) held ∙ takes (fifo c) l (toSend byte) within
+
+  -- so LSR bits 5 and 6 are 0
+  pub thr-waits : (bit 5 (shown filled 5) ≡ false) × (bit 6 (shown filled 5) ≡ false)
+  thr-waits =
+      let some : eqb (filled .transmitter .queue .count) 0 ≡ false
+      = ap (λ (q : Queue). eqb (q .count) 0) thr-joins ∙ joined-some (fifo c) l (toSend byte) within in (
+        ap (bit 5) (shows-lsr filled) ∙ lsr-empty filled ∙ some,
+        ap (bit 6) (shows-lsr filled) ∙ lsr-idle filled ∙ ap (λ (b : Bool). b && not (filled .transmitter .busy)) some,
+      )
