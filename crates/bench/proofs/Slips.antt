@@ -31,7 +31,7 @@ use Rattle.base.specs.Bits.{digit}
 use Rattle.base.specs.Answers.{refusalOf, valueOf}
 
 -- the outcomes of some records from power-up; it opens what a run computes with
-unfoldable run : List Record → List Outcome
+unfoldable pub run : List Record → List Outcome
 unfolding base-pick.pick base-bits.bit base-bits.digit base-bits.bits base-answers.refusalOf base-answers.valueOf base-refusals.firstHeld queue.oldest queue.anyMarked queue.marked receiver.noneQueued receiver.shownMarks receiver.someMarked receiver.restarted receiver.dataStands receiver.timeoutStands transmitter.noneWaiting transmitter.allSent transmitter.flagSetIf transmitter.enabled parts.masterReset settings.trigger registers.plainRegister registers.registerAt status.lsr status.msr status.lineTrouble status.modemChanged status.causes status.firstCause status.cause status.iir status.line effects.iirRead effects.byteAt effects.afterRead effects.ierWritten effects.afterWrite channel.registerAbove channel.noDivisor channel.arrivalWrong channel.levelsAbove channel.loopAsked channel.grounds channel.refusal channel.effect channel.stepped rank.before rank.aboveEvery rank.find rank.firstPlace turns.settled turns.requests turns.asks turns.hinders turns.grantable turns.outputOf turns.found turns.granted turns.taken turns.grant turns.acknowledged words.icw1 words.icw2 words.icw4 words.ended words.served words.plainEnd words.command words.ocw2 words.written0 words.written1 words.written words.shown refusing.refusal controller.step events.early events.eventOf events.decoded seats.seat seats.withSeat seats.lines seats.withLine refusals.grounds refusals.refusal steps.after steps.answerTo steps.outcome
 run rs = outcomes seats.powerUp rs
 

@@ -77,18 +77,21 @@ none-of : (last : Bool) → recordsOf last [] ≡ []
 unfolding recordsOf
 none-of last = refl
 
--- the bytes that a run has not used are those of the records that it has not answered, so that the next run goes on there
+-- a run uses no byte that is not there; and the bytes that it has not used are those of the records that it has not answered, so that the
+-- next run goes on there
 pub rest-left : (b : Bench) (n : ℕ) (s : List ℕ) (last : Bool) (d d′ : List ℕ) (r : Ran) → Runs b n s last d d′ r
-    → recordsOf last (drop (r .used) s) ≡ drop (r .records) (recordsOf last s)
-rest-left b n s last d d′ r p =
-    ⊎-elim
-    (λ (before : ltb (4 * r .records) (length s) ≡ true).
-    let less : 4 * r .records < length s = ltb-true _ _ before in
-    let used : r .used ≡ 4 * r .records = omega (arith, p .used) in
-    ap (λ (m : ℕ). recordsOf last (drop m s)) used ∙ sym (records-left last (r .records) s (omega arith) .1))
-    (λ (over : ltb (4 * r .records) (length s) ≡ false).
-    let all : length s ≤ 4 * r .records = ltb-false _ _ over in
-    let used : length s ≤ r .used = omega (arith, p .used) in
-    ap (recordsOf last) (drop-of-length-le s used) ∙ none-of last
-    ∙ sym (drop-of-length-le (recordsOf last s) (all-of last s (r .records) all)))
-    (either-way (ltb (4 * r .records) (length s)))
+    → (r .used ≤ length s) × (recordsOf last (drop (r .used) s) ≡ drop (r .records) (recordsOf last s))
+rest-left b n s last d d′ r p = (
+  omega (arith, p .used),
+  ⊎-elim
+      (λ (before : ltb (4 * r .records) (length s) ≡ true).
+      let less : 4 * r .records < length s = ltb-true _ _ before in
+      let used : r .used ≡ 4 * r .records = omega (arith, p .used) in
+      ap (λ (m : ℕ). recordsOf last (drop m s)) used ∙ sym (records-left last (r .records) s (omega arith) .1))
+      (λ (over : ltb (4 * r .records) (length s) ≡ false).
+      let all : length s ≤ 4 * r .records = ltb-false _ _ over in
+      let used : length s ≤ r .used = omega (arith, p .used) in
+      ap (recordsOf last) (drop-of-length-le s used) ∙ none-of last
+      ∙ sym (drop-of-length-le (recordsOf last s) (all-of last s (r .records) all)))
+      (either-way (ltb (4 * r .records) (length s))),
+)
