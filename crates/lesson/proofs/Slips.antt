@@ -21,7 +21,7 @@ unfoldable answer : List ℕ → List ℕ
 unfolding lessonOf answerBy faultOf faultFrom faulty next after placeBehind placeFrom onward bytesOf digitsOf paired worths told commented apart digit pick
 answer text = numbers (lessonOf text 4)
 
--- `later-line`; 08, a line feed, 0x
+-- `later-line`; 08000000, a line feed, x
 columns-count-from-1 : answer (48 ∷ 56 ∷ 48 ∷ 48 ∷ 48 ∷ 48 ∷ 48 ∷ 48 ∷ 10 ∷ 120 ∷ []) ≡ 2 ∷ 1 ∷ []
 unfolding answer
 columns-count-from-1 = refl
