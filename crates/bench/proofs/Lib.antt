@@ -1,1 +1,2 @@
 mod Resets
+pub mod Slips

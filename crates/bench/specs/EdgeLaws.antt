@@ -34,11 +34,11 @@ module _ (b : Bench) where
   seat-refused k s n v uses above = rw (le-ltb 8 k (omega arith), lt-ltb k 5 uses, lt-ltb 7 s above)
 
   -- what is left is the room's: kinds to 8 with a seat to 7, and the four kinds that use no seat
-  taken-seat : (k s n v : ℕ) → k < 5 → s < 8 → early (whole k s n v) ≡ 0
+  pub taken-seat : (k s n v : ℕ) → k < 5 → s < 8 → early (whole k s n v) ≡ 0
   unfolding early firstHeld pick
   taken-seat k s n v uses within = rw (le-ltb 8 k (omega arith), lt-ltb k 5 uses, le-ltb 7 s (omega arith))
 
-  taken-other : (k s n v : ℕ) → 5 ≤ k → k < 9 → early (whole k s n v) ≡ 0
+  pub taken-other : (k s n v : ℕ) → 5 ≤ k → k < 9 → early (whole k s n v) ≡ 0
   unfolding early firstHeld pick
   taken-other k s n v other within = rw (le-ltb 8 k (omega arith), le-ltb k 5 other)
 

@@ -16,3 +16,5 @@ pub mod WiredLaws
 pub mod EdgeLaws
 pub mod ValidLaws
 pub mod AcknowledgeLaws
+pub mod DoneLaws
+pub mod HeardLaws

@@ -22,6 +22,13 @@ pub outcomes-parts : (b : Bench) (rs ss : List Record) → outcomes b (rs ++ ss)
 outcomes-parts b [] ss = refl
 outcomes-parts b (r ∷ rs) ss = ap (λ (l : List Outcome). outcome b r ∷ l) (outcomes-parts (outcome b r .bench) rs ss)
 
+-- so each record is answered once, in order, by the bench after those before it
+pub after-one : (b : Bench) (rs : List Record) (r : Record) → afterAll b (rs ++ (r ∷ [])) ≡ outcome (afterAll b rs) r .bench
+after-one b rs r = after-parts b rs (r ∷ [])
+
+pub outcomes-one : (b : Bench) (rs : List Record) (r : Record) → outcomes b (rs ++ (r ∷ [])) ≡ outcomes b rs ++ (outcome (afterAll b rs) r ∷ [])
+outcomes-one b rs r = outcomes-parts b rs (r ∷ [])
+
 acted-parts : (c : Channel) (xs ys : List Act) → actedAll c (xs ++ ys) ≡ actedAll (actedAll c xs) ys
 acted-parts c [] ys = refl
 acted-parts c (x ∷ xs) ys = acted-parts (acted c x) xs ys

@@ -1,3 +1,5 @@
 -- What the walks share.
 mod InMemory
 mod Leaving
+pub mod Slips
+pub mod PlayLaws

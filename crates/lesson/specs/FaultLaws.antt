@@ -44,7 +44,7 @@ behind s [] = s
 behind s (c ∷ l) = behind (after s c) l
 
 -- what follows characters without a fault is read from where they leave off
-parts-from : (s : Reading) (at : ℕ) (a b : List ℕ) → faultFrom s at a ≡ Nowhere
+pub parts-from : (s : Reading) (at : ℕ) (a b : List ℕ) → faultFrom s at a ≡ Nowhere
     → faultFrom s at (a ++ b) ≡ faultFrom (behind s a) (at + length a) b
 unfolding faultFrom
 parts-from s at [] b e = rw (add-zero at)
@@ -204,7 +204,7 @@ abbrev pub moved : ℕ → Found → Found
 moved n (At at) = At (at + n)
 moved n Nowhere = Nowhere
 
-moved-from : (n : ℕ) (s : Reading) (at : ℕ) (l : List ℕ) → faultFrom s (at + n) l ≡ moved n (faultFrom s at l)
+pub moved-from : (n : ℕ) (s : Reading) (at : ℕ) (l : List ℕ) → faultFrom s (at + n) l ≡ moved n (faultFrom s at l)
 unfolding faultFrom
 moved-from n s at [] = sym (pick-through (moved n) (half s) (At at) Nowhere)
 moved-from n s at (c ∷ l) =

@@ -9,3 +9,5 @@ pub mod PlaceLaws
 pub mod LessonLaws
 pub mod EvenLaws
 pub mod WrittenLaws
+pub mod BlankLaws
+pub mod RoomLaws

@@ -147,7 +147,7 @@ unfolding pick
 told-one true c a b each = each true
 told-one false c a b each = ap (λ (l : List ℕ). c ∷ l) (each false)
 
-told-parts : (a b : List ℕ) (x : Bool) → told x (a ++ b) ≡ told x a ++ told (commentedAfter x a) b
+pub told-parts : (a b : List ℕ) (x : Bool) → told x (a ++ b) ≡ told x a ++ told (commentedAfter x a) b
 unfolding told
 told-parts [] b x = refl
 told-parts (c ∷ a) b x = told-one (commented x c) c a b (told-parts a b)
@@ -158,7 +158,7 @@ unfolding pick
 worths-one true d a b e = ap (λ (l : List ℕ). d ∷ l) e
 worths-one false d a b e = e
 
-worths-parts : (a b : List ℕ) → worths (a ++ b) ≡ worths a ++ worths b
+pub worths-parts : (a b : List ℕ) → worths (a ++ b) ≡ worths a ++ worths b
 unfolding worths
 worths-parts [] b = refl
 worths-parts (c ∷ a) b = worths-one (ltb (digit c) 16) (digit c) a b (worths-parts a b)

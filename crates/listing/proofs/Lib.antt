@@ -1,2 +1,3 @@
 pub mod Stores
 pub mod Turn
+pub mod Slips

@@ -6,3 +6,5 @@ pub mod LineLaws
 pub mod RunLaws
 pub mod FormLaws
 pub mod PartLaws
+pub mod ShownLaws
+pub mod RoomLaws

@@ -50,7 +50,7 @@ listing-left b n k rs h =
     ∙ ap (listing b n) (take-append-drop k rs)
 
 -- the records from the k-th on are those of the bytes from 4 * k on
-records-left : (last : Bool) (k : ℕ) (s : List ℕ) → 4 * k ≤ length s
+pub records-left : (last : Bool) (k : ℕ) (s : List ℕ) → 4 * k ≤ length s
     → (k ≤ length (recordsOf last s)) × (drop k (recordsOf last s) ≡ recordsOf last (drop (4 * k) s))
 unfolding recordsOf
 records-left last zero s h = (omega arith, refl)

@@ -1,0 +1,47 @@
+-- Closed texts, character by character: what is read of them is false under the slips of must-fail/.
+use Prim.Native.Nat.{ℕ}
+use mathlib.Core.List.{List, [], _∷_}
+use mathlib.Core.Path.{_≡_, refl}
+use Rattle.base.specs.Pick.{pick}
+use Rattle.lesson.specs.Text.{digit, apart, commented, told, worths, paired, digitsOf, bytesOf}
+use Rattle.lesson.specs.Fault.{faulty, next, after, faultFrom, faultOf}
+use Rattle.lesson.specs.Place.{onward, placeFrom, placeBehind}
+use Rattle.lesson.specs.Lesson.{answerBy, lessonOf}
+use Rattle.lesson.specs.declared.Lesson.{Lesson}
+use Rattle.lesson.specs.declared.Lesson.the-variants.{Bytes, Fault, TooLong}
+
+-- an answer in numbers: how many bytes, or line and column
+abbrev numbers : Lesson → List ℕ
+numbers (Bytes n) = n ∷ []
+numbers (Fault line column) = line ∷ column ∷ []
+numbers TooLong = []
+
+-- what is answered to a text where four bytes have room; it opens what reading computes with
+unfoldable answer : List ℕ → List ℕ
+unfolding lessonOf answerBy faultOf faultFrom faulty next after placeBehind placeFrom onward bytesOf digitsOf paired worths told commented apart digit pick
+answer text = numbers (lessonOf text 4)
+
+-- `later-line`; 08000000, a line feed, x
+columns-count-from-1 : answer (48 ∷ 56 ∷ 48 ∷ 48 ∷ 48 ∷ 48 ∷ 48 ∷ 48 ∷ 10 ∷ 120 ∷ []) ≡ 2 ∷ 1 ∷ []
+unfolding answer
+columns-count-from-1 = refl
+
+-- `written-record`; 08, a number sign
+number-sign-begins-a-comment : answer (48 ∷ 56 ∷ 35 ∷ []) ≡ 1 ∷ []
+unfolding answer
+number-sign-begins-a-comment = refl
+
+-- `forgotten-byte`; 08, a line feed, 00
+forgotten-byte-is-found : answer (48 ∷ 56 ∷ 10 ∷ 48 ∷ 48 ∷ []) ≡ 2 ∷ 1 ∷ []
+unfolding answer
+forgotten-byte-is-found = refl
+
+-- `wrong-character`; 0, a space, 8
+digits-stand-together : answer (48 ∷ 32 ∷ 56 ∷ []) ≡ 1 ∷ 2 ∷ []
+unfolding answer
+digits-stand-together = refl
+
+-- `letter-worth`; 0a
+small-a-is-10 : bytesOf (48 ∷ 97 ∷ []) ≡ 0x0A ∷ []
+unfolding answer
+small-a-is-10 = refl

@@ -1,0 +1,32 @@
+-- What the contracts of the digest require: a mark tells all that it is made of, and no number is added unseen.
+use Prim.Native.Nat.{ℕ, _+_, _*_, _/_, _%_, _<_}
+use mathlib.Core.Bool.{Bool}
+use mathlib.Core.Path.{_≡_}
+use native.Mathlib.Omega.{arith}
+use Rattle.base.specs.Bits.{digit}
+use Rattle.base.specs.BitLaws.{digit-le}
+use Rattle.base.specs.Answers.{refusalOf, valueOf}
+use Rattle.base.specs.declared.Answer.{Answer}
+use Rattle.streams.proofs.digest.add.Reads as added
+use Rattle.streams.proofs.digest.outcome_mark.Reads as outcome
+use Rattle.streams.proofs.digest.place_mark.Reads as place
+
+-- refusal, answer and output are read back from the mark of an outcome
+pub outcome-told : (κ e : _) (answer : Answer) (output : Bool) (r : ℕ) → outcome.Post κ (answer, (output, tt)) r e → valueOf answer < 4096
+    → (r / 8192 ≡ refusalOf answer) × (r / 2 % 4096 ≡ valueOf answer) × (r % 2 ≡ digit output)
+outcome-told κ e answer output r p small =
+    let is : r ≡ refusalOf answer * 8192 + valueOf answer * 2 + digit output = p in
+    (omega (arith, digit-le output), omega (arith, digit-le output), omega (arith, digit-le output))
+
+-- and refusal and answer from that of a place
+pub place-told : (κ e : _) (answer : Answer) (r : ℕ) → place.Post κ (answer, tt) r e → valueOf answer < 4096
+    → (r / 4096 ≡ refusalOf answer) × (r % 4096 ≡ valueOf answer)
+place-told κ e answer r p small = let is : r ≡ refusalOf answer * 4096 + valueOf answer = p in (omega arith, omega arith)
+
+-- two numbers that bring a digest to the same one are the same
+pub added-told : (κ κ′ e e′ : _) (digest v v′ r : ℕ) → added.Post κ (digest, (v, tt)) r e → added.Post κ′ (digest, (v′, tt)) r e′
+    → v < 2147483647 → v′ < 2147483647 → v ≡ v′
+added-told κ κ′ e e′ digest v v′ r p p′ small small′ =
+    let is : r ≡ (digest * 1000003 + v + 1) % 2147483647 = p in
+    let is′ : r ≡ (digest * 1000003 + v′ + 1) % 2147483647 = p′ in
+    omega arith
