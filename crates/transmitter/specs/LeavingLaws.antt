@@ -15,9 +15,8 @@ use Rattle.queue.specs.Queue.{emptyQueue}
 use Rattle.queue.specs.QueueLaws.{holding}
 use Rattle.queue.specs.RunLaws.{acceptedAll, first-16-held, last-held}
 use Rattle.transmitter.specs.declared.Transmitter.{Transmitter}
-use Rattle.transmitter.specs.Transmitter.{still, allSent, flagSetIf, written, emptied, shifted}
+use Rattle.transmitter.specs.Transmitter.{still, allSent, flagSetIf, written, emptied}
 use Rattle.transmitter.specs.Sending.{toSend, writtenAll, leaving, sending, afterTimes}
-use Rattle.transmitter.specs.CallLaws.{shift-none}
 use Rattle.transmitter.specs.Sound.{soundTransmitter}
 use Rattle.transmitter.specs.SoundLaws.{idle-holds}
 use Rattle.transmitter.specs.SendingLaws.{all-leave, flag-stays}
