@@ -1,5 +1,5 @@
 -- One character more, in both modes: in terms of the list that the queue holds.
-use Prim.Native.Nat.{_<_, _≤_}
+use Prim.Native.Nat.{_<_, _≤_, min}
 use mathlib.Core.List.{List, [], _∷_, _++_}
 use mathlib.Core.Bool.{Bool, true, false}
 use mathlib.Core.Path.{_≡_, refl, ap₂, sym, subst, _∙_}
@@ -9,12 +9,12 @@ use lib.Dec.{ltb}
 use lib.ListN.{length}
 use borrow.Author.Tests.{lt-ltb, le-ltb, ltb-true, ltb-false}
 use Rattle.base.specs.Pick.{pick}
-use Rattle.base.specs.PickLaws.{pick-true, pick-false, pick-same, pick-through, and-false, either-way}
+use Rattle.base.specs.PickLaws.{pick-true, pick-false, pick-same, pick-through, either-way}
 use Rattle.queue.specs.declared.Character.{Character}
 use Rattle.queue.specs.declared.Queue.{Queue}
 use Rattle.queue.specs.declared.Put.{Put}
 use Rattle.queue.specs.Queue.{room, capacity, accepted, canonical}
-use Rattle.queue.specs.QueueLaws.{holding, enter-room, replace-newest}
+use Rattle.queue.specs.QueueLaws.{holding, room-left, enter-room, replace-newest}
 use Rattle.queue.specs.FactsLaws.{Facts, facts-1, facts-16}
 
 pub capacity-small : (fifo : Bool) → capacity fifo ≤ 16
@@ -29,12 +29,10 @@ facts-of false = facts-1
 
 module _ (fifo : Bool) (l : List Character) (ch : Character) where
   has-room : length l < capacity fifo → room (holding l) (capacity fifo) ≡ true
-  unfolding room
-  has-room less = rw (lt-ltb (length l) 16 (omega (arith, capacity-small fifo)), lt-ltb (length l) (capacity fifo) less)
+  has-room less = room-left (capacity fifo) l ∙ lt-ltb (length l) (min (capacity fifo) 16) (omega (arith, capacity-small fifo))
 
   no-room : capacity fifo ≤ length l → room (holding l) (capacity fifo) ≡ false
-  unfolding room
-  no-room more = rw (le-ltb (length l) (capacity fifo) more) (and-false (ltb (length l) 16))
+  no-room more = room-left (capacity fifo) l ∙ le-ltb (length l) (min (capacity fifo) 16) (omega arith)
 
   -- room: behind the others
   pub accept-room : length l < capacity fifo → accepted fifo (holding l) ch ≡ record { queue = holding (l ++ (ch ∷ [])); full = false }

@@ -1,6 +1,6 @@
 -- What each call does, in terms of the list of characters that the queue holds, the oldest first.
 use Prim.Native.Nat.{ℕ, suc, _<_, _≤_}
-use mathlib.Core.Bool.{Bool, true, false, not, _||_}
+use mathlib.Core.Bool.{Bool, true, false, not, _||_, or-true, or-false}
 use mathlib.Core.List.{List, [], _∷_, _++_}
 use mathlib.Core.Path.{_≡_, refl, ap, sym, _∙_}
 use native.Mathlib.Omega.{arith}
@@ -38,14 +38,6 @@ some-queued r ch l held =
 abbrev arrivedWith : Receiver → Queue → Bool → Receiver
 arrivedWith r q overrun = record { queue = q; overrun = overrun; kept = r .kept; timeout = 0; last = r .last }
 
-unset : (b : Bool) → (b || false) ≡ b
-unset true = refl
-unset false = refl
-
-set-anyway : (b : Bool) → (b || true) ≡ true
-set-anyway true = refl
-set-anyway false = refl
-
 module _ (r : Receiver) (l : List Character) (ch : Character) (held : r .queue ≡ holding l) where
   -- FIFO mode with room: behind the others, and no mark is kept
   pub arrive-fifo : length l < 16
@@ -54,7 +46,7 @@ module _ (r : Receiver) (l : List Character) (ch : Character) (held : r .queue �
   arrive-fifo less =
       let a : accepted true (r .queue) ch ≡ record { queue = holding (l ++ (ch ∷ [])); full = false }
       = ap (λ (q : Queue). accepted true q ch) held ∙ accept-room true l ch less in
-      ap (λ (p : Put). arrivedWith r (p .queue) (r .overrun || p .full)) a ∙ ap (arrivedWith r (holding (l ++ (ch ∷ [])))) (unset (r .overrun))
+      ap (λ (p : Put). arrivedWith r (p .queue) (r .overrun || p .full)) a ∙ ap (arrivedWith r (holding (l ++ (ch ∷ [])))) (or-false (r .overrun))
 
   -- FIFO mode, full: the queue stays, and overrun is set
   pub arrive-fifo-full : length l ≡ 16
@@ -63,7 +55,7 @@ module _ (r : Receiver) (l : List Character) (ch : Character) (held : r .queue �
   arrive-fifo-full full =
       let a : accepted true (r .queue) ch ≡ record { queue = holding l; full = true }
       = ap (λ (q : Queue). accepted true q ch) held ∙ accept-lost l ch (omega arith) in
-      ap (λ (p : Put). arrivedWith r (p .queue) (r .overrun || p .full)) a ∙ ap (arrivedWith r (holding l)) (set-anyway (r .overrun))
+      ap (λ (p : Put). arrivedWith r (p .queue) (r .overrun || p .full)) a ∙ ap (arrivedWith r (holding l)) (or-true (r .overrun))
 
 -- what an arrival in 16450 mode leaves: the new character alone, and its marks beside the marks kept before, bit by bit
 pub record Arrived16450 (r : Receiver) (ch : Character) (overrun : Bool) : Type 0 where
@@ -81,7 +73,7 @@ arrive-16450 r ch held =
     = ap (λ (q : Queue). accepted false q ch) held ∙ accept-room false [] ch (omega arith) in
     record {
       alone = ap (λ (p : Put). p .queue) a;
-      overrun-after = ap (λ (p : Put). r .overrun || p .full) a ∙ unset (r .overrun);
+      overrun-after = ap (λ (p : Put). r .overrun || p .full) a ∙ or-false (r .overrun);
       marks-added = λ k. bit-or k (r .kept) (ch .marks);
       count-zero = refl;
       last-stays = refl;
@@ -95,7 +87,7 @@ arrive-16450-full r old ch held =
     = ap (λ (q : Queue). accepted false q ch) held ∙ accept-replaced old ch in
     record {
       alone = ap (λ (p : Put). p .queue) a;
-      overrun-after = ap (λ (p : Put). r .overrun || p .full) a ∙ set-anyway (r .overrun);
+      overrun-after = ap (λ (p : Put). r .overrun || p .full) a ∙ or-true (r .overrun);
       marks-added = λ k. bit-or k (r .kept) (ch .marks);
       count-zero = refl;
       last-stays = refl;

@@ -1,6 +1,6 @@
 -- Characters that arrive one after another, and what RBR reads give after them.
 use Prim.Native.Nat.{ℕ, zero, suc, _+_, _-_, _<_, _≤_}
-use mathlib.Core.Bool.{Bool, true, false, _||_}
+use mathlib.Core.Bool.{Bool, true, false, _||_, or-false}
 use mathlib.Core.List.{List, [], _∷_, _++_}
 use mathlib.Core.Logic.{⊎-elim}
 use mathlib.Core.Path.{_≡_, refl, ap, sym, _∙_}
@@ -51,13 +51,9 @@ one-more true full n = refl
 one-more false true n = sym (lt-ltb 0 (1 + n) (omega arith))
 one-more false false n = let same : n ≡ 0 + n = omega arith in ap (ltb 0) same
 
-unset : (b : Bool) → (b || false) ≡ b
-unset true = refl
-unset false = refl
-
 overrun-after : (fifo : Bool) (r : Receiver) (l : List Character) → arrivals fifo r l .overrun ≡ (r .overrun || ltb 0 (foundFull fifo (r .queue) l))
 unfolding received
-overrun-after fifo r [] = sym (unset (r .overrun))
+overrun-after fifo r [] = sym (or-false (r .overrun))
 overrun-after fifo r (ch ∷ l) =
     overrun-after fifo (received fifo r ch) l
     ∙ one-more (r .overrun) (accepted fifo (r .queue) ch .full) (foundFull fifo (accepted fifo (r .queue) ch .queue) l)

@@ -1,6 +1,6 @@
 -- What each call does, in terms of the list of characters that wait, the oldest first; and the holding-empty flag after each.
 use Prim.Native.Nat.{ℕ, suc, _<_, _≤_}
-use mathlib.Core.Bool.{Bool, true, false, not, _&&_, _||_}
+use mathlib.Core.Bool.{Bool, true, false, not, _&&_, _||_, or-true, or-false}
 use mathlib.Core.List.{List, [], _∷_, _++_}
 use mathlib.Core.Path.{_≡_, refl, ap, sym, _∙_}
 use native.Mathlib.Omega.{arith}
@@ -119,14 +119,6 @@ enable-some t ch l held = pick-false _ _ _ (some-waiting t ch l held)
 
 -- ---- the flag alone
 
-set-anyway : (b : Bool) → (b || true) ≡ true
-set-anyway true = refl
-set-anyway false = refl
-
-unset : (b : Bool) → (b || false) ≡ b
-unset true = refl
-unset false = refl
-
 -- cleared by a write and by a read that named it, whatever waits
 pub flag-written : (fifo : Bool) (t : Transmitter) (byte : ℕ) → written fifo t byte .flag ≡ false
 unfolding written
@@ -137,22 +129,22 @@ flag-read t = refl
 
 -- emptying sets it where something waited
 pub flag-emptied : (t : Transmitter) (l : List Character) → t .queue ≡ holding l → emptied t .flag ≡ (t .flag || ltb 0 (length l))
-flag-emptied t [] held = ap (λ (u : Transmitter). u .flag) (clear-none t held) ∙ sym (unset (t .flag))
+flag-emptied t [] held = ap (λ (u : Transmitter). u .flag) (clear-none t held) ∙ sym (or-false (t .flag))
 flag-emptied t (ch ∷ l) held =
-    ap (λ (u : Transmitter). u .flag) (clear-some t ch l held) ∙ sym (set-anyway (t .flag))
+    ap (λ (u : Transmitter). u .flag) (clear-some t ch l held) ∙ sym (or-true (t .flag))
     ∙ ap (λ (b : Bool). t .flag || b) (sym (lt-ltb 0 (suc (length l)) (omega arith)))
 
 -- a character time sets it where the only one that waits moves in
 pub flag-shifted : (t : Transmitter) (l : List Character) → t .queue ≡ holding l → length l ≤ 16 → shifted t .flag ≡ (t .flag || eqb (length l) 1)
-flag-shifted t [] held fits = ap (λ (u : Transmitter). u .flag) (shift-none t held) ∙ sym (unset (t .flag))
-flag-shifted t (ch ∷ []) held fits = ap (λ (u : Transmitter). u .flag) (shift-last t ch held) ∙ sym (set-anyway (t .flag))
+flag-shifted t [] held fits = ap (λ (u : Transmitter). u .flag) (shift-none t held) ∙ sym (or-false (t .flag))
+flag-shifted t (ch ∷ []) held fits = ap (λ (u : Transmitter). u .flag) (shift-last t ch held) ∙ sym (or-true (t .flag))
 flag-shifted t (ch ∷ after ∷ l) held fits =
     let more : eqb (suc (suc (length l))) 1 ≡ false = ne-eqb _ _ (λ (e : suc (suc (length l)) ≡ 1). omega arith) in
-    ap (λ (u : Transmitter). u .flag) (shift-more t ch after l held (omega arith)) ∙ sym (unset (t .flag)) ∙ ap (λ (b : Bool). t .flag || b) (sym more)
+    ap (λ (u : Transmitter). u .flag) (shift-more t ch after l held (omega arith)) ∙ sym (or-false (t .flag)) ∙ ap (λ (b : Bool). t .flag || b) (sym more)
 
 -- enabling sets it where nothing waits
 pub flag-enabled : (t : Transmitter) (l : List Character) → t .queue ≡ holding l → enabled t .flag ≡ (t .flag || eqb (length l) 0)
-flag-enabled t [] held = ap (λ (u : Transmitter). u .flag) (enable-none t held) ∙ sym (set-anyway (t .flag))
+flag-enabled t [] held = ap (λ (u : Transmitter). u .flag) (enable-none t held) ∙ sym (or-true (t .flag))
 flag-enabled t (ch ∷ l) held =
     let some : eqb (suc (length l)) 0 ≡ false = ne-eqb _ _ (λ (e : suc (length l) ≡ 0). omega arith) in
-    ap (λ (u : Transmitter). u .flag) (enable-some t ch l held) ∙ sym (unset (t .flag)) ∙ ap (λ (b : Bool). t .flag || b) (sym some)
+    ap (λ (u : Transmitter). u .flag) (enable-some t ch l held) ∙ sym (or-false (t .flag)) ∙ ap (λ (b : Bool). t .flag || b) (sym some)

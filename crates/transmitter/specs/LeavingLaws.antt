@@ -15,12 +15,11 @@ use Rattle.queue.specs.Queue.{emptyQueue}
 use Rattle.queue.specs.QueueLaws.{holding}
 use Rattle.queue.specs.RunLaws.{acceptedAll, first-16-held, last-held}
 use Rattle.transmitter.specs.declared.Transmitter.{Transmitter}
-use Rattle.transmitter.specs.Transmitter.{still, allSent, flagSetIf, written, emptied, shifted}
+use Rattle.transmitter.specs.Transmitter.{still, allSent, flagSetIf, written, emptied}
 use Rattle.transmitter.specs.Sending.{toSend, writtenAll, leaving, sending, afterTimes}
-use Rattle.transmitter.specs.CallLaws.{shift-none}
 use Rattle.transmitter.specs.Sound.{soundTransmitter}
 use Rattle.transmitter.specs.SoundLaws.{idle-holds}
-use Rattle.transmitter.specs.SendingLaws.{all-leave}
+use Rattle.transmitter.specs.SendingLaws.{all-leave, flag-stays}
 
 pub waiting-leaves : (bytes : List ℕ) (t : Transmitter) (k : ℕ) → length bytes ≤ 16 → t .queue ≡ holding (map toSend bytes)
     → sending (suc (length bytes) + k) t ≡ leaving t ∷ (map Sent bytes ++ replicate k Idle)
@@ -41,14 +40,6 @@ pub power-up-idle : (k : ℕ) → sending k still ≡ replicate k Idle
 unfolding sending pick
 power-up-idle zero = refl
 power-up-idle (suc k) = none-waiting-leaves still k refl
-
--- nothing waits: the flag stays as it is
-flag-stays : (k : ℕ) (t : Transmitter) → t .queue ≡ holding [] → afterTimes k t .flag ≡ t .flag
-unfolding afterTimes
-flag-stays zero t held = refl
-flag-stays (suc k) t held =
-    let e = shift-none t held in
-    flag-stays k (shifted t) (ap (λ (u : Transmitter). u .queue) e) ∙ ap (λ (u : Transmitter). u .flag) e
 
 -- "flags, marks and counts 0": nor is there anything to tell
 pub power-up-tells-nothing : (k : ℕ) → afterTimes k still .flag ≡ false

@@ -126,13 +126,13 @@ module _ (fifo : Bool) (t : Transmitter) (sound : soundTransmitter fifo t ≡ tr
 
 -- ---- the flag
 
--- nothing waits: it stays set
-flag-stays : (k : ℕ) (t : Transmitter) → t .queue ≡ holding [] → t .flag ≡ true → afterTimes k t .flag ≡ true
+-- nothing waits: it stays as it is
+pub flag-stays : (k : ℕ) (t : Transmitter) → t .queue ≡ holding [] → afterTimes k t .flag ≡ t .flag
 unfolding afterTimes
-flag-stays zero t held set = set
-flag-stays (suc k) t held set =
+flag-stays zero t held = refl
+flag-stays (suc k) t held =
     let e = shift-none t held in
-    flag-stays k (shifted t) (ap (λ (u : Transmitter). u .queue) e) (ap (λ (u : Transmitter). u .flag) e ∙ set)
+    flag-stays k (shifted t) (ap (λ (u : Transmitter). u .queue) e) ∙ ap (λ (u : Transmitter). u .flag) e
 
 one-more : (n k : ℕ) → leb n k ≡ leb (suc n) (suc k)
 one-more n k =
@@ -151,7 +151,7 @@ unfolding afterTimes
 flag-follows zero t ch l held fits clear = clear ∙ sym (lt-leb (suc (length l)) 0 (omega arith))
 flag-follows (suc k) t ch [] held fits clear =
     let e = shift-last t ch held in
-    flag-stays k (shifted t) (ap (λ (u : Transmitter). u .queue) e) (ap (λ (u : Transmitter). u .flag) e) ∙ sym (le-leb 1 (suc k) (omega arith))
+    flag-stays k (shifted t) (ap (λ (u : Transmitter). u .queue) e) ∙ ap (λ (u : Transmitter). u .flag) e ∙ sym (le-leb 1 (suc k) (omega arith))
 flag-follows (suc k) t ch (after ∷ l) held fits clear =
     let e = shift-more t ch after l held (omega arith) in
     flag-follows k (shifted t) after l (ap (λ (u : Transmitter). u .queue) e) (omega arith) (ap (λ (u : Transmitter). u .flag) e ∙ clear)
