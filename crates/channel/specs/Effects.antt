@@ -7,9 +7,9 @@ use Rattle.base.specs.Bits.{bit}
 use Rattle.base.specs.declared.Answer.{Answer}
 use Rattle.base.specs.declared.Answer.the-variants.{Sent, Idle, Break}
 use Rattle.receiver.specs.declared.Receiver.{Receiver}
-use Rattle.receiver.specs.Receiver.{received, got, looked, waited, cleared, turned}
+use Rattle.receiver.specs.Receiver.{received, got, looked, waited, fcrHeard}
 use Rattle.transmitter.specs.declared.Transmitter.{Transmitter}
-use Rattle.transmitter.specs.Transmitter.{flagCleared, written, emptied, shifted, enabled}
+use Rattle.transmitter.specs.Transmitter.{written, shifted, iirSeen, ierSent, fcrSent}
 use Rattle.channel.specs.declared.Channel.{Channel}
 use Rattle.registers.specs.declared.Register.{Register}
 use Rattle.registers.specs.declared.Register.the-variants.{RbrThr, Ier, IirFcr, Lcr, Mcr, Lsr, Msr, Scratch, Dll, Dlm}
@@ -23,7 +23,7 @@ use Rattle.channel.specs.Status.{lsr, msr, inputs, cause, iir}
 
 -- "A read that named 02 clears that flag."
 unfoldable pub iirRead : Channel → Channel
-iirRead c = withTransmitter c (pick (eqb (cause c) 0x02) (flagCleared (c .transmitter)) (c .transmitter))
+iirRead c = withTransmitter c (iirSeen (eqb (cause c) 0x02) (c .transmitter))
 
 -- "A read clears overrun, and the marks it showed, after answering."
 unfoldable pub lsrRead : Channel → Channel
@@ -67,7 +67,7 @@ ierWritten c byte =
     record {
       settings = kept (c .settings) Ier byte;
       receiver = c .receiver;
-      transmitter = pick (not (bit 1 (c .settings .ier)) && bit 1 byte) (enabled (c .transmitter)) (c .transmitter);
+      transmitter = ierSent (not (bit 1 (c .settings .ier)) && bit 1 byte) (c .transmitter);
       modem = c .modem;
     }
 
@@ -77,13 +77,11 @@ modeChanged c byte = differ (fifo c) (bit 0 byte)
 
 -- "Bit 0 set": "bit 1 empties the receive queue"; "A changed bit 0 empties both and clears kept marks."
 unfoldable pub fcrReceiver : Channel → ℕ → Receiver
-fcrReceiver c byte =
-    pick (modeChanged c byte) (turned (c .receiver))
-    (pick (bit 0 byte && bit 1 byte) (cleared (c .receiver)) (c .receiver))
+fcrReceiver c byte = fcrHeard (modeChanged c byte) (bit 0 byte && bit 1 byte) (c .receiver)
 
 -- "Bit 0 set": "bit 2 the transmit queue"; "A changed bit 0 empties both"
 unfoldable pub fcrTransmitter : Channel → ℕ → Transmitter
-fcrTransmitter c byte = pick (modeChanged c byte || (bit 0 byte && bit 2 byte)) (emptied (c .transmitter)) (c .transmitter)
+fcrTransmitter c byte = fcrSent (modeChanged c byte || (bit 0 byte && bit 2 byte)) (c .transmitter)
 
 -- the FCR with what it empties
 unfoldable pub fcrWritten : Channel → ℕ → Channel

@@ -1,13 +1,13 @@
 -- What a read of the IIR clears: the holding-empty flag, and only where it was named.
 use Prim.Native.Nat.{ℕ}
-use mathlib.Core.Bool.{Bool, true, false, not, _&&_, and-true, and-false}
-use mathlib.Core.Path.{_≡_, refl, ap, sym, _∙_}
+use mathlib.Core.Bool.{Bool, true, false, not, _&&_}
+use mathlib.Core.Path.{_≡_, refl, ap, _∙_}
 use lib.Dec.{eqb}
 use Rattle.base.specs.Pick.{pick}
 use Rattle.base.specs.PickLaws.{pick-false}
 use Rattle.base.specs.Bits.{bit}
-use Rattle.transmitter.specs.declared.Transmitter.{Transmitter}
-use Rattle.transmitter.specs.Transmitter.{noneWaiting, allSent, flagCleared}
+use Rattle.transmitter.specs.Transmitter.{noneWaiting, allSent}
+use Rattle.transmitter.specs.RegisterLaws.{iir-clears-flag}
 use Rattle.channel.specs.declared.Channel.{Channel}
 use Rattle.channel.specs.Parts.{withTransmitter}
 use Rattle.channel.specs.Status.{lsr, msr, lineTrouble, modemChanged, causes, firstCause, cause}
@@ -20,16 +20,10 @@ flagged c flag =
     withTransmitter c
     (record { queue = c .transmitter .queue; busy = c .transmitter .busy; shift = c .transmitter .shift; flag = flag })
 
-told : (b : Bool) (t : Transmitter)
-    → pick b (flagCleared t) t ≡ record { queue = t .queue; busy = t .busy; shift = t .shift; flag = t .flag && not b }
-unfolding pick
-told true t = λ i. record { queue = t .queue; busy = t .busy; shift = t .shift; flag = sym (and-false (t .flag)) i }
-told false t = λ i. record { queue = t .queue; busy = t .busy; shift = t .shift; flag = sym (and-true (t .flag)) i }
-
 -- an IIR read changes nothing but the flag, and that only if 02 was named
 pub iir-clears : (c : Channel) → iirRead c ≡ flagged c (c .transmitter .flag && not (eqb (cause c) 0x02))
 unfolding iirRead
-iir-clears c = ap (withTransmitter c) (told (eqb (cause c) 0x02) (c .transmitter))
+iir-clears c = ap (withTransmitter c) (iir-clears-flag (eqb (cause c) 0x02) (c .transmitter))
 
 -- any other code leaves the whole channel as it is
 pub iir-leaves : (c : Channel) → eqb (cause c) 0x02 ≡ false → iirRead c ≡ c

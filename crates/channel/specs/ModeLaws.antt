@@ -1,6 +1,6 @@
 -- What a write to FCR or IER makes of the two sides: the mode, the trigger, what is emptied, and the holding-empty flag.
 use Prim.Native.Nat.{ℕ, zero, suc, _+_, _*_, _/_, _%_, _<_}
-use mathlib.Core.Bool.{Bool, true, false, not, _&&_, _||_, xor, and-true, and-false, and-self-left, or-true, or-false}
+use mathlib.Core.Bool.{Bool, true, false, not, _&&_, _||_, xor, and-true, and-false, and-self-left}
 use mathlib.Core.List.{List, [], _∷_}
 use mathlib.Core.Path.{_≡_, refl, ap, sym, _∙_}
 use native.Mathlib.Omega.{arith}
@@ -12,10 +12,10 @@ use Rattle.base.specs.PickLaws.{pick-false}
 use Rattle.base.specs.Bits.{bit, digit}
 use Rattle.base.specs.BitLaws.{bit-bits, bit-past, digit-bit}
 use Rattle.queue.specs.Queue.{emptyQueue}
-use Rattle.receiver.specs.declared.Receiver.{Receiver}
-use Rattle.receiver.specs.Receiver.{cleared, turned}
-use Rattle.transmitter.specs.declared.Transmitter.{Transmitter}
-use Rattle.transmitter.specs.Transmitter.{noneWaiting, flagSetIf, emptied, enabled}
+use Rattle.receiver.specs.Receiver.{fcrHeard}
+use Rattle.receiver.specs.CallLaws as heard
+use Rattle.transmitter.specs.Transmitter.{noneWaiting, fcrSent}
+use Rattle.transmitter.specs.RegisterLaws as sent
 use Rattle.channel.specs.declared.Channel.{Channel}
 use Rattle.channel.specs.Parts.{fifo}
 use Rattle.registers.specs.Words.{trigger}
@@ -83,36 +83,6 @@ trigger-chosen byte on =
 
 -- ---- what a write to it empties
 
-flag-set : (b : Bool) (t : Transmitter) → flagSetIf b t ≡ record { queue = t .queue; busy = t .busy; shift = t .shift; flag = t .flag || b }
-unfolding flagSetIf pick
-flag-set true t = λ i. record { queue = t .queue; busy = t .busy; shift = t .shift; flag = sym (or-true (t .flag)) i }
-flag-set false t = λ i. record { queue = t .queue; busy = t .busy; shift = t .shift; flag = sym (or-false (t .flag)) i }
-
-emptied-where : (e : Bool) (t : Transmitter) → pick e (emptied t) t
-    ≡ record { queue = pick e emptyQueue (t .queue); busy = t .busy; shift = t .shift; flag = t .flag || (e && not (noneWaiting t)) }
-unfolding pick emptied
-emptied-where true t = flag-set (not (noneWaiting t)) (record { queue = emptyQueue; busy = t .busy; shift = t .shift; flag = t .flag })
-emptied-where false t = λ i. record { queue = t .queue; busy = t .busy; shift = t .shift; flag = sym (or-false (t .flag)) i }
-
-enabled-where : (e : Bool) (t : Transmitter) → pick e (enabled t) t
-    ≡ record { queue = t .queue; busy = t .busy; shift = t .shift; flag = t .flag || (e && noneWaiting t) }
-unfolding pick enabled
-enabled-where true t = flag-set (noneWaiting t) t
-enabled-where false t = λ i. record { queue = t .queue; busy = t .busy; shift = t .shift; flag = sym (or-false (t .flag)) i }
-
-cleared-where : (m a : Bool) (r : Receiver) → pick m (turned r) (pick a (cleared r) r)
-    ≡ record {
-      queue = pick (m || a) emptyQueue (r .queue);
-      overrun = r .overrun;
-      kept = pick m 0 (r .kept);
-      timeout = pick (m || a) 0 (r .timeout);
-      last = r .last;
-    }
-unfolding pick cleared turned
-cleared-where true a r = refl
-cleared-where false true r = refl
-cleared-where false false r = refl
-
 unlike-itself : (b : Bool) → xor b b ≡ false
 unfolding xor
 unlike-itself true = refl
@@ -142,8 +112,8 @@ module _ (c : Channel) (byte : ℕ) where
       }
   unfolding fcrWritten fcrTransmitter noneWaiting
   fcr-sent =
-      ap (λ (m : Bool). pick (m || (bit 0 byte && bit 2 byte)) (emptied (c .transmitter)) (c .transmitter)) by-xor
-      ∙ emptied-where emptiesSent (c .transmitter)
+      ap (λ (m : Bool). fcrSent (m || (bit 0 byte && bit 2 byte)) (c .transmitter)) by-xor
+      ∙ sent.fcr-empties emptiesSent (c .transmitter)
 
   -- the receive queue is emptied by a changed bit 0, and by bit 1 with bit 0, and the time-out count with it; the kept marks by a changed bit
   -- alone; overrun and the last byte read stay
@@ -160,8 +130,8 @@ module _ (c : Channel) (byte : ℕ) where
       }
   unfolding fcrWritten fcrReceiver
   fcr-heard =
-      ap (λ (m : Bool). pick m (turned (c .receiver)) (pick (bit 0 byte && bit 1 byte) (cleared (c .receiver)) (c .receiver))) by-xor
-      ∙ cleared-where (xor (fifo c) (bit 0 byte)) (bit 0 byte && bit 1 byte) (c .receiver)
+      ap (λ (m : Bool). fcrHeard m (bit 0 byte && bit 1 byte) (c .receiver)) by-xor
+      ∙ heard.fcr-empties (xor (fifo c) (bit 0 byte)) (bit 0 byte && bit 1 byte) (c .receiver)
 
   -- in the mode that stands, with neither queue asked for, both sides stay: also bits 1 and 2 without bit 0 ask for none
   pub fcr-leaves : fifo c ≡ bit 0 byte → (bit 0 byte && bit 1 byte) ≡ false → (bit 0 byte && bit 2 byte) ≡ false
@@ -182,4 +152,4 @@ module _ (c : Channel) (byte : ℕ) where
         flag = c .transmitter .flag || (not (bit 1 (c .settings .ier)) && bit 1 byte && eqb (c .transmitter .queue .count) 0);
       }
   unfolding ierWritten noneWaiting
-  ier-sent = enabled-where (not (bit 1 (c .settings .ier)) && bit 1 byte) (c .transmitter)
+  ier-sent = sent.ier-sets-flag (not (bit 1 (c .settings .ier)) && bit 1 byte) (c .transmitter)

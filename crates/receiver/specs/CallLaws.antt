@@ -15,12 +15,12 @@ use Rattle.queue.specs.declared.Character.{Character}
 use Rattle.queue.specs.declared.Queue.{Queue}
 use Rattle.queue.specs.declared.Put.{Put}
 use Rattle.queue.specs.declared.Taken.{Taken}
-use Rattle.queue.specs.Queue.{capacity, accepted, taken, plain, oldest, unmarked, anyMarked, marked}
+use Rattle.queue.specs.Queue.{emptyQueue, capacity, accepted, taken, plain, oldest, unmarked, anyMarked, marked}
 use Rattle.queue.specs.QueueLaws.{holding, take-oldest, unmark-oldest, unmark-none, oldest-is, oldest-none, marked-is}
 use Rattle.queue.specs.AcceptLaws.{accept-room, accept-lost, accept-replaced, accept-cases}
 use Rattle.receiver.specs.declared.Receiver.{Receiver}
 use Rattle.receiver.specs.declared.Got.{Got}
-use Rattle.receiver.specs.Receiver.{quiet, noneQueued, received, got, shownMarks, someMarked, looked, cleared, turned, restarted, dataStands}
+use Rattle.receiver.specs.Receiver.{quiet, noneQueued, received, got, shownMarks, someMarked, looked, cleared, turned, fcrHeard, restarted, dataStands}
 
 pub none-queued : (r : Receiver) → r .queue ≡ holding [] → noneQueued r ≡ true
 unfolding noneQueued
@@ -177,6 +177,21 @@ pub restart-leaves : (r : Receiver)
     → restarted r ≡ record { queue = quiet .queue; overrun = quiet .overrun; kept = quiet .kept; timeout = quiet .timeout; last = r .last }
 unfolding restarted
 restart-leaves r = refl
+
+-- an FCR write: the queue and its count go where the mode changes or it is asked for, kept marks where the mode changes, the rest stays
+pub fcr-empties : (changed asked : Bool) (r : Receiver)
+    → fcrHeard changed asked r
+    ≡ record {
+      queue = pick (changed || asked) emptyQueue (r .queue);
+      overrun = r .overrun;
+      kept = pick changed 0 (r .kept);
+      timeout = pick (changed || asked) 0 (r .timeout);
+      last = r .last;
+    }
+unfolding pick cleared turned
+fcr-empties true asked r = refl
+fcr-empties false true r = refl
+fcr-empties false false r = refl
 
 -- ---- what the line status and the causes ask
 

@@ -3,8 +3,7 @@
 use queue::Character;
 use queue::Queue;
 ghost use mathlib.Core.Path.{_≡_};
-ghost use Rattle.base.specs.Pick.{pick};
-ghost use Rattle.receiver.specs.Receiver.{quiet, noneQueued, received, got, shownMarks, someMarked, looked, waited, cleared, turned, restarted, dataStands, timeoutStands};
+ghost use Rattle.receiver.specs.Receiver.{quiet, noneQueued, received, got, shownMarks, someMarked, looked, waited, cleared, turned, fcrHeard, restarted, dataStands, timeoutStands};
 
 #[repr(C)]
 pub struct Receiver {
@@ -139,7 +138,7 @@ impl Receiver {
 
     // The FCR is written: its bit 0 changed, or it asks for an empty queue.
     pub fn fcr_written(self, changed: bool, asked: bool) -> Self
-        ensures { λ r. ⌜ r ≡ pick changed (turned self) (pick asked (cleared self) self) ⌝ }
+        ensures { λ r. ⌜ r ≡ fcrHeard changed asked self ⌝ }
     {
         if changed {
             return self.turn();

@@ -3,8 +3,7 @@
 use queue::Character;
 use queue::Queue;
 ghost use mathlib.Core.Path.{_≡_};
-ghost use Rattle.base.specs.Pick.{pick};
-ghost use Rattle.transmitter.specs.Transmitter.{still, noneWaiting, allSent, flagSetIf, flagCleared, written, emptied, next, shifted, enabled, loaded};
+ghost use Rattle.transmitter.specs.Transmitter.{still, noneWaiting, allSent, flagSetIf, flagCleared, written, emptied, next, shifted, enabled, loaded, iirSeen, ierSent, fcrSent};
 
 #[repr(C)]
 pub struct Transmitter {
@@ -58,7 +57,7 @@ impl Transmitter {
 
     // The IIR is read, and named the flag or did not.
     pub fn iir_read(self, named: bool) -> Self
-        ensures { λ r. ⌜ r ≡ pick named (flagCleared self) self ⌝ }
+        ensures { λ r. ⌜ r ≡ iirSeen named self ⌝ }
     {
         if named {
             return self.clear_flag();
@@ -95,7 +94,7 @@ impl Transmitter {
 
     // The FCR is written, and empties the queue or does not.
     pub fn fcr_written(self, asked: bool) -> Self
-        ensures { λ r. ⌜ r ≡ pick asked (emptied self) self ⌝ }
+        ensures { λ r. ⌜ r ≡ fcrSent asked self ⌝ }
     {
         if asked {
             return self.clear();
@@ -137,7 +136,7 @@ impl Transmitter {
 
     // The IER is written, and turns its bit 1 on or does not.
     pub fn ier_written(self, rise: bool) -> Self
-        ensures { λ r. ⌜ r ≡ pick rise (enabled self) self ⌝ }
+        ensures { λ r. ⌜ r ≡ ierSent rise self ⌝ }
     {
         if rise {
             return self.set_flag_if(self.is_empty());
