@@ -192,3 +192,12 @@ module _ (c : Channel) (byte : ℕ) (plain : bit 7 (c .settings .lcr) ≡ false)
         ap (bit 5) (shows-lsr filled) ∙ lsr-empty filled ∙ some,
         ap (bit 6) (shows-lsr filled) ∙ lsr-idle filled ∙ ap (λ (b : Bool). b && not (filled .transmitter .busy)) some,
       )
+
+-- the shift register is as it was, with break or without
+pub thr-shift : (c : Channel) (byte : ℕ) → bit 7 (c .settings .lcr) ≡ false
+    → (after c (Write 0 byte) .transmitter .busy ≡ c .transmitter .busy) × (after c (Write 0 byte) .transmitter .shift ≡ c .transmitter .shift)
+unfolding written
+thr-shift c byte plain = (
+  ap (λ (s : Stepped). s .channel .transmitter .busy) (thr-writes c plain byte),
+  ap (λ (s : Stepped). s .channel .transmitter .shift) (thr-writes c plain byte),
+)
