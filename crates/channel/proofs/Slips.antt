@@ -20,8 +20,15 @@ use Rattle.channel.specs.Status.{lsr, msr, lineTrouble, modemChanged, ca
 use Rattle.channel.specs.Effects.{iirRead, lsrRead, byteAt, afterRead, ierWritten, modeChanged, fcrReceiver, fcrTransmitter, fcrWritten, afterWrite, afterArrival}
 use Rattle.channel.specs.Steps.{registerAbove, noDivisor, arrivalWrong, levelsAbove, loopAsked, grounds, refusal, effect, stepped}
 
--- what a channel answers to these events, in order
+-- what a channel answers to these events, in order; the line names all that such a run computes with, under the edits too
 unfoldable told : Channel → List SeatEvent → List ℕ
+unfolding stepped effect valueOf registerAt plainRegister pick bit digit bits
+    refusal grounds firstHeld registerAbove noDivisor arrivalWrong badArrival levelsAbove loopAsked
+    byteAt afterRead iirRead lsrRead looked got taken movedDown unmarked
+    iir cause causes firstCause lineTrouble modemChanged dataStands timeoutStands trigger
+    lsr msr msrOf noneQueued shownMarks someMarked oldest anyMarked marked noneWaiting allSent
+    afterWrite ierWritten enabled flagSetIf fcrWritten fcrKept fcrReceiver fcrTransmitter modeChanged cleared turned emptied
+    afterArrival received written accepted capacity room entered replaced
 told c [] = []
 told c (e ∷ es) = valueOf (stepped c e .answer) ∷ told (stepped c e .channel) es
 
@@ -31,22 +38,22 @@ set ier fcr = withSettings powerUp (record { ier = ier; fcr = fcr; lcr = 0x03; m
 
 -- "IER write that turns bit 1 from 0 to 1": one that finds it set leaves the flag. Of `ier-sent`
 flag-only-at-the-rise : told (set 0x02 0x00) (Write 1 0x02 ∷ Read 2 ∷ []) ≡ 0x00 ∷ 0x01 ∷ []
-unfolding told stepped refusal grounds firstHeld registerAbove noDivisor arrivalWrong badArrival levelsAbove loopAsked effect registerAt plainRegister fcrKept pick bit digit bits valueOf byteAt afterRead iirRead lsrRead looked got taken movedDown unmarked iir cause causes firstCause lineTrouble modemChanged lsr msr msrOf noneQueued shownMarks someMarked oldest anyMarked marked noneWaiting allSent dataStands timeoutStands trigger afterWrite ierWritten enabled flagSetIf fcrWritten fcrReceiver fcrTransmitter modeChanged cleared turned emptied written accepted capacity room entered replaced afterArrival received
+unfolding told
 flag-only-at-the-rise = refl
 
 -- "A read that named 02 clears that flag.": one that named 04 leaves it. Of `iir-clears`
 flag-outlives-04 : told (set 0x01 0x00) (Write 1 0x03 ∷ Arrival 0 0x41 ∷ Read 2 ∷ Read 0 ∷ Read 2 ∷ []) ≡ 0x00 ∷ 0x00 ∷ 0x04 ∷ 0x41 ∷ 0x02 ∷ []
-unfolding told stepped refusal grounds firstHeld registerAbove noDivisor arrivalWrong badArrival levelsAbove loopAsked effect registerAt plainRegister fcrKept pick bit digit bits valueOf byteAt afterRead iirRead lsrRead looked got taken movedDown unmarked iir cause causes firstCause lineTrouble modemChanged lsr msr msrOf noneQueued shownMarks someMarked oldest anyMarked marked noneWaiting allSent dataStands timeoutStands trigger afterWrite ierWritten enabled flagSetIf fcrWritten fcrReceiver fcrTransmitter modeChanged cleared turned emptied written accepted capacity room entered replaced afterArrival received
+unfolding told
 flag-outlives-04 = refl
 
 -- "The seat's line is high exactly if a cause is named and MCR bit 3 is set.": with no cause it is low. Of `line-high`
 line-low-with-no-cause : digit (line (stepped powerUp (Write 4 0x08) .channel)) ≡ 0
-unfolding line stepped refusal grounds firstHeld registerAbove noDivisor arrivalWrong badArrival levelsAbove loopAsked effect registerAt plainRegister fcrKept pick bit digit bits valueOf byteAt afterRead iirRead lsrRead looked got taken movedDown unmarked iir cause causes firstCause lineTrouble modemChanged lsr msr msrOf noneQueued shownMarks someMarked oldest anyMarked marked noneWaiting allSent dataStands timeoutStands trigger afterWrite ierWritten enabled flagSetIf fcrWritten fcrReceiver fcrTransmitter modeChanged cleared turned emptied written accepted capacity room entered replaced afterArrival received
+unfolding told line
 line-low-with-no-cause = refl
 
 -- "A changed bit 0 empties both and clears kept marks.": LSR bits 5 and 6 are set again. Of `fcr-sent`
 mode-change-empties-the-transmit-queue : told powerUp (Write 0 0x41 ∷ Write 2 0x01 ∷ Read 5 ∷ []) ≡ 0x00 ∷ 0x00 ∷ 0x60 ∷ []
-unfolding told stepped refusal grounds firstHeld registerAbove noDivisor arrivalWrong badArrival levelsAbove loopAsked effect registerAt plainRegister fcrKept pick bit digit bits valueOf byteAt afterRead iirRead lsrRead looked got taken movedDown unmarked iir cause causes firstCause lineTrouble modemChanged lsr msr msrOf noneQueued shownMarks someMarked oldest anyMarked marked noneWaiting allSent dataStands timeoutStands trigger afterWrite ierWritten enabled flagSetIf fcrWritten fcrReceiver fcrTransmitter modeChanged cleared turned emptied written accepted capacity room entered replaced afterArrival received
+unfolding told
 mode-change-empties-the-transmit-queue = refl
 
 -- one character with a time-out count of 4
@@ -57,5 +64,5 @@ late =
 
 -- "04 data" stands before "0C time-out count 4": here the trigger is 1. Of `cause-named`
 trigger-goes-before-the-time-out : told late (Read 2 ∷ []) ≡ 0xC4 ∷ []
-unfolding told stepped refusal grounds firstHeld registerAbove noDivisor arrivalWrong badArrival levelsAbove loopAsked effect registerAt plainRegister fcrKept pick bit digit bits valueOf byteAt afterRead iirRead lsrRead looked got taken movedDown unmarked iir cause causes firstCause lineTrouble modemChanged lsr msr msrOf noneQueued shownMarks someMarked oldest anyMarked marked noneWaiting allSent dataStands timeoutStands trigger afterWrite ierWritten enabled flagSetIf fcrWritten fcrReceiver fcrTransmitter modeChanged cleared turned emptied written accepted capacity room entered replaced afterArrival received
+unfolding told
 trigger-goes-before-the-time-out = refl

@@ -170,6 +170,14 @@ module _ (c : Channel) (marks byte : ℕ) (served : accepts c (Arrival marks byt
   unfolding received
   arrival-restarts = ap (λ (s : Stepped). s .channel .receiver .timeout) (arrival-received c marks byte served)
 
+  -- what arrives is not yet read: the last byte read stays; and in FIFO mode nothing is added to kept marks
+  pub arrival-leaves : (later .receiver .last ≡ c .receiver .last) × (fifo c ≡ true → later .receiver .kept ≡ c .receiver .kept)
+  unfolding received
+  arrival-leaves = (
+    ap (λ (s : Stepped). s .channel .receiver .last) (arrival-received c marks byte served),
+    λ mode. ap (λ (s : Stepped). s .channel .receiver .kept) (arrival-received c marks byte served) ∙ pick-true _ _ _ mode,
+  )
+
 -- ---- a THR write
 
 module _ (c : Channel) (byte : ℕ) (plain : bit 7 (c .settings .lcr) ≡ false) (l : List Character) (held : c .transmitter .queue ≡ holding l)
@@ -192,3 +200,12 @@ module _ (c : Channel) (byte : ℕ) (plain : bit 7 (c .settings .lcr) ≡ false)
         ap (bit 5) (shows-lsr filled) ∙ lsr-empty filled ∙ some,
         ap (bit 6) (shows-lsr filled) ∙ lsr-idle filled ∙ ap (λ (b : Bool). b && not (filled .transmitter .busy)) some,
       )
+
+-- the shift register is as it was, with break or without
+pub thr-shift : (c : Channel) (byte : ℕ) → bit 7 (c .settings .lcr) ≡ false
+    → (after c (Write 0 byte) .transmitter .busy ≡ c .transmitter .busy) × (after c (Write 0 byte) .transmitter .shift ≡ c .transmitter .shift)
+unfolding written
+thr-shift c byte plain = (
+  ap (λ (s : Stepped). s .channel .transmitter .busy) (thr-writes c plain byte),
+  ap (λ (s : Stepped). s .channel .transmitter .shift) (thr-writes c plain byte),
+)

@@ -1,5 +1,5 @@
 -- Each refusal of a seat event exactly if its own condition holds and none before it in the order; and what a refusal leaves.
-use Prim.Native.Nat.{ℕ, _^_}
+use Prim.Native.Nat.{ℕ, _+_, _%_, _^_}
 use mathlib.Core.Bool.{Bool, true, false, not, _&&_, _||_, and-true}
 use mathlib.Core.List.{[], _∷_}
 use mathlib.Core.Path.{_≡_, refl, ap, ap₂, _∙_}
@@ -14,7 +14,6 @@ use Rattle.base.specs.declared.Answer.the-variants.{Refused}
 use Rattle.channel.specs.declared.Channel.{Channel}
 use Rattle.channel.specs.declared.SeatEvent.{SeatEvent}
 use Rattle.channel.specs.declared.SeatEvent.the-variants.{Read, Write, Arrival, Levels, Time}
-use Rattle.registers.specs.Words.{wordBits}
 use Rattle.registers.specs.RegisterLaws.{divisor-none}
 use Rattle.channel.specs.Steps.{registerAbove, noDivisor, arrivalWrong, levelsAbove, loopAsked, grounds, refusal, effect, stepped}
 use Rattle.registers.specs.Words.{badArrival}
@@ -60,7 +59,7 @@ accepts c (Read n) = ltb n 8
 accepts c (Write n byte) = ltb n 8 && not (eqb n 4 && bit 4 byte)
 accepts c (Arrival marks byte) =
     not (undivided c)
-    && (ltb marks 8 && ltb byte (2 ^ wordBits (c .settings .lcr)) && (not (bit 0 marks) || bit 3 (c .settings .lcr))
+    && (ltb marks 8 && ltb byte (2 ^ (5 + c .settings .lcr % 4)) && (not (bit 0 marks) || bit 3 (c .settings .lcr))
     && (not (bit 2 marks) || eqb byte 0))
 accepts c (Levels levels) = ltb levels 16
 accepts c Time = not (undivided c)
@@ -91,8 +90,8 @@ accepted c (Arrival marks byte) =
     let lcr = c .settings .lcr in
     none-held c (Arrival marks byte)
     ∙ ap₂ (λ (a b : Bool). not a && b) (divisor-none (c .settings))
-    (and-true _ ∙ unhindered (ltb 7 marks) (leb (2 ^ wordBits lcr) byte) (bit 0 marks) (bit 3 lcr) (bit 2 marks) (eqb byte 0)
-    ∙ (λ i. below marks 8 i && below byte (2 ^ wordBits lcr) i && (not (bit 0 marks) || bit 3 lcr) && (not (bit 2 marks) || eqb byte 0)))
+    (and-true _ ∙ unhindered (ltb 7 marks) (leb (2 ^ (5 + lcr % 4)) byte) (bit 0 marks) (bit 3 lcr) (bit 2 marks) (eqb byte 0)
+    ∙ (λ i. below marks 8 i && below byte (2 ^ (5 + lcr % 4)) i && (not (bit 0 marks) || bit 3 lcr) && (not (bit 2 marks) || eqb byte 0)))
 accepted c (Levels levels) = none-held c (Levels levels) ∙ and-true _ ∙ below levels 16
 accepted c Time = none-held c Time ∙ and-true _ ∙ ap not (divisor-none (c .settings))
 

@@ -88,7 +88,9 @@ module _ (c : Channel) where
 -- "Power-up: all registers, divisor, scratch, modem inputs, flags, marks and counts 0, queues and shift register empty.": LSR shows the empty
 -- queues, IIR that there is no cause
 pub power-up-reads : listed 8 (shown powerUp) ≡ 0x00 ∷ 0x00 ∷ 0x01 ∷ 0x00 ∷ 0x00 ∷ 0x60 ∷ 0x00 ∷ 0x00 ∷ []
-unfolding stepped refusal grounds firstHeld registerAbove noDivisor arrivalWrong levelsAbove loopAsked effect registerAt plainRegister pick bit digit bits valueOf byteAt afterWrite got iir cause causes firstCause lsr msr msrOf noneQueued shownMarks someMarked noneWaiting allSent
+unfolding stepped effect refusal grounds firstHeld registerAbove noDivisor arrivalWrong levelsAbove loopAsked
+    registerAt plainRegister pick bit digit bits valueOf byteAt afterWrite got iir cause causes firstCause lsr msr msrOf
+    noneQueued shownMarks someMarked noneWaiting allSent
 power-up-reads = refl
 
 -- and what no read shows then is 0 too: the holding-empty flag, the shift register and its byte, kept marks and the time-out count
@@ -103,12 +105,16 @@ abbrev pub divisorReads : Channel → List ℕ
 divisorReads c = listed 2 (shown (after c (Write 3 0x80)))
 
 pub power-up-divisor : divisorReads powerUp ≡ 0x00 ∷ 0x00 ∷ []
-unfolding stepped refusal grounds firstHeld registerAbove noDivisor arrivalWrong levelsAbove loopAsked effect registerAt plainRegister pick bit digit bits valueOf byteAt afterWrite got iir cause causes firstCause lsr msr msrOf noneQueued shownMarks someMarked noneWaiting allSent
+unfolding stepped effect refusal grounds firstHeld registerAbove noDivisor arrivalWrong levelsAbove loopAsked
+    registerAt plainRegister pick bit digit bits valueOf byteAt afterWrite got iir cause causes firstCause lsr msr msrOf
+    noneQueued shownMarks someMarked noneWaiting allSent
 power-up-divisor = refl
 
 -- after a master reset RBR gives the last byte read; IER, LCR and MCR are 0; IIR is 01, LSR 60
 pub reset-reads : (c : Channel)
     → (listed 6 (shown (masterReset c)) ≡ c .receiver .last ∷ 0x00 ∷ 0x01 ∷ 0x00 ∷ 0x00 ∷ 0x60 ∷ [])
     × (shown (masterReset c) 7 ≡ c .settings .scratch) × (divisorReads (masterReset c) ≡ c .settings .dll ∷ c .settings .dlm ∷ [])
-unfolding masterReset restarted stepped refusal grounds firstHeld registerAbove noDivisor arrivalWrong levelsAbove loopAsked effect registerAt plainRegister pick bit digit bits valueOf byteAt afterWrite got iir cause causes firstCause lsr msr msrOf noneQueued shownMarks someMarked noneWaiting allSent
+unfolding masterReset restarted stepped effect refusal grounds firstHeld registerAbove noDivisor arrivalWrong levelsAbove loopAsked
+    registerAt plainRegister pick bit digit bits valueOf byteAt afterWrite got iir cause causes firstCause lsr msr msrOf
+    noneQueued shownMarks someMarked noneWaiting allSent
 reset-reads c = (refl, refl, refl)

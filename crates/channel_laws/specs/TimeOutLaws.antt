@@ -39,6 +39,19 @@ no-rise c going none =
     ∙ ap (λ (n : ℕ). record { queue = r .queue; overrun = r .overrun; kept = r .kept; timeout = n; last = r .last })
     (pick-false _ (r .timeout + 1) (r .timeout) idle)
 
+-- and no more than the count moves, in any mode: a time-out takes no character, and clears nothing
+pub time-hears : (c : Channel) → undivided c ≡ false
+    → let r = after c Time .receiver in
+    (r .queue ≡ c .receiver .queue) × (r .overrun ≡ c .receiver .overrun) × (r .kept ≡ c .receiver .kept) × (r .last ≡ c .receiver .last)
+unfolding waited
+time-hears c going =
+    let passes = time-shifts c going in (
+      ap (λ (d : Channel). d .receiver .queue) passes,
+      ap (λ (d : Channel). d .receiver .overrun) passes,
+      ap (λ (d : Channel). d .receiver .kept) passes,
+      ap (λ (d : Channel). d .receiver .last) passes,
+    )
+
 module _ (ch : Character) (l : List Character) where
   -- FIFO mode, something queued: one more at each, "up to 4"
   waits : (r : Receiver) → r .queue ≡ holding (ch ∷ l) → r .timeout ≤ 4 → waited true r .timeout ≡ min (suc (r .timeout)) 4

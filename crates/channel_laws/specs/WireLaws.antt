@@ -1,12 +1,14 @@
 -- The wire: what a character time is answered with, and what new modem levels leave.
 use Prim.Native.Nat.{ℕ, _<_}
 use mathlib.Core.Bool.{true, false, not}
-use mathlib.Core.Path.{_≡_, refl, ap, _∙_}
+use mathlib.Core.Path.{_≡_, refl, ap, sym, _∙_}
+use mathlib.Core.Logic.{⊎-elim}
 use borrow.Author.Tests.{lt-ltb}
-use Rattle.base.specs.PickLaws.{pick-true, pick-false}
+use Rattle.base.specs.PickLaws.{pick-true, pick-false, either-way}
 use Rattle.base.specs.Bits.{bit}
 use Rattle.base.specs.declared.Answer.the-variants.{Done, Sent, Idle, Break}
 use Rattle.channel.specs.declared.Channel.{Channel}
+use Rattle.channel.specs.declared.Stepped.{Stepped}
 use Rattle.channel.specs.declared.SeatEvent.the-variants.{Levels, Time}
 use Rattle.channel.specs.Parts.{withSettings, withModem}
 use Rattle.registers.specs.Words.{cut}
@@ -14,7 +16,7 @@ use Rattle.registers.specs.Registers.{withLcr}
 use Rattle.registers.specs.Modem.{changesAfter}
 use Rattle.channel.specs.Effects.{afterLevels, afterTime, timeAnswer}
 use Rattle.channel.specs.Steps.{effect, stepped}
-use Rattle.channel_laws.specs.RefusalLaws.{undivided, done}
+use Rattle.channel_laws.specs.RefusalLaws.{undivided, done, refused}
 
 module _ (c : Channel) (going : undivided c ≡ false) where
   answered : stepped c Time .answer ≡ timeAnswer c
@@ -40,6 +42,22 @@ module _ (c : Channel) (going : undivided c ≡ false) where
 pub goes-on : (c : Channel) (lcr : ℕ) → afterTime (withSettings c (withLcr (c .settings) lcr)) ≡ withSettings (afterTime c) (withLcr (c .settings) lcr)
 unfolding afterTime
 goes-on c lcr = refl
+
+-- so over the step: the character that moves in under break, the flag and the counts are those of a character time without it
+pub time-goes-on : (c : Channel) (lcr : ℕ)
+    → stepped (withSettings c (withLcr (c .settings) lcr)) Time .channel ≡ withSettings (stepped c Time .channel) (withLcr (c .settings) lcr)
+unfolding effect
+time-goes-on c lcr =
+    let other = withLcr (c .settings) lcr in
+    let d = withSettings c other in
+    ⊎-elim
+    (λ (none : undivided c ≡ true).
+    ap (λ (s : Stepped). s .channel) (refused d Time (ap not none))
+    ∙ sym (ap (λ (s : Stepped). withSettings (s .channel) other) (refused c Time (ap not none))))
+    (λ (going : undivided c ≡ false).
+    ap (λ (s : Stepped). s .channel) (done d Time (ap not going)) ∙ goes-on c lcr
+    ∙ sym (ap (λ (s : Stepped). withSettings (s .channel) other) (done c Time (ap not going))))
+    (either-way (undivided c))
 
 -- levels below 16 are taken as they are, with the changes from the levels before; nothing else changes
 pub levels-taken : (c : Channel) (levels : ℕ) → levels < 16
