@@ -91,3 +91,7 @@ pub record OnlyFFF : Type 0 where
   pub events : (value : ℕ) → Events value → value ≡ 0xFFF
   pub places : (value : ℕ) → Places value → value ≡ 0xFFF
   pub divisors : (value : ℕ) → Divisors value → value ≡ 0xFFF
+
+-- a demand that leaves the number open is none: by one list of grounds, two answers that it lets through have one number
+abbrev pub OneNumber : Type 0
+OneNumber = (value : ℕ) (gs : List Ground) (a b : Answer) → Answered value gs a → Answered value gs b → refusalOf a ≡ refusalOf b
