@@ -9,6 +9,8 @@ SCRIPT = Path(__file__).parent / "programs/20-edits"
 LOG = "target/must-fail/lamp/dark_twin/.log"
 AT = "target/must-fail/lamp/dark_twin/proofs/Slips.antt:9:8: error: `is-lit`: "
 
+TWIN = "file: src/lib.rt\nold: 1\nnew: 0\nfile: specs/Lamp.antt\nold: 1\nnew: 0\n"
+
 SLIPS = """-- "the lamp is lit"
 is-lit : shown (on ∷ []) ≡ 0x200
 unfolding shown
@@ -44,7 +46,7 @@ class Edits(Room):
         self.write("crates/lamp/proofs/Slips.antt", SLIPS)
 
     def edit(self, line):
-        self.write("crates/lamp/must-fail/dark_twin.edit", line + "file: src/lib.rt\nold: 1\nnew: 0\n")
+        self.write("crates/lamp/must-fail/dark_twin.edit", line + TWIN)
 
     def run_it(self):
         done = subprocess.run([self.root / "tools/programs/20-edits"], stdout=subprocess.PIPE, stderr=subprocess.PIPE,
@@ -81,6 +83,23 @@ class Edits(Room):
         self.write(LOG, FALSE)
         self.edit("")
         self.fails("names no statement")
+
+    def test_an_edit_of_one_side(self):
+        self.write(LOG, FALSE)
+        for lines in TWIN.split("file: ")[1:]:
+            self.write("crates/lamp/must-fail/dark_twin.edit", "refuted: is-lit\nfile: " + lines)
+            self.fails("is no slip in code and definition alike")
+
+    def test_an_edit_of_the_statement(self):
+        self.write(LOG, FALSE)
+        for file in ("proofs/Slips.antt", "proofs/Runs.antt"):
+            self.edit(f"refuted: is-lit\nfile: {file}\nold: 0x200\nnew: 0x300\n")
+            self.fails("is no slip in code and definition alike")
+
+    def test_an_edit_that_fits_the_proof_of_a_function(self):
+        self.write(LOG, FALSE)
+        self.edit("refuted: is-lit\nfile: proofs/Lamp/shine/Proof.antt\nold: 1\nnew: 0\n")
+        self.assertEqual(self.run_it(), (0, ""))
 
     def test_a_statement_that_is_not_closed(self):
         self.write(LOG, FALSE)

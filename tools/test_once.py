@@ -150,6 +150,14 @@ class Once(unittest.TestCase):
     def test_a_program_is_left_out(self):
         self.assertEqual(self.faults(calls="", name="main.rt"), [])
 
+    def test_a_program_beside_a_library_leaves_nothing_out(self):
+        with tempfile.TemporaryDirectory() as folder:
+            for name in ("main.rt", "lib.rt"):
+                path = pathlib.Path(folder) / "crates/cups/src" / name
+                path.parent.mkdir(parents=True, exist_ok=True)
+                path.write_text(SOURCE, encoding="utf-8")
+            self.assertIn("cups·sip has no line", "\n".join(once.faults(pathlib.Path(folder))))
+
 
 if __name__ == "__main__":
     unittest.main()

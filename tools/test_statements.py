@@ -11,6 +11,7 @@ LOADER = importlib.machinery.SourceFileLoader("statements", str(PATH))
 check = importlib.util.module_from_spec(importlib.util.spec_from_loader("statements", LOADER))
 LOADER.exec_module(check)
 check.RECORDS = (("cups", "Statements"),)
+check.OWED = {"cups": ("Cups.Full",)}
 check.NO_STATEMENTS = {("cups", "Sip"): "a type"}
 
 SPECS = "crates/cups/specs/"
@@ -72,15 +73,15 @@ class Statements(Room):
 
     def test_a_statement_without_a_field(self):
         more = "\nabbrev pub Empty : Type 0\nEmpty = ⊥\n"
-        self.fails("Empty of crates/cups/specs is in no record", SPECS + "Cups.antt", CUPS + more)
+        self.fails("Cups.Empty of crates/cups/specs is in no record", SPECS + "Cups.antt", CUPS + more)
 
     def test_a_record_is_a_statement(self):
         more = "\npub record Dry : Type 0 where\n  pub dry : ⊥\n"
-        self.fails("Dry of crates/cups/specs is in no record", SPECS + "Cups.antt", CUPS + more)
+        self.fails("Cups.Dry of crates/cups/specs is in no record", SPECS + "Cups.antt", CUPS + more)
 
     def test_a_field_in_a_comment(self):
         less = STATEMENTS.replace("  pub full", "  -- pub full")
-        self.fails("Full of crates/cups/specs is in no record", SPECS + "Statements.antt", less)
+        self.fails("Cups.Full of crates/cups/specs is in no record", SPECS + "Statements.antt", less)
 
     def test_no_declaration(self):
         self.fails("0 declarations", PROOFS + "Statements.antt", "-- none\n")
@@ -88,6 +89,23 @@ class Statements(Room):
     def test_a_declaration_in_a_comment(self):
         shut = GIVEN.replace("pub statements", "{- pub statements") + "-}\n"
         self.fails("0 declarations", PROOFS + "Statements.antt", shut)
+
+    def test_a_declaration_in_a_comment_in_a_comment(self):
+        shut = GIVEN.replace("pub statements", "{- {- -}\npub statements") + "-- -}\n"
+        self.fails("proofs/Statements.antt has {-", PROOFS + "Statements.antt", shut)
+
+    def test_a_declaration_of_a_record_brought_from_elsewhere(self):
+        other = GIVEN.replace("{Statements}", "{Statements as Real}\nuse Rattle.cups.proofs.Fake.{Statements}")
+        self.fails("0 declarations", PROOFS + "Statements.antt", other)
+
+    def test_a_field_of_a_statement_brought_from_elsewhere(self):
+        self.write(SPECS + "Fake.antt", CUPS)
+        self.fails("Cups.Full of crates/cups/specs is in no record", SPECS + "Statements.antt", STATEMENTS.replace("specs.Cups.", "specs.Fake."))
+
+    def test_a_statement_that_is_dropped_with_its_proof(self):
+        self.write(SPECS + "Statements.antt", "pub record Statements : Type 0 where\n")
+        self.fails("does not state Cups.Full", SPECS + "Cups.antt", CUPS.replace("Full : Type 0", "Full : Unit → Type 0"))
+        self.fails("does not state Cups.Full", SPECS + "Cups.antt", "")
 
     def test_a_declaration_of_another_type(self):
         other = GIVEN.replace(": Statements", ": Statements → Statements")
@@ -115,6 +133,12 @@ class Statements(Room):
         self.assertEqual(self.missing(), [])
         self.write("docs/PROMISES.md", PROMISES.replace("law `full`", "law `sip`, law `cups`"))
         self.assertEqual(len(self.missing()), 2)
+
+    def test_a_closed_statement_of_no_law(self):
+        self.write(PROOFS + "Slips.antt", "-- `full`\nis-full : filled 1 ≡ true\nis-full = refl\n")
+        self.assertEqual(self.missing(), [])
+        self.write(PROOFS + "Slips.antt", "-- `half-full`\nis-full : filled 1 ≡ true\nis-full = refl\n")
+        self.assertEqual(self.missing(), ["crates/cups/proofs/Slips.antt:1: there is no half-full"])
 
     def test_a_law_of_a_file_that_is_not_declared(self):
         self.write(SPECS + "Lib.antt", "pub mod Cups\n")

@@ -1,16 +1,20 @@
 -- Power-up, the initialisation words and the mask, each effect by itself, over any state in which the word is accepted.
-use Prim.Native.Nat.{ℕ, _+_, _%_, _<_}
+use Prim.Native.Nat.{ℕ, _+_, _%_, _<_, _≤_}
 use mathlib.Core.Bool.{Bool, true, false}
 use mathlib.Core.Path.{_≡_, refl, sym, subst}
 use native.Mathlib.Omega.{arith}
+use borrow.Author.Tests.{ne-eqb, le-ltb}
 use Rattle.base.specs.Bits.{bit}
-use Rattle.base.specs.declared.Answer.the-variants.{Done}
+use Rattle.base.specs.declared.Answer.the-variants.{Done, Refused}
 use Rattle.rank.specs.Sets.{has}
 use Rattle.rank.specs.SetLaws.{has-none}
 use Rattle.rank.specs.Rank.{place}
 use Rattle.controller.specs.State.{powerUp, ready, begun}
-use Rattle.controller.specs.Signals.{write}
+use Rattle.controller.specs.Signals.{read, write, acknowledge}
+use Rattle.controller.specs.Turns.{outputOf}
 use Rattle.controller.specs.Words.{icw1, icw2, icw4}
+use Rattle.controller.specs.OutputLaws.{output-unready}
+use Rattle.controller.specs.TableLaws.{read-unready, acknowledge-unready, operation-unready}
 use Rattle.controller.specs.WordLaws.{step-icw1, step-icw2, step-icw4, step-mask}
 use Rattle.controller.specs.RowLaws.{Same, Becomes}
 use Rattle.controller.specs.Steps.{step}
@@ -142,3 +146,20 @@ module _ (c : Controller) (b : ℕ) where
         answer = Done;
       }
   masks e = step-mask c b e
+
+-- "then ICW2 and ICW4 at port 1, then ready": at every stage before the last nothing is read, granted or operated, and the output is low
+pub record Waiting (c : Controller) : Type 0 where
+  pub reads : (p : ℕ) → p ≤ 1 → step c (read p) ≡ record { controller = c; answer = Refused 8 }
+  pub acknowledges : step c acknowledge ≡ record { controller = c; answer = Refused 8 }
+  pub operates : (b : ℕ) → bit 4 b ≡ false → step c (write 0 b) ≡ record { controller = c; answer = Refused 8 }
+  pub output : outputOf c ≡ false
+
+pub waits-for-icw4 : (c : Controller) → c .setup .stage < 3 → Waiting c
+waits-for-icw4 c early =
+    let down : ready (c .setup) ≡ false = ne-eqb (c .setup .stage) 3 (λ e. omega arith) in
+    record {
+      reads = λ p small. read-unready c p (le-ltb 1 p small) down;
+      acknowledges = acknowledge-unready c down;
+      operates = λ b e. operation-unready c b down e;
+      output = output-unready c down;
+    }

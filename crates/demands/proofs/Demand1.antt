@@ -24,7 +24,7 @@ use Rattle.bench.specs.Refusals.{grounds, refusal}
 use Rattle.bench.specs.Seats.{seat, powerUp}
 use Rattle.bench.specs.Steps.{outcome}
 use Rattle.bench.specs.OutcomeLaws.{outcome-refused, outcome-number}
-use Rattle.demands.specs.Demand1.{NoneHolds, Listed, Refused, Accepted, Answered, Unchanged, Events, Places, among, Divisors, Demand1, OnlyFFF}
+use Rattle.demands.specs.Demand1.{NoneHolds, Listed, Refused, Accepted, Answered, Unchanged, Events, Places, among, Divisors, Demand1, OnlyFFF, OneRefusal}
 use Rattle.demands.proofs.Opened.{laid-open}
 
 -- every number of the list is above 0
@@ -167,3 +167,26 @@ only-fff =
   where
     above : (n : ℕ) → suc n ≡ 0 → ⊥
     above n e = omega arith
+
+-- ---- one refusal
+
+listed-once : (gs : List Ground) (n m : ℕ) → Listed n gs → Listed m gs → n ≡ m
+listed-once [] n m l k = absurd l
+listed-once (g ∷ gs) n m (inl p) (inl q) = p .1 ∙ sym (q .1)
+listed-once (g ∷ gs) n m (inl p) (inr q) = absurd (not-both (p .0) (q .0))
+listed-once (g ∷ gs) n m (inr p) (inl q) = absurd (not-both (q .0) (p .0))
+listed-once (g ∷ gs) n m (inr p) (inr q) = listed-once gs n m (p .1) (q .1)
+
+listed-none : (gs : List Ground) (n : ℕ) → Listed n gs → NoneHolds gs → ⊥
+listed-none [] n l none = l
+listed-none (g ∷ gs) n (inl p) none = not-both (p .0) (none .0)
+listed-none (g ∷ gs) n (inr p) none = listed-none gs n (p .1) (none .1)
+
+one-number : (value : ℕ) (gs : List Ground) (a b : Answer) → Answered value gs a → Answered value gs b → refusalOf a ≡ refusalOf b
+one-number value gs a b (inl x) (inl y) = x .number ∙ sym (y .number)
+one-number value gs a b (inl x) (inr y) = absurd (listed-none gs (refusalOf b) (y .listed) (x .none))
+one-number value gs a b (inr x) (inl y) = absurd (listed-none gs (refusalOf a) (x .listed) (y .none))
+one-number value gs a b (inr x) (inr y) = listed-once gs (refusalOf a) (refusalOf b) (x .listed) (y .listed)
+
+pub one-refusal : OneRefusal
+one-refusal = record { number = one-number; bench = λ b o p u v. (u .whole ∙ sym (v .whole), u .output ∙ sym (v .output)) }

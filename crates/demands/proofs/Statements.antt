@@ -1,7 +1,7 @@
 -- Every statement of this room is proved.
 use Rattle.demands.specs.Statements.{Statements}
 use Rattle.demands.proofs.Contracts.{contracts-say}
-use Rattle.demands.proofs.Demand1.{demand-1, only-fff}
+use Rattle.demands.proofs.Demand1.{demand-1, only-fff, one-refusal}
 use Rattle.demands.proofs.Demand2.{demand-2, demand-2-listed}
 use Rattle.demands.proofs.Demand3.{demand-3-bench, demand-3-from-power-up}
 use Rattle.demands.proofs.SeatLedger.{seat-ledger, seat-ledger-from-power-up}
@@ -17,6 +17,7 @@ statements =
       contracts-say = contracts-say;
       demand-1 = demand-1;
       only-fff = only-fff;
+      one-refusal = one-refusal;
       demand-2 = demand-2;
       demand-2-listed = demand-2-listed;
       demand-3 = demand-3-bench;

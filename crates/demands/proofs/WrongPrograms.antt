@@ -1,9 +1,9 @@
 -- Each wrong program is refuted at closed records, and what meets is none of them.
 use Prim.Native.Nat.{ℕ, zero, suc, _+_, _<_}
-use mathlib.Core.Bool.{false}
+use mathlib.Core.Bool.{Bool, false}
 use mathlib.Core.List.{List, [], _∷_, _++_}
 use mathlib.Core.Path.{_≡_, refl, ap, ap₂, sym, subst, _∙_, fun-ext}
-use mathlib.Core.Logic.{inl, inr}
+use mathlib.Core.Logic.{_⊎_, inl, inr, ⊎-elim}
 use native.Mathlib.Omega.{arith}
 use lib.ListN.{length, replicate}
 use Rattle.base.specs.EveryLaws.{equal-at}
@@ -14,6 +14,8 @@ use Rattle.rank.specs.Sets.{line}
 use Rattle.controller.specs.LineLaws.{place-told}
 use Rattle.turn.specs.Waiting.{Start}
 use Rattle.turn.specs.Demand3.{Among, InTurn}
+use Rattle.receiver.specs.Ledger.{Subsequence, skips, keeps}
+use Rattle.receiver.specs.Ledger as ledger
 use Rattle.bench.specs.declared.Bench.{Bench}
 use Rattle.bench.specs.declared.Outcome.{Outcome}
 use Rattle.bench.specs.Events.{Record, whole, decoded}
@@ -89,13 +91,43 @@ breaks-the-ledger n small k =
     let one = equal-at 8 became (λ j. 1) tt n small in
     one-is-not 0 (sym one ∙ sym (k n powerUp (reads ∷ []) refl (sound-at n) .balanced) ∙ none)
 
+-- what is in the first list is in the second
+abbrev In : ℕ → List ℕ → Type 0
+In n [] = ⊥
+In n (m ∷ l) = (n ≡ m) ⊎ In n l
+
+kept-in : (n : ℕ) (l m : List ℕ) → Subsequence l m → In n l → In n m
+kept-in n l m ledger.ends i = i
+kept-in n l m (skips s) i = inr (kept-in n _ _ s i)
+kept-in n l m (keeps s) (inl e) = inl e
+kept-in n l m (keeps s) (inr i) = inr (kept-in n _ _ s i)
+
+-- divisor 12 and LCR 03; a character arrives at seat 0 and is read
+receives : ℕ → List Record
+receives byte = whole 1 0 3 0x83 ∷ whole 1 0 0 12 ∷ whole 1 0 3 0x03 ∷ whole 2 0 0 byte ∷ whole 0 0 0 0 ∷ []
+
+reads-41 : (a : Answer) → Keeps (fixed a outcome) → valueOf a ≡ 0x41
+unfolding laid-open receives
+reads-41 a k =
+    ⊎-elim (λ (e : valueOf a ≡ 0x41). e) (λ (z : ⊥). absurd z)
+    (kept-in (valueOf a) (valueOf a ∷ []) (0x41 ∷ []) (k 0 powerUp (receives 0x41) refl (sound-at 0) .in-order) (inl refl))
+
+reads-42 : (a : Answer) → Keeps (fixed a outcome) → valueOf a ≡ 0x42
+unfolding laid-open receives
+reads-42 a k =
+    ⊎-elim (λ (e : valueOf a ≡ 0x42). e) (λ (z : ⊥). absurd z)
+    (kept-in (valueOf a) (valueOf a ∷ []) (0x42 ∷ []) (k 0 powerUp (receives 0x42) refl (sound-at 0) .in-order) (inl refl))
+
+breaks-the-order : (a : Answer) → Keeps (fixed a outcome) → ⊥
+breaks-the-order a k = one-is-not 0 (omega (arith, reads-41 a k, reads-42 a k))
+
 -- ---- programs with a memory
 
 -- two writes: the second is not in the bench
-pretends : (says : List Record → Record → Answer) → MeetsFrom (pretending says) → ⊥
+pretends : (says : List Record → Record → Answer) (raises : List Record → Record → Bool) → MeetsFrom (pretending says raises) → ⊥
 unfolding laid-open writes scratch
-pretends says m =
-    let e = step-says (afterAll powerUp (writes 2 ∷ [])) (writes 1) (pretending says (writes 2 ∷ []) (writes 1)) .0 (m (writes 2 ∷ []) (writes 1)) in
+pretends says raises m =
+    let e = step-says (afterAll powerUp (writes 2 ∷ [])) (writes 1) (pretending says raises (writes 2 ∷ []) (writes 1)) .0 (m (writes 2 ∷ []) (writes 1)) in
     let f : _≡_ {A = ℕ} 2 1 = ap scratch e in
     omega arith
 
@@ -114,17 +146,18 @@ unfolding laid-open set-automatic all-call calls eight asks
 six-kept = (refl, inr (refl, (refl, inr (refl, (refl, inr (refl, (refl, inr (refl, (refl, inr (refl, (refl, inr (refl, (refl, inl refl)))))))))))))
 
 -- what it answers would be the vector of line 7, and that of line 6
-names-7 : (a : Answer) → TakesTurns (pretending (λ before r. a)) → Vector 0x47 ≡ a
+names-7 : (says : Record → Answer) (raises : List Record → Record → Bool) → TakesTurns (pretending (λ before r. says r) raises) → Vector 0x47 ≡ says asks
 unfolding laid-open set-automatic all-call calls eight asks
-names-7 a h = all-one (Vector 0x47) a 8 (h set-automatic 7 eight (automatic-closed .0) (automatic-closed .1) .eighth (omega arith))
+names-7 says raises h = all-one (Vector 0x47) (says asks) 8 (h set-automatic 7 eight (automatic-closed .0) (automatic-closed .1) .eighth (omega arith))
 
-names-6 : (a : Answer) → TakesTurns (pretending (λ before r. a)) → Vector 0x46 ≡ a
+names-6 : (says : Record → Answer) (raises : List Record → Record → Bool) → TakesTurns (pretending (λ before r. says r) raises) → Vector 0x46 ≡ says asks
 unfolding laid-open set-automatic all-call calls eight asks
-names-6 a h = all-one (Vector 0x46) a 8 (h set-automatic 6 eight six-start six-kept .eighth (omega arith))
+names-6 says raises h = all-one (Vector 0x46) (says asks) 8 (h set-automatic 6 eight six-start six-kept .eighth (omega arith))
 
-pretends-out-of-turn : (a : Answer) → TakesTurns (pretending (λ before r. a)) → ⊥
+pretends-out-of-turn : (says : Record → Answer) (raises : List Record → Record → Bool) → TakesTurns (pretending (λ before r. says r) raises) → ⊥
 unfolding valueOf
-pretends-out-of-turn a h = let e : _≡_ {A = ℕ} 0x47 0x46 = ap valueOf (names-7 a h ∙ sym (names-6 a h)) in omega arith
+pretends-out-of-turn says raises h =
+    let e : _≡_ {A = ℕ} 0x47 0x46 = ap valueOf (names-7 says raises h ∙ sym (names-6 says raises h)) in omega arith
 
 -- ---- places: of line 3 at power-up, and once line 3 has been made last
 
@@ -149,6 +182,7 @@ shut-out =
       ignores-events = ignores-events;
       invents-a-count = invents-a-count;
       breaks-the-ledger = breaks-the-ledger;
+      breaks-the-order = breaks-the-order;
       pretends = pretends;
       pretends-out-of-turn = pretends-out-of-turn;
       invents-a-place = invents-a-place;

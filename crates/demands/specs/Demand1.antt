@@ -91,3 +91,9 @@ pub record OnlyFFF : Type 0 where
   pub events : (value : ℕ) → Events value → value ≡ 0xFFF
   pub places : (value : ℕ) → Places value → value ≡ 0xFFF
   pub divisors : (value : ℕ) → Divisors value → value ≡ 0xFFF
+
+-- the demand leaves nothing of a refusal open: by one list of grounds two answers that it lets through have one number, and from one bench two
+-- outcomes that it calls unchanged have one bench and one output
+pub record OneRefusal : Type 0 where
+  pub number : (value : ℕ) (gs : List Ground) (a b : Answer) → Answered value gs a → Answered value gs b → refusalOf a ≡ refusalOf b
+  pub bench : (b : Bench) (o p : Outcome) → Unchanged b o → Unchanged b p → (o .bench ≡ p .bench) × (o .output ≡ p .output)

@@ -1,6 +1,6 @@
 -- The statements of this room. The proofs give the record whole.
 use Rattle.demands.specs.Contracts.{ContractsSay}
-use Rattle.demands.specs.Demand1.{Demand1, OnlyFFF}
+use Rattle.demands.specs.Demand1.{Demand1, OnlyFFF, OneRefusal}
 use Rattle.demands.specs.Demand2.{Demand2, Demand2Listed}
 use Rattle.demands.specs.Demand3.{Demand3, Demand3FromPowerUp}
 use Rattle.demands.specs.SeatLedger.{SeatLedger, SeatLedgerFromPowerUp}
@@ -14,6 +14,7 @@ pub record Statements : Type 0 where
   pub contracts-say : ContractsSay
   pub demand-1 : Demand1
   pub only-fff : OnlyFFF
+  pub one-refusal : OneRefusal
   pub demand-2 : Demand2
   pub demand-2-listed : Demand2Listed
   pub demand-3 : Demand3

@@ -1,6 +1,6 @@
 -- The wrong programs that document 01's last chapter lists, as programs; and that none of them meets the contract.
 use Prim.Native.Nat.{ℕ, suc, _<_}
-use mathlib.Core.Bool.{false}
+use mathlib.Core.Bool.{Bool, false}
 use mathlib.Core.List.{List, [], _∷_, _++_}
 use mathlib.Core.Path.{_≡_}
 use Rattle.base.specs.declared.Answer.{Answer}
@@ -75,10 +75,10 @@ played f before r = f (ends f powerUp before) r
 abbrev pub MeetsFrom : Program → Type 0
 MeetsFrom p = (before : List Record) (r : Record) → Ensured (afterAll powerUp before) r (p before r)
 
--- "one that works for the first event and then pretends": from then on it answers as it likes, and the bench stays
-abbrev pub pretending : (List Record → Record → Answer) → Program
-pretending says [] r = outcome powerUp r
-pretending says (first ∷ rest) r = shown (outcome powerUp first .bench) (says rest r)
+-- "one that works for the first event and then pretends": from then on it answers and raises its output as it likes, and the bench stays
+abbrev pub pretending : (List Record → Record → Answer) → (List Record → Record → Bool) → Program
+pretending says raises [] r = outcome powerUp r
+pretending says raises (first ∷ rest) r = record { bench = outcome powerUp first .bench; answer = says rest r; output = raises rest r }
 
 -- what the acknowledges among further records answer
 abbrev pub toldBy : Program → List Record → List Record → List Answer
@@ -115,8 +115,11 @@ pub record ShutOut : Type 0 where
   pub ignores-events : (f : Step) → Meets (ignoring f) → ⊥
   pub invents-a-count : (n : ℕ) → n < 8 → Meets (inventing n) → ⊥
   pub breaks-the-ledger : (n : ℕ) → n < 8 → Keeps (inventing n) → ⊥
-  pub pretends : (says : List Record → Record → Answer) → MeetsFrom (pretending says) → ⊥
-  pub pretends-out-of-turn : (a : Answer) → TakesTurns (pretending (λ before r. a)) → ⊥
+  -- every count of it is right, and what is read never came
+  pub breaks-the-order : (a : Answer) → Keeps (fixed a outcome) → ⊥
+  pub pretends : (says : List Record → Record → Answer) (raises : List Record → Record → Bool) → MeetsFrom (pretending says raises) → ⊥
+  -- one that answers by the record alone, and so every acknowledge alike
+  pub pretends-out-of-turn : (says : Record → Answer) (raises : List Record → Record → Bool) → TakesTurns (pretending (λ before r. says r) raises) → ⊥
   pub invents-a-place : (says : ℕ → Answer) → MeetsPlace (dreaming says) → ⊥
   pub breaks-the-count : (says : ℕ → Answer) → Counts (dreaming says) → ⊥
 
