@@ -3,3 +3,4 @@ mod InMemory
 mod Leaving
 pub mod Slips
 pub mod PlayLaws
+pub mod CallLaws
