@@ -38,9 +38,9 @@ module _ (b : Bench) (n : ℕ) (s : List ℕ) (last : Bool) (d d′ : List ℕ) 
       let fit : 0 + length ls ≤ length d = omega (arith, p .written, p .inside) in
       let front : d′ ≡ ls ++ drop (length ls) d = p .bytes ∙ sets-eq ls d 0 fit ∙ ap (λ (k : ℕ). ls ++ drop k d) (zero-add (length ls)) in (
         ap (λ (k : ℕ). take k d′) (p .written) ∙ ap (take (length ls)) front ∙ take-append-seam ls (drop (length ls) d)
-        ∙ ap (λ (k : ℕ). listing b n (take k (recordsOf last s))) (sym (p .records)),
+            ∙ ap (λ (k : ℕ). listing b n (take k (recordsOf last s))) (sym (p .records)),
         ap (λ (k : ℕ). drop k d′) (p .written) ∙ ap (drop (length ls)) front ∙ drop-append-seam ls (drop (length ls) d)
-        ∙ ap (λ (k : ℕ). drop k d) (sym (p .written)),
+            ∙ ap (λ (k : ℕ). drop k d) (sym (p .written)),
       )
 
 -- a run from the bench, the number and the bytes that another left goes on where that stopped, whatever the buffers hold
