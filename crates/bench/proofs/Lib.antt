@@ -1,2 +1,3 @@
 mod Resets
 pub mod Slips
+pub mod CallLaws

@@ -3,3 +3,5 @@ mod InMemory
 mod Leaving
 pub mod Slips
 pub mod PlayLaws
+pub mod DivisorLaws
+pub mod LentLaws

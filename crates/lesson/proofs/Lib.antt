@@ -1,3 +1,4 @@
 pub mod Walks
 pub mod Ends
 pub mod Slips
+pub mod LentLaws

@@ -121,7 +121,7 @@ digits-on k at (c ∷ ds) l all h =
     let e2 : suc at + length ds ≡ at + suc (length ds) = omega arith in
     digit-on k at c (ds ++ l) (all .0) ∙ rw (one, digits-on (k + 1) (suc at) ds l (all .1) (omega arith), e1, e2)
 
-whole-digits : (a ds l : List ℕ) → Whole a → Digits ds → length ds < 8
+pub whole-digits : (a ds l : List ℕ) → Whole a → Digits ds → length ds < 8
     → faultOf (a ++ (ds ++ l)) ≡ faultFrom (opened (length ds)) (length a + length ds) l
 whole-digits a ds l w all h = whole-parts a (ds ++ l) w ∙ digits-on 0 (length a) ds l all (omega arith) ∙ rw zero-add
 

@@ -11,3 +11,4 @@ pub mod EvenLaws
 pub mod WrittenLaws
 pub mod BlankLaws
 pub mod RoomLaws
+pub mod RecordLaws

@@ -1,3 +1,4 @@
 pub mod Stores
 pub mod Turn
 pub mod Slips
+pub mod LentLaws

@@ -8,3 +8,4 @@ pub mod FormLaws
 pub mod PartLaws
 pub mod ShownLaws
 pub mod RoomLaws
+pub mod OnwardLaws

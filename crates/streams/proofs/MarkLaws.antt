@@ -30,3 +30,18 @@ added-told κ κ′ e e′ digest v v′ r p p′ small small′ =
     let is : r ≡ (digest * 1000003 + v + 1) % 2147483647 = p in
     let is′ : r ≡ (digest * 1000003 + v′ + 1) % 2147483647 = p′ in
     omega arith
+
+-- what is left over by the modulus is one number
+left-over : (d d′ x y : ℕ) → d + 2147483647 * x ≡ d′ + 2147483647 * y → d < 2147483647 → d′ < 2147483647 → d ≡ d′
+left-over d d′ x y same small small′ = omega arith
+
+-- and two digests that the same number brings to one are the same: nothing that was added before is forgotten. 1523789695 times 1000003
+-- is 1 above 709572 times the modulus.
+pub before-told : (κ κ′ e e′ : _) (digest digest′ v r : ℕ) → added.Post κ (digest, (v, tt)) r e → added.Post κ′ (digest′, (v, tt)) r e′
+    → digest < 2147483647 → digest′ < 2147483647 → digest ≡ digest′
+before-told κ κ′ e e′ digest digest′ v r p p′ small small′ =
+    let is : r ≡ (digest * 1000003 + v + 1) % 2147483647 = p in
+    let is′ : r ≡ (digest′ * 1000003 + v + 1) % 2147483647 = p′ in
+    let q : ℕ = (digest * 1000003 + v + 1) / 2147483647 in
+    let q′ : ℕ = (digest′ * 1000003 + v + 1) / 2147483647 in
+    left-over digest digest′ (709572 * digest + 1523789695 * q′) (709572 * digest′ + 1523789695 * q) (omega arith) small small′
