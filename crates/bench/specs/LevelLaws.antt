@@ -1,6 +1,6 @@
 -- The lines as a set: one seat anew moves one line.
 use Prim.Native.Nat.{ℕ, zero, suc, _+_, _*_, _/_, _%_, _^_, _<_, min, max}
-use mathlib.Core.Bool.{Bool, true, false, not}
+use mathlib.Core.Bool.{Bool, true, false, not, and-false}
 use mathlib.Core.List.{List, [], _∷_, map}
 use mathlib.Core.Path.{_≡_, refl, ap, ap₂, sym, subst, _∙_}
 use native.Mathlib.Nat.{le-of-suc-le-suc, not-suc-le-zero, pow-succ', mod-eq-of-lt}
@@ -9,7 +9,6 @@ use lib.Dec.{eqb}
 use lib.Bits.{bitOr, bitAnd, bitXor, or-step, and-step, xor-step, or-zero-r, and-zero-r, xor-zero-r, differ}
 use lib.ListN.{length, set}
 use Rattle.base.specs.Pick.{pick}
-use Rattle.base.specs.PickLaws.{and-false}
 use Rattle.base.specs.Bits.{bit, digit, bits}
 use Rattle.base.specs.BitLaws.{digit-le}
 use Rattle.channel.specs.declared.Channel.{Channel}

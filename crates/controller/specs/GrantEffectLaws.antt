@@ -1,9 +1,9 @@
 -- What an acknowledge does, a field a sentence: with a line to grant, and with none.
 use Prim.Native.Nat.{ℕ, _+_, _*_, _/_, _<_}
-use mathlib.Core.Bool.{Bool, true, false, _&&_}
+use mathlib.Core.Bool.{Bool, true, false, _&&_, and-false}
 use mathlib.Core.Path.{_≡_, refl, sym, ap, ap₂, _∙_, subst}
 use borrow.Author.Tests.{eq-eqb}
-use Rattle.base.specs.PickLaws.{pick-true, pick-false, and-false}
+use Rattle.base.specs.PickLaws.{pick-true, pick-false}
 use Rattle.base.specs.declared.Answer.the-variants.{Vector, Spurious}
 use Rattle.rank.specs.Sets.{only, join}
 use Rattle.rank.specs.SetLaws.{line-same}

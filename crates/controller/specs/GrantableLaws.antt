@@ -5,7 +5,7 @@ use mathlib.Core.Path.{_≡_, refl, sym, ap, ap₂, _∙_}
 use mathlib.Core.Logic.{⊎-elim}
 use native.Mathlib.Nat.{le-antisymm}
 use borrow.Author.Tests.{eq-eqb}
-use Rattle.base.specs.PickLaws.{either-way, not-both, both-hold}
+use Rattle.base.specs.PickLaws.{either-way, not-both, both-hold, not-true}
 use Rattle.rank.specs.Sets.{has, some}
 use Rattle.rank.specs.SetLaws.{one-some, none-some}
 use Rattle.rank.specs.Rank.{place}
@@ -42,10 +42,6 @@ pub record FirstRanked (first : ℕ) (Kind : ℕ → Type 0) (n : ℕ) : Type 0 
   pub least : (m : ℕ) → m < 8 → Kind m → place first n ≤ place first m
 
 -- ---- the tests of the definitions say just that
-
-not-true : (x : Bool) → not x ≡ true → x ≡ false
-not-true true e = sym e
-not-true false e = refl
 
 freed : (x special masked : Bool) → (x && not (special && masked)) ≡ true → special ≡ true → masked ≡ false
 freed x special masked e f =

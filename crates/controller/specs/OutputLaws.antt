@@ -3,7 +3,7 @@ use Prim.Native.Nat.{ℕ, _+_, _%_, _<_}
 use mathlib.Core.Bool.{Bool, true, false, not, _&&_}
 use mathlib.Core.Path.{_≡_, refl, sym, ap, _∙_}
 use native.Mathlib.Omega.{arith}
-use Rattle.base.specs.PickLaws.{pick-false, not-both, both-hold}
+use Rattle.base.specs.PickLaws.{pick-false, not-both, both-hold, not-true}
 use Rattle.base.specs.Answers.{valueOf}
 use Rattle.base.specs.declared.Answer.the-variants.{Vector, Spurious}
 use Rattle.rank.specs.Sets.{line, has, some}
@@ -36,10 +36,6 @@ pub record Named (c : Controller) : Type 0 where
   pub stands : has (requests c) line ≡ true
   pub unmasked : has (c .operation .mask) line ≡ false
   pub names : step c acknowledge ≡ record { controller = grant c line; answer = Vector (vector (c .setup) line) }
-
-not-true : (x : Bool) → not x ≡ true → x ≡ false
-not-true true e = sym e
-not-true false e = refl
 
 named-by : (c : Controller) (t : Turn) → granted c ≡ t → Finds (c .operation .first) (grantable c) t → ready (c .setup) ≡ true → some (grantable c) ≡ true → Named c
 unfolding asks

@@ -67,10 +67,6 @@ power-up-valid = refl
 
 -- ---- every signal
 
-first-part : (x y : Bool) → (x && y) ≡ true → x ≡ true
-first-part true y e = refl
-first-part false y e = e
-
 eights-of : (b : ℕ) → b / 8 * 8 % 8 ≡ 0
 eights-of b = omega arith
 
@@ -98,7 +94,7 @@ module _ (c : Controller) (s : SoundC c) where
         eights = s .eights;
         ranked = s .ranked;
         staged = s .staged;
-        high = λ n small e. first-part (has h n) (has (join (c .lines .latches) (without h (c .lines .levels))) n) (sym (has-meet h (join (c .lines .latches) (without h (c .lines .levels))) n) ∙ e);
+        high = λ n small e. both-hold (has h n) (has (join (c .lines .latches) (without h (c .lines .levels))) n) (sym (has-meet h (join (c .lines .latches) (without h (c .lines .levels))) n) ∙ e) .0;
       }
   sound-after signal d (begins p b z e) =
       record { eights = s .eights; ranked = omega arith; staged = omega arith; high = λ n small t. absurd (not-both t (has-none n)) }
@@ -111,7 +107,7 @@ module _ (c : Controller) (s : SoundC c) where
         eights = s .eights;
         ranked = pick-cases (λ (k : ℕ). k < 8) (c .setup .automatic && c .operation .rotation) (next n) (c .operation .first) (λ _. next-lt n) (λ _. s .ranked);
         staged = s .staged;
-        high = λ m small t. s .high m small (first-part (has (c .lines .latches) m) (not (has (only n) m)) (sym (has-without (c .lines .latches) (only n) m) ∙ t));
+        high = λ m small t. s .high m small (both-hold (has (c .lines .latches) m) (not (has (only n) m)) (sym (has-without (c .lines .latches) (only n) m) ∙ t) .0);
       }
 
 pub valid-kept : (c : Controller) (signal : Signal) → valid c ≡ true → valid (step c signal .controller) ≡ true

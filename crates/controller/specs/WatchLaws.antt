@@ -1,6 +1,6 @@
 -- The lines as they are watched, ready or not, and what the ports show of them.
 use Prim.Native.Nat.{ℕ}
-use mathlib.Core.Bool.{Bool, true, false, not, _&&_, _||_}
+use mathlib.Core.Bool.{Bool, true, false, not, _&&_, _||_, or-true, or-false}
 use mathlib.Core.Path.{_≡_, refl, sym, ap, ap₂, _∙_, subst}
 use Rattle.base.specs.PickLaws.{pick-true, pick-false}
 use Rattle.base.specs.declared.Answer.the-variants.{Byte, Done}
@@ -26,14 +26,6 @@ pub record Watched (high : ℕ) (c : Controller) (s : Stepped) : Type 0 where
   -- nothing else
   pub setup : s .controller .setup ≡ c .setup
   pub operation : s .controller .operation ≡ c .operation
-
-or-true : (x : Bool) → (x || true) ≡ true
-or-true true = refl
-or-true false = refl
-
-or-false : (x : Bool) → (x || false) ≡ x
-or-false true = refl
-or-false false = refl
 
 pub watched : (c : Controller) (high : ℕ) → Watched high c (step c (levels high))
 watched c high =

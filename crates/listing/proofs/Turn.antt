@@ -1,7 +1,7 @@
 -- The run's loop, one record at a time: what holds after k records, and how the run ends.
 use Prim.Native.Nat.{ℕ, suc, _+_, _-_, _*_, _≤_, _<_, min}
 use mathlib.Core.Path.{_≡_, refl, sym, ap, _∙_}
-use mathlib.Core.Bool.{Bool, true, false}
+use mathlib.Core.Bool.{Bool, true, false, and-false}
 use mathlib.Core.List.{List, [], _∷_, _++_, append-nil}
 use mathlib.Core.Logic.{⊎-elim}
 use native.Mathlib.Omega.{arith}
@@ -12,7 +12,7 @@ use lib.ListN.{length, take, drop, getD, length-append, drop-of-length-le}
 use lib.Seq.{sets, length-sets, take-suc, drop-cons, length-take-le}
 use borrow.Author.Tests.{le-ltb, lt-ltb, le-leb, lt-leb, leb-true, leb-false}
 use Rattle.base.specs.Pick.{pick}
-use Rattle.base.specs.PickLaws.{pick-true, pick-false, and-false}
+use Rattle.base.specs.PickLaws.{pick-true, pick-false}
 use Rattle.bench.specs.Events.{Record, short}
 use Rattle.bench.specs.Runs.{afterAll}
 use Rattle.bench.specs.RunLaws.{after-parts}

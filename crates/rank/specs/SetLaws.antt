@@ -6,7 +6,7 @@ use mathlib.Core.Logic.{⊎-elim}
 use native.Mathlib.Nat.{mod-lt, zero-lt-suc}
 use native.Mathlib.Omega.{arith}
 use lib.Dec.{T, eqb}
-use Rattle.base.specs.PickLaws.{either-way, not-both}
+use Rattle.base.specs.PickLaws.{either-way, not-both, not-true}
 use Rattle.base.specs.Bits.{bit}
 use Rattle.base.specs.BitLaws.{bit-or, bit-and, bit-without}
 use Rattle.base.specs.Every.{every}
@@ -69,13 +69,9 @@ only-shifted k = equal-at 8 (λ i. 1 * 2 ^ i % 256) (λ i. 2 ^ i) tt (line k) (l
 
 -- ---- some line passes the test, or none does
 
-not-not : (b : Bool) → not b ≡ true → b ≡ false
-not-not true e = sym e
-not-not false e = refl
-
 pub some-none : (test : ℕ → Bool) → some test ≡ false → (n : ℕ) → n < 8 → test n ≡ false
 some-none test e n small =
-    not-not (test n) (every-each 8 (λ n. not (test n)) (flip (every 8 (λ n. not (test n))) e) n small)
+    not-true (test n) (every-each 8 (λ n. not (test n)) (flip (every 8 (λ n. not (test n))) e) n small)
   where
     flip : (b : Bool) → not b ≡ false → b ≡ true
     flip true e = refl

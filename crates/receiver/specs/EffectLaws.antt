@@ -1,6 +1,6 @@
 -- What a call leaves, told by what is seen after it: the next LSR read, the next RBR read, and the character times that follow.
 use Prim.Native.Nat.{ℕ, zero, suc, _<_, _≤_}
-use mathlib.Core.Bool.{Bool, true, false, not, _&&_}
+use mathlib.Core.Bool.{Bool, true, false, not, _&&_, and-false}
 use mathlib.Core.List.{List, [], _∷_, _++_}
 use mathlib.Core.Logic.{⊎-elim}
 use mathlib.Core.Path.{_≡_, refl, ap, _∙_}
@@ -9,7 +9,7 @@ use lib.Dec.{ltb, leb, eqb}
 use lib.ListN.{length}
 use borrow.Author.Tests.{ltb-true, ltb-false, lt-leb}
 use Rattle.base.specs.Pick.{pick}
-use Rattle.base.specs.PickLaws.{and-false, either-way}
+use Rattle.base.specs.PickLaws.{either-way}
 use Rattle.queue.specs.declared.Character.{Character}
 use Rattle.queue.specs.declared.Queue.{Queue}
 use Rattle.queue.specs.Queue.{capacity, anyMarked, marked}

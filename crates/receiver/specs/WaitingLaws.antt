@@ -1,13 +1,13 @@
 -- The time-out count: where it rises, and where a character time leaves an equal receive side.
 use Prim.Native.Nat.{ℕ, zero, suc, _+_, _<_, _≤_, min}
-use mathlib.Core.Bool.{Bool, true, false, not, _&&_}
+use mathlib.Core.Bool.{Bool, true, false, not, _&&_, and-false}
 use mathlib.Core.List.{List, [], _∷_}
 use mathlib.Core.Path.{_≡_, refl, ap, sym, _∙_}
 use mathlib.Core.Logic.{⊎-elim}
 use native.Mathlib.Omega.{arith}
 use lib.Dec.{ltb, leb, eqb}
 use borrow.Author.Tests.{lt-ltb, le-ltb, le-leb, lt-leb, eq-eqb, ne-eqb, ltb-true, ltb-false}
-use Rattle.base.specs.PickLaws.{pick-true, pick-false, and-false, either-way}
+use Rattle.base.specs.PickLaws.{pick-true, pick-false, either-way}
 use Rattle.queue.specs.declared.Character.{Character}
 use Rattle.queue.specs.QueueLaws.{holding}
 use Rattle.receiver.specs.declared.Receiver.{Receiver}

@@ -11,6 +11,7 @@ use lib.Dec.{eqb}
 use lib.ListN.{length, take}
 use Rattle.base.specs.declared.Answer.{Answer}
 use Rattle.base.specs.declared.Answer.the-variants.{Byte, Done, Sent, Idle, Break, Vector, Spurious, Place, Divisor, Refused}
+use Rattle.base.specs.PickLaws.{never, not-true, both-hold}
 use Rattle.rank.specs.Sets.{has}
 use Rattle.controller.specs.Signals.{Signal, levels, read, write, acknowledge}
 use Rattle.controller.specs.Turns.{vector}
@@ -24,17 +25,6 @@ use Rattle.turn.proofs.InTurn.{demand-3}
 use Rattle.turn.proofs.Closed.{automatic, eight, automatic-start, automatic-waits, manual, manual-start}
 
 -- ---- what is asked of a run, as tests, so that a closed run is tried by computing
-
-unlike : false ≡ true → ⊥
-unlike e = let z : _≡_ {A = ℕ} 0 1 = cc in omega arith
-
-not-true : (x : Bool) → not x ≡ true → x ≡ false
-not-true true e = absurd (unlike e)
-not-true false e = refl
-
-both : (x y : Bool) → (x && y) ≡ true → (x ≡ true) × (y ≡ true)
-both true y e = (refl, e)
-both false y e = absurd (unlike e)
 
 -- a signal that may come, or the one more
 data Move : Type 0 where
@@ -58,7 +48,7 @@ may-write t b harmless = true
 write-may : (t b : ℕ) (w : Word) → may-write t b w ≡ true → MayWrite t b w
 write-may t b mask e = not-true (has b t) e
 write-may t b rotating e = tt
-write-may t b barred e = unlike e
+write-may t b barred e = never e
 write-may t b harmless e = tt
 
 abbrev comes : ℕ → Bool → Move → Bool
@@ -83,7 +73,7 @@ waits-by : (more : Signal) (t : ℕ) (owed : Bool) (c : Controller) (ms : List M
     → WaitsBy (Also more) t owed c (signals more ms)
 waits-by more t owed c [] e = tt
 waits-by more t owed c (m ∷ rest) e =
-    let p = both (comes t owed m) _ e in
+    let p = both-hold (comes t owed m) _ e in
     (move-may more t owed m (p .0), inr (waits-by more t _ _ rest (p .1)))
 
 abbrev pub tells : ℕ → Answer → Bool
@@ -106,8 +96,8 @@ pub not-among : (v : ℕ) (l : List Answer) → none-tells v l ≡ true → Amon
 not-among v [] e a = a
 not-among v (b ∷ rest) e (inl p) =
     let own : tells v b ≡ true = subst (λ (x : Answer). tells v x ≡ true) p (eq-eqb v v refl) in
-    unlike (sym (not-true (tells v b) (both (not (tells v b)) _ e .0)) ∙ own)
-not-among v (b ∷ rest) e (inr a) = not-among v rest (both (not (tells v b)) _ e .1) a
+    never (sym (not-true (tells v b) (both-hold (not (tells v b)) _ e .0)) ∙ own)
+not-among v (b ∷ rest) e (inr a) = not-among v rest (both-hold (not (tells v b)) _ e .1) a
 
 -- ---- one signal more: a closed run that asks nothing else, and eight answers without line 7
 
