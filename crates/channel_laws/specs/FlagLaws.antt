@@ -71,29 +71,24 @@ quiet c d same kept =
 
 -- ---- register by register
 
+-- a number for each register by name
+abbrev number : Register → ℕ
+number RbrThr = 0
+number Ier = 1
+number IirFcr = 2
+number Lcr = 3
+number Mcr = 4
+number Lsr = 5
+number Msr = 6
+number Scratch = 7
+number Dll = 8
+number Dlm = 9
+
 abbrev isThr : Register → Bool
-isThr RbrThr = true
-isThr Ier = false
-isThr IirFcr = false
-isThr Lcr = false
-isThr Mcr = false
-isThr Lsr = false
-isThr Msr = false
-isThr Scratch = false
-isThr Dll = false
-isThr Dlm = false
+isThr r = eqb (number r) 0
 
 abbrev isIir : Register → Bool
-isIir RbrThr = false
-isIir Ier = false
-isIir IirFcr = true
-isIir Lcr = false
-isIir Mcr = false
-isIir Lsr = false
-isIir Msr = false
-isIir Scratch = false
-isIir Dll = false
-isIir Dlm = false
+isIir r = eqb (number r) 2
 
 -- two tests that do not differ
 alike : (a b : Bool) → not (xor a b) ≡ true → a ≡ b

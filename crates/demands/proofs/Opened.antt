@@ -19,21 +19,15 @@ use Rattle.channel.specs.Moments as moments
 use Rattle.receiver.specs.Ledger as ledger
 use Rattle.turn.proofs.Opened as turn
 
-unfoldable pub of-queue-1 : ℕ
+unfoldable pub of-queue : ℕ
 unfolding queue.room queue.entered queue.replaced queue.capacity queue.accepted queue.movedDown queue.taken
-of-queue-1 = 0
+    queue.oldest queue.unmarked queue.anyMarked queue.marked queue.clear queue.canonical
+of-queue = 0
 
-unfoldable pub of-queue-2 : ℕ
-unfolding queue.oldest queue.unmarked queue.anyMarked queue.marked queue.clear queue.canonical
-of-queue-2 = 0
-
-unfoldable pub of-receiver-1 : ℕ
+unfoldable pub of-receiver : ℕ
 unfolding receiver.noneQueued receiver.received receiver.got receiver.shownMarks receiver.someMarked receiver.looked
-of-receiver-1 = 0
-
-unfoldable pub of-receiver-2 : ℕ
-unfolding receiver.waited receiver.cleared receiver.turned receiver.restarted receiver.dataStands receiver.timeoutStands
-of-receiver-2 = 0
+    receiver.waited receiver.cleared receiver.turned receiver.restarted receiver.dataStands receiver.timeoutStands
+of-receiver = 0
 
 unfoldable pub of-transmitter : ℕ
 unfolding sender.noneWaiting sender.allSent sender.flagSetIf sender.written sender.emptied sender.next sender.shifted sender.enabled
@@ -47,29 +41,20 @@ unfoldable pub of-status : ℕ
 unfolding status.lsr status.msr status.lineTrouble status.modemChanged status.causes status.firstCause status.cause status.iir status.line
 of-status = 0
 
-unfoldable pub of-effects-1 : ℕ
+unfoldable pub of-effects : ℕ
 unfolding effects.iirRead effects.lsrRead effects.msrRead effects.byteAt effects.afterRead effects.ierWritten effects.modeChanged effects.fcrReceiver
-of-effects-1 = 0
+    effects.fcrTransmitter effects.fcrWritten effects.afterWrite effects.afterArrival effects.afterLevels effects.afterTime effects.timeAnswer
+of-effects = 0
 
-unfoldable pub of-effects-2 : ℕ
-unfolding effects.fcrTransmitter effects.fcrWritten effects.afterWrite effects.afterArrival effects.afterLevels effects.afterTime effects.timeAnswer
-of-effects-2 = 0
-
-unfoldable pub of-channel-1 : ℕ
+unfoldable pub of-channel : ℕ
 unfolding channel.registerAbove channel.noDivisor channel.arrivalWrong channel.levelsAbove channel.loopAsked
-of-channel-1 = 0
+    channel.grounds channel.refusal channel.effect channel.stepped
+of-channel = 0
 
-unfoldable pub of-channel-2 : ℕ
-unfolding channel.grounds channel.refusal channel.effect channel.stepped
-of-channel-2 = 0
-
-unfoldable pub of-bench-1 : ℕ
+unfoldable pub of-bench : ℕ
 unfolding events.early events.eventOf events.decoded events.refusedNumber seats.seat seats.withSeat seats.lines seats.withLine refused.grounds
-of-bench-1 = 0
-
-unfoldable pub of-bench-2 : ℕ
-unfolding refused.refusal bench.after bench.answerTo bench.outcome bench.roomRefusal bench.met bench.touched bench.dealt
-of-bench-2 = 0
+    refused.refusal bench.after bench.answerTo bench.outcome bench.roomRefusal bench.met bench.touched bench.dealt
+of-bench = 0
 
 unfoldable pub of-moments : ℕ
 unfolding runs.own moments.readMoments moments.fcrMoments moments.writeMoments moments.acceptedMoments moments.momentsOf moments.telling moments.toldIn
@@ -80,9 +65,9 @@ unfolding ledger.after ledger.arrivedIn ledger.lostIn ledger.droppedIn
 of-ledger = 0
 
 unfoldable pub of-seat : ℕ
-unfolding of-queue-1 of-queue-2 of-receiver-1 of-receiver-2 of-transmitter of-registers of-status of-effects-1 of-effects-2 of-channel-1 of-channel-2
+unfolding of-queue of-receiver of-transmitter of-registers of-status of-effects of-channel
 of-seat = 0
 
 unfoldable pub laid-open : ℕ
-unfolding of-seat of-moments of-ledger of-bench-1 of-bench-2 turn.laid-open
+unfolding of-seat of-moments of-ledger of-bench turn.laid-open
 laid-open = 0

@@ -19,21 +19,15 @@ unfoldable pub of-rank : ℕ
 unfolding rank.before rank.aboveEvery rank.find rank.firstPlace
 of-rank = 0
 
-unfoldable pub of-turns-1 : ℕ
+unfoldable pub of-turns : ℕ
 unfolding turns.settled turns.requests turns.asks turns.hinders turns.grantable turns.outputOf turns.found
-of-turns-1 = 0
+    turns.granted turns.taken turns.grant turns.acknowledged turns.asking turns.hindering
+of-turns = 0
 
-unfoldable pub of-turns-2 : ℕ
-unfolding turns.granted turns.taken turns.grant turns.acknowledged turns.asking turns.hindering
-of-turns-2 = 0
-
-unfoldable pub of-words-1 : ℕ
+unfoldable pub of-words : ℕ
 unfolding commands.icw1 commands.icw2 commands.icw4 commands.ended commands.madeLast commands.served commands.plainEnd commands.rotatingEnd
-of-words-1 = 0
-
-unfoldable pub of-words-2 : ℕ
-unfolding commands.command commands.ocw2 commands.ocw3 commands.written0 commands.written1 commands.written commands.shown
-of-words-2 = 0
+    commands.command commands.ocw2 commands.ocw3 commands.written0 commands.written1 commands.written commands.shown
+of-words = 0
 
 unfoldable pub of-controller : ℕ
 unfolding refusing.refusal refusing.placeRefusal controller.step controller.placed
@@ -44,5 +38,5 @@ unfolding waiting.word0 waiting.word
 of-waiting = 0
 
 unfoldable pub laid-open : ℕ
-unfolding of-base of-rank of-turns-1 of-turns-2 of-words-1 of-words-2 of-controller of-waiting
+unfolding of-base of-rank of-turns of-words of-controller of-waiting
 laid-open = 0
