@@ -1,7 +1,7 @@
 // A channel lent by `&mut` to one function, which calls the by-value step: the late and thin form.
 use base::Answer;
 use channel::Channel;
-use channel::SeatEvent;
+use registers::SeatEvent;
 use channel::Stepped;
 ghost use mathlib.Core.Path.{_≡_};
 ghost use Rattle.channel.specs.Steps.{stepped};
