@@ -41,6 +41,9 @@ impl Controller {
     {
         let o = self.operation;
         let asks = rank::first_place(o.first, rank::without(self.requests(), o.mask));
+        if asks == rank::LINES {
+            return rank::LINES;
+        }
         let hinders = rank::first_place(o.first, o.hindering());
         if asks < hinders {
             return asks;

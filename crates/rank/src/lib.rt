@@ -45,6 +45,9 @@ pub fn line_at(first: u8, k: u8) -> u8
 pub fn first_place(first: u8, s: u8) -> u8
     ensures { λ r. ⌜ r ≡ firstPlace first (has s) ⌝ }
 {
+    if s == 0 {
+        return LINES;
+    }
     let mut k: u8 = 0;
     while k < LINES {
         if has(s, line_at(first, k)) {
