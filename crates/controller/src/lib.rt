@@ -107,10 +107,16 @@ impl Controller {
         self
     }
 
+    // Asked after every event: mostly nobody asks, and no search is made. The search takes bytes, not the controller, which need not be stored for it.
     pub fn output(self) -> bool
         ensures { λ r. ⌜ r ≡ outputOf self ⌝ }
     {
-        let place = self.grantable_place();
+        let o = self.operation;
+        let asks = self.asking();
+        if asks == 0 {
+            return false;
+        }
+        let place = rank::first_above(o.first, asks, o.hindering());
         (self.setup.stage == Setup::READY) & (place < rank::LINES)
     }
 
