@@ -1,11 +1,11 @@
 use mathlib.Core.Path.{sym, _∙_}
 use Rattle.bench.specs.MeetLaws.{touched-taken, touched-refused}
 use borrow.Author.Needs.{needs}
-use Rattle.bench.proofs.steps.touch_seat.Statement.{statement}
-use Rattle.bench.proofs.steps.touch_seat.Tie as tie
+use Rattle.bench.proofs.parts.touch_seat.Statement.{statement}
+use Rattle.bench.proofs.parts.touch_seat.Tie as tie
 
-lent-requires : tie.Need-lent-requires
-lent-requires c κs = search needs
+step-requires : tie.Need-step-requires
+step-requires c κs = search needs
 
 refusal-requires : tie.Need-refusal-requires
 refusal-requires c κs = search needs
@@ -21,22 +21,22 @@ settle-requires c κs = search needs
 
 returns : tie.Need-returns
 returns c =
-    let a = c .before .before .before .before .before .before .before .before .args in
+    let a = c .before .before .before .before .before .before .before .args in
     simp (c .settle .ensures, c .before .with-line .ensures, c .before .before .line .ensures)
-    (sym (touched-taken (a .seat) (a .controller) (a .n) (a .e) (c .before .before .before .before .before .before .lent .result) (c .before .before .before .before .before .before .lent .ensures)
-    (sym (c .before .before .before .before .before .refusal .ensures) ∙ c .before .before .before .before .if1 .taken)))
+    (sym (touched-taken (a .seat) (a .controller) (a .n) (a .e) (c .before .before .before .before .before .before .step .result) (c .before .before .before .before .before .before .step .ensures)
+    (sym (c .before .before .before .before .refusal .ensures) ∙ c .before .before .before .if1 .taken)))
 
 returns-2 : tie.Need-returns-2
 returns-2 c =
     let a = c .before .before .before .before .args in
-    sym (touched-refused (a .seat) (a .controller) (a .n) (a .e) (c .before .before .lent .result) (c .before .before .lent .ensures)
+    sym (touched-refused (a .seat) (a .controller) (a .n) (a .e) (c .before .before .before .step .result) (c .before .before .before .step .ensures)
     (λ none. c .if1 .left (c .before .refusal .ensures ∙ none)))
 
 pub touch-seat-spec : {M : Type 1} → statement M
 touch-seat-spec =
     tie.close
     (tie.spec
-    lent-requires
+    step-requires
     refusal-requires
     line-requires
     with-line-requires
