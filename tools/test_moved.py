@@ -135,7 +135,7 @@ class Moved(Room):
         (self.root / "crates/lamp/specs/Lamp.antt").unlink()
         self.write("crates/lamp/specs/Light.antt", SPECS.replace("-- what shines", "-- what glows").replace("use Lib.{Bool}", "use Lib.{Bool, not}")
                    .replace("shining up = up", "shining up\n    = up").replace("abbrev dark", "abbrev pub dark"))
-        self.change("crates/lamp/src/lib.rt", "// turns it", "// switches it")
+        self.change("crates/lamp/src/lib.rt", "up: bool) -> Self", "up: bool) -> Self // up is on")
         self.change("crates/lamp/src/lib.rt", "Lamp { on: up }", "Lamp { on: up | false }")
         self.change("crates/lamp/proofs/Lamp/turn/Proof.antt", "use Lib.{refl}", "use Lib.{refl, ap}")
         self.assertNotIn("\n- ", self.landed()[0])
