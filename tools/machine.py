@@ -20,14 +20,18 @@ def find_rt():
     return Path(found.stdout.strip())
 
 
-def proved(name):
-    """The command that runs a program of the repository, which is proved and built first where it is not."""
-    rt = find_rt()
-    built = subprocess.run([rt, "check", name], cwd=ROOT, stdout=subprocess.PIPE, stderr=subprocess.STDOUT)
+def build(words, root=ROOT):
+    """Has rt prove and build something of a repository."""
+    built = subprocess.run([find_rt(), *words], cwd=root, stdout=subprocess.PIPE, stderr=subprocess.STDOUT)
     if built.returncode:
         sys.stderr.buffer.write(built.stdout)
-        stop(f"rt check {name} failed")
-    return run_by(rt) + [ROOT / "target/bin" / name]
+        stop(f"rt {' '.join(words)} failed")
+
+
+def proved(name, root=ROOT):
+    """The command that runs a program of a repository, which is proved and built first where it is not."""
+    build(["check", name], root)
+    return run_by(find_rt()) + [root / "target/bin" / name]
 
 
 def run_by(rt):

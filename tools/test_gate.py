@@ -1,5 +1,6 @@
 """Tests of tools/test, with a stand-in for the toolchain: what it runs, in which order, and where it stops."""
 import os
+import re
 import subprocess
 import unittest
 from pathlib import Path
@@ -26,12 +27,18 @@ class Gate(Room):
         self.script("tools/reading", '#!/bin/sh\necho "reading $*"\n')
         self.write("crates.txt", "lamp:\n")
         self.write("crates/lamp/src/lib.rt", "")
-        for name in ("test", "find-rt"):
-            self.script(f"tools/{name}", (TOOLS / name).read_text("utf-8"))
+        self.script("tools/find-rt", (TOOLS / "find-rt").read_text("utf-8"))
+        self.gate("")
+
+    def gate(self, landed):
+        """The test command, with these tickets landed."""
+        text, lists = re.subn(r"^landed=\(.*\)$", f"landed=({landed})", (TOOLS / "test").read_text("utf-8"), flags=re.M)
+        self.assertEqual(lists, 1)
+        self.script("tools/test", text)
 
     def run_it(self, **settings):
         """The status, and the lines written."""
-        setting = {**os.environ, "HAILSTOAT_DOCUMENT_01": "nowhere", **settings}
+        setting = {**os.environ, "HAILSTOAT_DOCUMENT_01": "nowhere", "HAILSTOAT_DOCUMENT_02": "nowhere", **settings}
         setting["PATH"] = f"{self.root / 'bin'}:{os.environ['PATH']}"
         done = subprocess.run([self.root / "tools/test"], cwd="/", env=setting,
                               stdout=subprocess.PIPE, stderr=subprocess.STDOUT, encoding="utf-8")
@@ -51,16 +58,28 @@ class Gate(Room):
     def test_what_is_skipped_is_told_right_before_the_verdict(self):
         self.script("tools/programs/20-half", '#!/bin/sh\necho "the lamp" >>"$HAILSTOAT_SKIPPED"\n')
         _, said = self.run_it()
-        self.assertTrue(said[-3].startswith("skipped: the quotations against document 01"))
+        self.assertTrue(said[-4].startswith("skipped: the quotations against document 01"))
+        self.assertTrue(said[-3].startswith("skipped: the quotations against document 02"))
         self.assertEqual(said[-2:], ["skipped: the lamp", VERDICT])
         self.write("paper.md", "")
-        _, said = self.run_it(HAILSTOAT_DOCUMENT_01="paper.md")
+        _, said = self.run_it(HAILSTOAT_DOCUMENT_01="paper.md", HAILSTOAT_DOCUMENT_02="paper.md")
         self.assertEqual([line for line in said if line.startswith("skipped: ")], ["skipped: the lamp"])
 
-    def test_document_01_is_used_where_it_is_at_hand(self):
+    def read_with(self, **settings):
+        """The words that tools/reading was given."""
+        return next(line for line in self.run_it(**settings)[1] if line.startswith("reading "))
+
+    def test_a_document_is_used_where_it_is_at_hand(self):
         self.write("paper.md", "")
-        _, said = self.run_it(HAILSTOAT_DOCUMENT_01="paper.md")
-        self.assertTrue(any(line.startswith("reading --check --against paper.md") for line in said))
+        self.assertEqual(self.read_with(), "reading --check")
+        self.assertEqual(self.read_with(HAILSTOAT_DOCUMENT_02="paper.md"), "reading --check --and paper.md")
+        first = self.read_with(HAILSTOAT_DOCUMENT_01="paper.md")
+        self.assertTrue(first.startswith("reading --check --against paper.md --complete "))
+        self.assertEqual(self.read_with(HAILSTOAT_DOCUMENT_01="paper.md", HAILSTOAT_DOCUMENT_02="paper.md"), f"{first} --and paper.md")
+
+    def test_tickets_that_have_landed_are_named(self):
+        self.gate("1 2")
+        self.assertEqual(self.read_with(), "reading --check --landed 1 2")
 
     def test_kits_that_differ_are_told_and_fail_nothing(self):
         self.write("docs/kit", "kit 9\n")

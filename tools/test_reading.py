@@ -41,6 +41,16 @@ No divisor at all.
 Lamp 1 is red.
 """
 
+REQUESTS = """\
+# Requests
+
+One landing for each.
+
+**Ticket 1. A dimmer.** Turned half: the lamp glows `dimly`; it hums.
+
+**Ticket 2. Blue lamps.** Pupils see blue. Lamp 1 is blue from now on. Refusals: 2 for a third colour.
+"""
+
 # One quotation runs over a line break, one is a row of a table, one stands in the body of a definition.
 SPECS = """\
 -- Lamps.
@@ -70,11 +80,28 @@ ROWS = """\
 """
 
 
+# Ticket 1, quoted beside document 01; ticket 2, which amends document 01.
+DIMMER = """\
+-- "Two lamps." Ticket 1: "Turned half: the lamp
+-- glows dimly; it hums." Document 01: "lamp above 1"
+abbrev pub glow : Bool
+glow = half
+"""
+BLUE = """\
+-- Ticket 2: "Lamp 1 is blue", "Refusals: 2 for a third colour"
+abbrev pub colour : ℕ
+colour = blue
+"""
+AMENDED = 'Lamp 1 is red. -- ticket 2: it is another colour, "Lamp 1 is blue from now on"\n'
+EXCUSED = "ticket 2: Pupils see blue. -- it says why\n"
+
+
 class Reading(Room):
     def setUp(self):
         super().setUp()
         self.write("crates.txt", "# rooms\nlamp:\n")
         self.write("paper.md", DOCUMENT)
+        self.write("requests.md", REQUESTS)
         self.write("crates/lamp/specs/Lib.antt", "pub mod Lamp\n")
         self.write("crates/lamp/specs/Lamp.antt", SPECS)
         self.write("crates/lamp/specs/BellLaws.antt", LAWS)
@@ -156,6 +183,103 @@ class Reading(Room):
         self.fails('document 01 does not say "Three lamps."', *self.against())
         self.write("docs/unquoted.txt", "Two lamps.\n")
         self.fails("docs/unquoted.txt:1: expected PASSAGE -- REASON")
+
+    # ---- document 02
+
+    def beside(self, *words):
+        return self.against("--and", str(self.root / "requests.md"), *words)
+
+    def lands_two(self):
+        """Ticket 2 as it lands: quoted, excused and amending, with the quotation of what it amends gone."""
+        self.write("crates/lamp/specs/Lamp.antt", SPECS.replace('-- "Lamp 1 is red"\n', ""))
+        self.write("crates/lamp/specs/Blue.antt", BLUE)
+        self.write("docs/amended.txt", "# colours\n" + AMENDED)
+        self.write("docs/unquoted.txt", EXCUSED)
+
+    def test_page_tells_a_ticket_from_document_01(self):
+        self.passes()
+        before = (self.root / "docs/READING.md").read_text("utf-8")
+        self.assertTrue(before.startswith("# From document 01 to its definitions\n"))
+        self.assertIn("| Document 01 | Definition | File |", before)
+        self.write("crates/lamp/specs/Dimmer.antt", DIMMER)
+        self.passes()
+        after = (self.root / "docs/READING.md").read_text("utf-8")
+        self.assertTrue(after.startswith("# From documents 01 and 02 to their definitions\n"))
+        self.assertIn("| Document 01 or a ticket | Definition | File |", after)
+        for text in ("Two lamps.", "ticket 1: Turned half: the lamp glows dimly; it hums.", "lamp above 1"):
+            self.assertIn(f"\n| {text} | `glow` | crates/lamp/specs/Dimmer.antt |\n", after)
+
+    def test_each_quotation_is_held_to_its_own_document(self):
+        self.write("crates/lamp/specs/Dimmer.antt", DIMMER)
+        self.passes(*self.beside("--landed", "1"))
+        self.write("crates/lamp/specs/Dimmer.antt", DIMMER.replace("Ticket 1: ", ""))
+        self.fails('Dimmer.antt:1: glow: document 01 does not say "Turned half: ', *self.beside("--landed", "1"))
+        self.write("crates/lamp/specs/Dimmer.antt", DIMMER.replace("Document 01: ", ""))
+        self.fails('Dimmer.antt:1: glow: ticket 1 does not say "lamp above 1"', *self.beside("--landed", "1"))
+        self.write("crates/lamp/specs/Dimmer.antt", DIMMER.replace("Ticket 1: ", "Ticket 2: "))
+        self.fails('glow: ticket 2 does not say "Turned half: ', *self.beside("--landed", "2"))
+
+    def test_quotation_of_a_ticket_needs_no_document_02(self):
+        self.write("crates/lamp/specs/Dimmer.antt", DIMMER)
+        self.passes(*self.against("--landed", "1"))
+
+    def test_no_ticket_has_landed_unless_named(self):
+        self.passes(*self.beside())
+        self.write("crates/lamp/specs/Dimmer.antt", DIMMER)
+        self.fails("Dimmer.antt:1: glow: ticket 1 has not landed", *self.beside())
+        self.fails("document 02 has no ticket 3", *self.beside("--landed", "1", "3"))
+
+    def test_clause_of_a_landed_ticket_that_nobody_quotes_fails(self):
+        self.write("crates/lamp/specs/Dimmer.antt", DIMMER.replace("; it hums.", ""))
+        self.fails("ticket 1 has landed, and 1 of its clauses are quoted by nobody", *self.beside("--landed", "1"))
+        self.assertIn("Ticket 1. A dimmer: 1 of 3 clauses are quoted by nobody\n    it hums.\n", self.run_it(*self.beside("--landed", "1"))[1])
+
+    def test_ticket_that_is_quoted_excused_and_listed_passes(self):
+        self.lands_two()
+        said = self.passes(*self.beside("--landed", "2", "--complete", "Tasting spoons"))
+        self.assertIn("Ticket 2. Blue lamps: 0 of 3 ", said)
+        self.write("docs/unquoted.txt", "")
+        self.fails("ticket 2 has landed, and 1 of its clauses", *self.beside("--landed", "2"))
+
+    def test_words_of_the_ticket_in_the_list_of_amendments_count(self):
+        self.lands_two()
+        self.write("crates/lamp/specs/Blue.antt", BLUE.replace('"Lamp 1 is blue", ', ""))
+        self.passes(*self.beside("--landed", "2"))
+        self.write("docs/amended.txt", AMENDED.replace('"', ""))
+        self.fails("ticket 2 has landed, and 1 of its clauses", *self.beside("--landed", "2"))
+        self.write("docs/amended.txt", AMENDED.replace("is blue", "is green"))
+        self.fails('docs/amended.txt: ticket 2 does not say "Lamp 1 is green from now on"', *self.beside("--landed", "2"))
+
+    def test_amended_passage_need_not_be_quoted(self):
+        self.lands_two()
+        self.write("docs/amended.txt", "")
+        self.fails('"Tasting spoons" is to be complete', *self.beside("--landed", "2", "--complete", "Tasting spoons"))
+
+    def test_quotation_of_an_amended_passage_fails(self):
+        self.lands_two()
+        self.write("crates/lamp/specs/Lamp.antt", SPECS)
+        self.fails('Lamp.antt:11: refused: document 01 is amended where it says "Lamp 1 is red"', *self.beside("--landed", "2"))
+        # the same words at another place, which is not amended
+        self.write("paper.md", DOCUMENT + "\n## More\n\nLamp 1 is red at night.\n")
+        self.passes(*self.beside("--landed", "2"))
+
+    def test_amendment_that_cannot_be_fails(self):
+        self.lands_two()
+        self.write("docs/amended.txt", AMENDED.replace("is red", "is green"))
+        self.fails('docs/amended.txt: document 01 does not say "Lamp 1 is green."', *self.beside("--landed", "2"))
+        self.write("docs/amended.txt", AMENDED + "Two lamps. -- ticket 1: three\n")
+        self.fails("docs/amended.txt: ticket 1 has not landed", *self.beside("--landed", "2"))
+        self.write("docs/amended.txt", "Lamp 1 is red. -- it is blue\n")
+        self.fails("docs/amended.txt:1: expected PASSAGE -- ticket N: WHAT")
+
+    def test_excuse_of_a_ticket_that_is_quoted_or_absent_or_early_fails(self):
+        self.lands_two()
+        self.write("docs/unquoted.txt", EXCUSED + "ticket 2: Lamp 1 is blue -- not needed\n")
+        self.fails('quoted after all: "Lamp 1 is blue"', *self.beside("--landed", "2"))
+        self.write("docs/unquoted.txt", EXCUSED + "ticket 2: Pupils see red. -- not needed\n")
+        self.fails('docs/unquoted.txt: ticket 2 does not say "Pupils see red."', *self.beside("--landed", "2"))
+        self.write("docs/unquoted.txt", EXCUSED + "ticket 1: it hums. -- not needed\n")
+        self.fails("docs/unquoted.txt: ticket 1 has not landed", *self.beside("--landed", "2"))
 
 
 if __name__ == "__main__":
