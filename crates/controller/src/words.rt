@@ -145,20 +145,25 @@ impl Controller {
     fn written1(mut self, byte: u8) -> Controller
         ensures { λ r. ⌜ r ≡ written1 self byte ⌝ }
     {
-        let base = byte / 8 * 8;
-        let automatic = base::bit(1, byte);
-        if self.setup.stage == Setup::AWAITS_ICW2 {
-            self.setup.base = base;
-            self.setup.stage = Setup::AWAITS_ICW4;
-            return self;
+        let stage = self.setup.stage;
+        match stage {
+            Setup::AWAITS_ICW2 => {
+                let base = byte / 8 * 8;
+                self.setup.base = base;
+                self.setup.stage = Setup::AWAITS_ICW4;
+                return self;
+            }
+            Setup::AWAITS_ICW4 => {
+                let automatic = base::bit(1, byte);
+                self.setup.automatic = automatic;
+                self.setup.stage = Setup::READY;
+                return self;
+            }
+            _ => {
+                self.operation.mask = byte;
+                return self;
+            }
         }
-        if self.setup.stage == Setup::AWAITS_ICW4 {
-            self.setup.automatic = automatic;
-            self.setup.stage = Setup::READY;
-            return self;
-        }
-        self.operation.mask = byte;
-        self
     }
 
     pub(crate) fn written(self, port: u8, byte: u8) -> Controller
