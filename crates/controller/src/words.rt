@@ -67,30 +67,22 @@ impl Operation {
     fn command(mut self, k: u8, n: u8) -> Operation
         ensures { λ r. ⌜ r ≡ command self k n ⌝ }
     {
-        if k == Operation::END {
-            return self.plain_end();
+        match k {
+            Operation::END => return self.plain_end(),
+            Operation::END_ROTATING => return self.rotating_end(),
+            Operation::END_LINE => return self.ended(n),
+            Operation::END_LINE_ROTATING => return self.ended(n).made_last(n),
+            Operation::MAKE_LAST => return self.made_last(n),
+            Operation::ROTATION_ON => {
+                self.rotation = true;
+                return self;
+            }
+            Operation::ROTATION_OFF => {
+                self.rotation = false;
+                return self;
+            }
+            _ => return self,
         }
-        if k == Operation::END_ROTATING {
-            return self.rotating_end();
-        }
-        if k == Operation::END_LINE {
-            return self.ended(n);
-        }
-        if k == Operation::END_LINE_ROTATING {
-            return self.ended(n).made_last(n);
-        }
-        if k == Operation::MAKE_LAST {
-            return self.made_last(n);
-        }
-        if k == Operation::ROTATION_ON {
-            self.rotation = true;
-            return self;
-        }
-        if k == Operation::ROTATION_OFF {
-            self.rotation = false;
-            return self;
-        }
-        self
     }
 
     fn ocw2(self, byte: u8) -> Operation
@@ -153,20 +145,25 @@ impl Controller {
     fn written1(mut self, byte: u8) -> Controller
         ensures { λ r. ⌜ r ≡ written1 self byte ⌝ }
     {
-        let base = byte / 8 * 8;
-        let automatic = base::bit(1, byte);
-        if self.setup.stage == Setup::AWAITS_ICW2 {
-            self.setup.base = base;
-            self.setup.stage = Setup::AWAITS_ICW4;
-            return self;
+        let stage = self.setup.stage;
+        match stage {
+            Setup::AWAITS_ICW2 => {
+                let base = byte / 8 * 8;
+                self.setup.base = base;
+                self.setup.stage = Setup::AWAITS_ICW4;
+                return self;
+            }
+            Setup::AWAITS_ICW4 => {
+                let automatic = base::bit(1, byte);
+                self.setup.automatic = automatic;
+                self.setup.stage = Setup::READY;
+                return self;
+            }
+            _ => {
+                self.operation.mask = byte;
+                return self;
+            }
         }
-        if self.setup.stage == Setup::AWAITS_ICW4 {
-            self.setup.automatic = automatic;
-            self.setup.stage = Setup::READY;
-            return self;
-        }
-        self.operation.mask = byte;
-        self
     }
 
     pub(crate) fn written(self, port: u8, byte: u8) -> Controller

@@ -1,5 +1,4 @@
-use Rattle.base.specs.PickLaws.{pick-true, pick-false}
-use borrow.Author.Tests.{eq-eqb, ne-eqb}
+use Rattle.base.specs.PickLaws.{tests, pick-true, pick-false}
 use Rattle.controller.specs.Words.{command}
 use borrow.Author.Needs.{needs}
 use Rattle.controller.proofs.Operation.command.Statement.{statement}
@@ -10,21 +9,21 @@ plain-end-requires c κs = search needs
 
 returns : tie.Need-returns
 unfolding command
-returns c = simp (← c .plain-end .ensures, eq-eqb _ _ (c .before .if1 .taken), pick-true)
+returns c = simp (← c .plain-end .ensures, c .before .match .keys1, pick-true, pick-false)
 
 rotating-end-requires : tie.Need-rotating-end-requires
 rotating-end-requires c κs = search needs
 
 returns-2 : tie.Need-returns-2
 unfolding command
-returns-2 c = simp (← c .rotating-end .ensures, eq-eqb _ _ (c .before .if2 .taken), ne-eqb _ _ (c .before .before .if1 .left), pick-true, pick-false)
+returns-2 c = simp (← c .rotating-end .ensures, c .before .match .keys2, pick-true, pick-false)
 
 ended-requires : tie.Need-ended-requires
 ended-requires c κs = search needs
 
 returns-3 : tie.Need-returns-3
 unfolding command
-returns-3 c = simp (← c .ended .ensures, eq-eqb _ _ (c .before .if3 .taken), ne-eqb _ _ (c .before .before .if2 .left), ne-eqb _ _ (c .before .before .before .if1 .left), pick-true, pick-false)
+returns-3 c = simp (← c .ended .ensures, c .before .match .keys3, pick-true, pick-false)
 
 ended-requires-2 : tie.Need-ended-requires-2
 ended-requires-2 c κs = search needs
@@ -34,26 +33,26 @@ made-last-requires c κs = search needs
 
 returns-4 : tie.Need-returns-4
 unfolding command
-returns-4 c = simp (← c .made-last .ensures, ← c .before .ended2 .ensures, eq-eqb _ _ (c .before .before .if4 .taken), ne-eqb _ _ (c .before .before .before .if3 .left), ne-eqb _ _ (c .before .before .before .before .if2 .left), ne-eqb _ _ (c .before .before .before .before .before .if1 .left), pick-true, pick-false)
+returns-4 c = simp (← c .made-last .ensures, ← c .before .ended2 .ensures, c .before .before .match .keys4, pick-true, pick-false)
 
 made-last-requires-2 : tie.Need-made-last-requires-2
 made-last-requires-2 c κs = search needs
 
 returns-5 : tie.Need-returns-5
 unfolding command
-returns-5 c = simp (← c .made-last2 .ensures, eq-eqb _ _ (c .before .if5 .taken), ne-eqb _ _ (c .before .before .if4 .left), ne-eqb _ _ (c .before .before .before .if3 .left), ne-eqb _ _ (c .before .before .before .before .if2 .left), ne-eqb _ _ (c .before .before .before .before .before .if1 .left), pick-true, pick-false)
+returns-5 c = simp (← c .made-last2 .ensures, c .before .match .keys5, pick-true, pick-false)
 
 returns-6 : tie.Need-returns-6
 unfolding command
-returns-6 c = simp (eq-eqb _ _ (c .if6 .taken), ne-eqb _ _ (c .before .if5 .left), ne-eqb _ _ (c .before .before .if4 .left), ne-eqb _ _ (c .before .before .before .if3 .left), ne-eqb _ _ (c .before .before .before .before .if2 .left), ne-eqb _ _ (c .before .before .before .before .before .if1 .left), pick-true, pick-false)
+returns-6 c = simp (c .match .keys6, pick-true, pick-false)
 
 returns-7 : tie.Need-returns-7
 unfolding command
-returns-7 c = simp (eq-eqb _ _ (c .if7 .taken), ne-eqb _ _ (c .before .if6 .left), ne-eqb _ _ (c .before .before .if5 .left), ne-eqb _ _ (c .before .before .before .if4 .left), ne-eqb _ _ (c .before .before .before .before .if3 .left), ne-eqb _ _ (c .before .before .before .before .before .if2 .left), ne-eqb _ _ (c .before .before .before .before .before .before .if1 .left), pick-true, pick-false)
+returns-7 c = simp (c .match .keys7, pick-true, pick-false)
 
 returns-8 : tie.Need-returns-8
 unfolding command
-returns-8 c = simp (ne-eqb _ _ (c .if7 .left), ne-eqb _ _ (c .before .if6 .left), ne-eqb _ _ (c .before .before .if5 .left), ne-eqb _ _ (c .before .before .before .if4 .left), ne-eqb _ _ (c .before .before .before .before .if3 .left), ne-eqb _ _ (c .before .before .before .before .before .if2 .left), ne-eqb _ _ (c .before .before .before .before .before .before .if1 .left), pick-false)
+returns-8 c = search tests
 
 pub command-spec : {M : Type 1} → statement M
 command-spec =
