@@ -6,21 +6,19 @@ use mathlib.Core.Path.{_≡_, refl, ap, ap₂, sym, subst, _∙_}
 use mathlib.Core.Logic.{⊎-elim}
 use native.Mathlib.Omega.{arith}
 use lib.Dec.{eqb}
-use lib.ListN.{length, getD, getD-replicate}
+use lib.ListN.{length, getD-replicate}
 use borrow.Author.Tests.{eqb-true}
-use Rattle.base.specs.PickLaws.{pick-true, pick-false, pick-through, either-way}
+use Rattle.base.specs.PickLaws.{pick-true, pick-false, either-way}
 use Rattle.base.specs.declared.Answer.{Answer}
-use Rattle.receiver.specs.Ledger.{Moment, resets, Side, after, Subsequence, arrivedIn, readIn, lostIn, droppedIn, queued}
+use Rattle.receiver.specs.Ledger.{Moment, resets, Side, after, Subsequence, losing, dropping, arrivedIn, readIn, lostIn, droppedIn, queued}
 use Rattle.receiver.specs.Ledger as side-run
 use Rattle.receiver.specs.LedgerLaws.{ledger, after-both, arrived-both, read-both}
 use Rattle.registers.specs.declared.SeatEvent.{SeatEvent}
 use Rattle.channel.specs.Moments.{telling, toldIn}
 use Rattle.seat.specs.declared.Seat.{Seat}
-use Rattle.seat.specs.declared.Stepped.{Stepped}
 use Rattle.seat.specs.Seats.{noSeat}
 use Rattle.seat.specs.Seats as one
 use Rattle.seat.specs.Steps.{stepped}
-use Rattle.seat.specs.Steps as seat-step
 use Rattle.seat.specs.Acts.{Act, event}
 use Rattle.seat.specs.Receiving.{side, momentsOf, befalling, receivesSoundly}
 use Rattle.seat.specs.ReceivingLaws.{acts-side, step-told, power-up-queued, power-up-receives}
@@ -30,12 +28,12 @@ use Rattle.bench.specs.declared.Event.the-variants.{OfSeat, MasterReset, ReadCo
 use Rattle.bench.specs.declared.Decoded.{Decoded}
 use Rattle.bench.specs.declared.Decoded.the-variants.{Taken, Refused}
 use Rattle.bench.specs.Events.{Record, decoded}
-use Rattle.bench.specs.Refusals.{roomGrounds}
 use Rattle.bench.specs.Seats.{seatCount, chair, seat, powerUp}
-use Rattle.bench.specs.Steps.{roomRefusal, answerTo, met, outcome, dealt}
+use Rattle.bench.specs.Steps.{met, outcome, dealt}
 use Rattle.bench.specs.Runs.{own, afterAll}
 use Rattle.bench.specs.MeetLaws.{outcome-dealt}
-use Rattle.bench.specs.FrameLaws.{seat-acts, chair-small}
+use Rattle.bench.specs.FrameLaws.{seat-acts, seat-by-chair, chair-small}
+use Rattle.bench.specs.DoneLaws.{seat-answer}
 use Rattle.bench.specs.RunLaws.{all-kept}
 use Rattle.demands.specs.Demand2.{ends}
 use Rattle.demands.specs.SeatLedger.{befalls, arrivedAt, readAt, lostAt, droppedAt, queuedAt, SoundAt, SeatLedger, SeatLedgerFromPowerUp}
@@ -43,15 +41,25 @@ use Rattle.demands.proofs.Demand2.{outcome-meets, demand-2}
 
 -- ---- counts over a run in two parts
 
+-- what is counted moment by moment
+module _ (one : Side → Moment → ℕ) (count : Side → List Moment → ℕ)
+    (none : (s : Side) → count s [] ≡ 0) (more : (s : Side) (m : Moment) (ms : List Moment) → count s (m ∷ ms) ≡ one s m + count (after s m) ms) where
+  counted-both : (s : Side) (ms ns : List Moment) → count s (ms ++ ns) ≡ count s ms + count (side-run.afterAll s ms) ns
+  unfolding side-run.afterAll
+  counted-both s [] ns = let e = none s in omega (arith, e)
+  counted-both s (m ∷ ms) ns =
+      let e = counted-both (after s m) ms ns in
+      let here = more s m ms in
+      let both = more s m (ms ++ ns) in
+      omega (arith, e, here, both)
+
 lost-both : (s : Side) (ms ns : List Moment) → lostIn s (ms ++ ns) ≡ lostIn s ms + lostIn (side-run.afterAll s ms) ns
-unfolding lostIn side-run.afterAll
-lost-both s [] ns = omega arith
-lost-both s (m ∷ ms) ns = let e = lost-both (after s m) ms ns in omega (arith, e)
+unfolding lostIn
+lost-both = counted-both losing lostIn (λ s. refl) (λ s m ms. refl)
 
 dropped-both : (s : Side) (ms ns : List Moment) → droppedIn s (ms ++ ns) ≡ droppedIn s ms + droppedIn (side-run.afterAll s ms) ns
-unfolding droppedIn side-run.afterAll
-dropped-both s [] ns = omega arith
-dropped-both s (m ∷ ms) ns = let e = dropped-both (after s m) ms ns in omega (arith, e)
+unfolding droppedIn
+dropped-both = counted-both dropping droppedIn (λ s. refl) (λ s m ms. refl)
 
 -- ---- one record
 
@@ -60,17 +68,6 @@ seat-side : (b : Bench) → length (b .seats) ≡ seatCount → (n : ℕ) (r : R
 seat-side b all n r =
     ap (λ (o : Outcome). side (seat (o .bench) n)) (outcome-dealt b r) ∙ ap side (seat-acts b all n (decoded r))
     ∙ acts-side (seat b n) (own (chair n) (decoded r))
-
--- a seat event is answered by its seat
-seat-answer : (b : Bench) (m : ℕ) (e : SeatEvent) → met b (OfSeat m e) .answer ≡ stepped (seat b m) e .answer
-unfolding met roomRefusal roomGrounds seat-step.refusal answerTo stepped
-seat-answer b m e =
-    pick-through (λ (o : Outcome). o .answer) (eqb (seat-step.refusal (seat b m) e) 0) _ _
-    ∙ sym (pick-through (λ (t : Stepped). t .answer) (eqb (seat-step.refusal (seat b m) e) 0) _ _)
-
-same-seat : (b : Bench) (m n : ℕ) → chair m ≡ chair n → seat b m ≡ seat b n
-unfolding seat
-same-seat b m n e = ap (λ (k : ℕ). getD (b .seats) k noSeat) e
 
 -- what the answer tells is what is read
 abbrev Told : Side → Answer → List Moment → Type 0
@@ -89,7 +86,7 @@ event-told : (b : Bench) (n m : ℕ) (e : SeatEvent) → chair m ≡ chair n
 event-told b n m e here =
     let s = seat b n in
     let a : met b (OfSeat m e) .answer ≡ stepped s e .answer
-    = seat-answer b m e ∙ ap (λ (t : Seat). stepped t e .answer) (same-seat b m n here) in
+    = seat-answer b m e ∙ ap (λ (t : Seat). stepped t e .answer) (seat-by-chair b m n here) in
     subst (λ (ms : List Moment). Told (side s) (met b (OfSeat m e) .answer) ms) (sym (append-nil (momentsOf s e)))
     (subst (λ (x : Answer). Told (side s) x (momentsOf s e)) (sym a) (step-told s e))
 
@@ -118,53 +115,47 @@ moments : ℕ → Bench → List Record → List Moment
 moments n b [] = []
 moments n b (r ∷ rs) = befalls n b r ++ moments n (outcome b r .bench) rs
 
-module _ (n : ℕ) where
-  all-arrived : (b : Bench) (rs : List Record) → arrivedIn (moments n b rs) ≡ arrivedAt outcome n b rs
-  unfolding moments arrivedIn
-  all-arrived b [] = refl
-  all-arrived b (r ∷ rs) =
-      arrived-both (befalls n b r) (moments n (outcome b r .bench) rs)
-      ∙ ap (λ (l : List ℕ). arrivedIn (befalls n b r) ++ l) (all-arrived (outcome b r .bench) rs)
+-- what of a run of moments is told in two parts, told record by record
+module _ {A : Type 0} (join : A → A → A) (told : Side → List Moment → A)
+    (both : (s : Side) (ms ns : List Moment) → told s (ms ++ ns) ≡ join (told s ms) (told (side-run.afterAll s ms) ns))
+    (n : ℕ) (at : Bench → List Record → A) (none : (b : Bench) → told (side (seat b n)) [] ≡ at b [])
+    (more : (b : Bench) (r : Record) (rs : List Record) → join (told (side (seat b n)) (befalls n b r)) (at (outcome b r .bench) rs) ≡ at b (r ∷ rs)) where
+  by-record : (b : Bench) → length (b .seats) ≡ seatCount → (rs : List Record) → told (side (seat b n)) (moments n b rs) ≡ at b rs
+  unfolding moments
+  by-record b all [] = none b
+  by-record b all (r ∷ rs) =
+      both (side (seat b n)) (befalls n b r) (moments n (outcome b r .bench) rs)
+      ∙ ap (join (told (side (seat b n)) (befalls n b r)))
+      (ap (λ (s : Side). told s (moments n (outcome b r .bench) rs)) (sym (seat-side b all n r)) ∙ by-record (outcome b r .bench) (all-kept b r ∙ all) rs)
+      ∙ more b r rs
 
-  -- what of the run is told in two parts, told record by record
-  all-after : (b : Bench) → length (b .seats) ≡ seatCount → (rs : List Record)
-      → side-run.afterAll (side (seat b n)) (moments n b rs) ≡ side (seat (ends outcome b rs) n)
-  unfolding moments side-run.afterAll
-  all-after b all [] = refl
-  all-after b all (r ∷ rs) =
-      after-both (side (seat b n)) (befalls n b r) (moments n (outcome b r .bench) rs)
-      ∙ ap (λ (s : Side). side-run.afterAll s (moments n (outcome b r .bench) rs)) (sym (seat-side b all n r))
-      ∙ all-after (outcome b r .bench) (all-kept b r ∙ all) rs
+module _ (n : ℕ) (b : Bench) (all : length (b .seats) ≡ seatCount) (rs : List Record) where
+  all-arrived : arrivedIn (moments n b rs) ≡ arrivedAt outcome n b rs
+  unfolding arrivedIn
+  all-arrived = by-record _++_ (λ s ms. arrivedIn ms) (λ s ms ns. arrived-both ms ns) n (arrivedAt outcome n) (λ c. refl) (λ c r ss. refl) b all rs
 
-  all-read : (b : Bench) → length (b .seats) ≡ seatCount → (rs : List Record) → readIn (side (seat b n)) (moments n b rs) ≡ readAt outcome n b rs
-  unfolding moments readIn
-  all-read b all [] = refl
-  all-read b all (r ∷ rs) =
-      read-both (side (seat b n)) (befalls n b r) (moments n (outcome b r .bench) rs)
-      ∙ ap₂ _++_ (sym (record-told b n r))
-      (ap (λ (s : Side). readIn s (moments n (outcome b r .bench) rs)) (sym (seat-side b all n r)) ∙ all-read (outcome b r .bench) (all-kept b r ∙ all) rs)
+  all-after : side-run.afterAll (side (seat b n)) (moments n b rs) ≡ side (seat (ends outcome b rs) n)
+  unfolding side-run.afterAll
+  all-after = by-record (λ s t. t) side-run.afterAll after-both n (λ c ss. side (seat (ends outcome c ss) n)) (λ c. refl) (λ c r ss. refl) b all rs
 
-  all-lost : (b : Bench) → length (b .seats) ≡ seatCount → (rs : List Record) → lostIn (side (seat b n)) (moments n b rs) ≡ lostAt outcome n b rs
-  unfolding moments lostIn
-  all-lost b all [] = refl
-  all-lost b all (r ∷ rs) =
-      lost-both (side (seat b n)) (befalls n b r) (moments n (outcome b r .bench) rs)
-      ∙ ap (λ (k : ℕ). lostIn (side (seat b n)) (befalls n b r) + k)
-      (ap (λ (s : Side). lostIn s (moments n (outcome b r .bench) rs)) (sym (seat-side b all n r)) ∙ all-lost (outcome b r .bench) (all-kept b r ∙ all) rs)
+  all-read : readIn (side (seat b n)) (moments n b rs) ≡ readAt outcome n b rs
+  unfolding readIn
+  all-read =
+      by-record _++_ readIn read-both n (readAt outcome n) (λ c. refl)
+      (λ c r ss. ap (λ (l : List ℕ). l ++ readAt outcome n (outcome c r .bench) ss) (sym (record-told c n r))) b all rs
 
-  all-dropped : (b : Bench) → length (b .seats) ≡ seatCount → (rs : List Record) → droppedIn (side (seat b n)) (moments n b rs) ≡ droppedAt outcome n b rs
-  unfolding moments droppedIn
-  all-dropped b all [] = refl
-  all-dropped b all (r ∷ rs) =
-      dropped-both (side (seat b n)) (befalls n b r) (moments n (outcome b r .bench) rs)
-      ∙ ap (λ (k : ℕ). droppedIn (side (seat b n)) (befalls n b r) + k)
-      (ap (λ (s : Side). droppedIn s (moments n (outcome b r .bench) rs)) (sym (seat-side b all n r))
-      ∙ all-dropped (outcome b r .bench) (all-kept b r ∙ all) rs)
+  all-lost : lostIn (side (seat b n)) (moments n b rs) ≡ lostAt outcome n b rs
+  unfolding lostIn
+  all-lost = by-record _+_ lostIn lost-both n (lostAt outcome n) (λ c. refl) (λ c r ss. refl) b all rs
+
+  all-dropped : droppedIn (side (seat b n)) (moments n b rs) ≡ droppedAt outcome n b rs
+  unfolding droppedIn
+  all-dropped = by-record _+_ droppedIn dropped-both n (droppedAt outcome n) (λ c. refl) (λ c r ss. refl) b all rs
 
 pub seat-ledger : SeatLedger
 seat-ledger n b rs all sound =
     let l = ledger (side (seat b n)) (moments n b rs) sound in
-    let come = all-arrived n b rs in
+    let come = all-arrived n b all rs in
     let reads = all-read n b all rs in
     let lost = all-lost n b all rs in
     let drops = all-dropped n b all rs in
@@ -178,7 +169,7 @@ seat-ledger n b rs all sound =
       balanced = omega (arith, l .balanced, ap length come, ap length reads, lost, drops, ap (λ (s : Side). length (queued s)) end);
     }
 
--- every seat at power-up is a seat at power-up, whose queue is empty
+-- the bench at power-up has at every number the seat of power-up, whose queue is empty
 seat-at-power-up : (n : ℕ) → seat powerUp n ≡ one.powerUp
 unfolding seat
 seat-at-power-up n = getD-replicate seatCount (chair n) one.powerUp noSeat (chair-small n)

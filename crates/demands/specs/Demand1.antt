@@ -20,7 +20,7 @@ use Rattle.bench.specs.Refusals.{grounds}
 use Rattle.bench.specs.Seats.{seat}
 use Rattle.bench.specs.Steps.{outcome}
 
--- by an order of numbers, the number stands, and none before it does
+-- the number stands, and none before it in the order does
 abbrev pub Listed : List ℕ → ℕ → List Ground → Type 0
 Listed [] n gs = ⊥
 Listed (m ∷ ms) n gs = ((stands m gs ≡ true) × (n ≡ m)) ⊎ ((stands m gs ≡ false) × Listed ms n gs)
@@ -71,7 +71,7 @@ among n (m ∷ ms) = eqb m n || among n ms
 abbrev pub unlisted : ℕ → ℕ → Bool
 unlisted rate clock = not (ltb clock 3 && among rate (ratesOf clock))
 
--- and so has this call no bench at all; its one number has no other before it
+-- and so has this call no bench at all; its one number makes its order
 abbrev pub Divisors : ℕ → Type 0
 Divisors value = (rate clock : ℕ) → Answered (10 ∷ []) value (record { number = 10; holds = unlisted rate clock } ∷ []) (divisorOf rate clock)
 
@@ -88,8 +88,8 @@ pub record OnlyFFF : Type 0 where
   pub places : (value : ℕ) → Places value → value ≡ 0xFFF
   pub divisors : (value : ℕ) → Divisors value → value ≡ 0xFFF
 
--- the demand leaves nothing of a refusal open: by one order and one list of grounds two answers that it lets through have one number, and from one bench two
--- outcomes that it calls unchanged have one bench and one output
+-- the demand leaves nothing of a refusal open: by one order and one list of grounds two answers that it lets through have one number, and from
+-- one bench two outcomes that it calls unchanged have one bench and one output
 pub record OneRefusal : Type 0 where
   pub number : (order : List ℕ) (value : ℕ) (gs : List Ground) (a b : Answer) → Answered order value gs a → Answered order value gs b
       → refusalOf a ≡ refusalOf b

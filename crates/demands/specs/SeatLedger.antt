@@ -56,8 +56,8 @@ abbrev pub Balanced : (Step → ℕ → Bench → List Record → ℕ) → Step 
 Balanced gone f n b rs =
     length (arrivedAt f n b rs) + length (queuedAt n b) ≡ length (readAt f n b rs) + gone f n b rs + length (queuedAt n (ends f b rs))
 
--- from any bench with all its seats on, where the receive side of seat n is sound: what is read, and then what still waits, came in that order; and
--- every character is accounted for
+-- from any bench with all its seats on, where the receive side of seat n is sound: what is read, and then what still waits, came in that order;
+-- and every character is accounted for
 pub record Kept (f : Step) (n : ℕ) (b : Bench) (rs : List Record) : Type 0 where
   pub in-order : Subsequence (readAt f n b rs ++ queuedAt n (ends f b rs)) (queuedAt n b ++ arrivedAt f n b rs)
   pub balanced : Balanced goneAt f n b rs
