@@ -55,7 +55,7 @@ is-met b r none = outcome-dealt b r ∙ ap (dealt b) (pick-true _ _ _ (ap (λ (x
 
 module _ (b : Bench) where
   -- the answer of a seat event is the seat's
-  seat-answer : (n : ℕ) (e : SeatEvent) → met b (OfSeat n e) .answer ≡ stepped (seat b n) e .answer
+  pub seat-answer : (n : ℕ) (e : SeatEvent) → met b (OfSeat n e) .answer ≡ stepped (seat b n) e .answer
   unfolding met roomRefusal roomGrounds seat-step.refusal answerTo stepped
   seat-answer n e =
       pick-through (λ (o : Outcome). o .answer) (eqb (seat-step.refusal (seat b n) e) 0) _ _

@@ -120,7 +120,7 @@ seat-by-seats : (a b : Bench) (n : ℕ) → a .seats ≡ b .seats → seat a n �
 unfolding seat
 seat-by-seats a b n e = ap (λ l. getD l (chair n) noSeat) e
 
-seat-by-chair : (b : Bench) (m n : ℕ) → chair m ≡ chair n → seat b m ≡ seat b n
+pub seat-by-chair : (b : Bench) (m n : ℕ) → chair m ≡ chair n → seat b m ≡ seat b n
 unfolding seat
 seat-by-chair b m n e = ap (λ (k : ℕ). getD (b .seats) k noSeat) e
 

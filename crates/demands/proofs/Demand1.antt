@@ -1,17 +1,18 @@
 -- Demand 1 holds, and with no other value than FFF.
 use Prim.Native.Nat.{ℕ, suc, _<_, _≤_}
-use mathlib.Core.Bool.{Bool, true, false, not, _&&_, _||_}
+use mathlib.Core.Bool.{Bool, true, false, not, _&&_, _||_, or-true, and-false}
 use mathlib.Core.List.{List, [], _∷_, List·Memᴰ, List·Memᴰ·head, List·Memᴰ·tail, List·Memᴰ·cases-cons, List·Memᴰ·not-nil}
 use mathlib.Core.Path.{_≡_, refl, ap, ap₂, sym, subst, _∙_}
 use mathlib.Core.Logic.{inl, inr, ⊎-elim}
 use native.Mathlib.Omega.{arith}
 use lib.Dec.{eqb, ltb}
 use borrow.Author.Tests.{eqb-true, eqb-false, eq-eqb, ltb-true, ltb-false, lt-ltb}
-use Rattle.base.specs.PickLaws.{pick-true, pick-false, either-way, not-both}
+use Rattle.base.specs.PickLaws.{pick-true, pick-false, either-way, not-both, both-hold, not-true}
 use Rattle.base.specs.declared.Answer.{Answer}
 use Rattle.base.specs.declared.Answer.the-variants as answer
 use Rattle.base.specs.Answers.{refusalOf, valueOf}
-use Rattle.base.specs.Refusals.{Ground, firstHeld}
+use Rattle.base.specs.Refusals.{Ground, refusalOrder, stands, firstOf, refusalBy}
+use Rattle.base.specs.RefusalLaws.{noneHolds, none-given}
 use Rattle.rates.specs.Rates as list
 use Rattle.rates.specs.Rates.{ratesOf}
 use Rattle.rates.specs.RatesLaws as rates
@@ -21,48 +22,33 @@ use Rattle.bench.specs.declared.Bench.{Bench}
 use Rattle.bench.specs.declared.Outcome.{Outcome}
 use Rattle.bench.specs.Events.{Record, whole}
 use Rattle.bench.specs.Refusals.{grounds, refusal}
+use Rattle.bench.specs.RefusalLaws.{in-turn}
 use Rattle.bench.specs.Seats.{seat, powerUp}
 use Rattle.bench.specs.Steps.{outcome}
 use Rattle.bench.specs.OutcomeLaws.{outcome-refused, outcome-number}
-use Rattle.demands.specs.Demand1.{NoneHolds, Listed, Refused, Accepted, Answered, Unchanged, Events, Places, among, Divisors, Demand1, OnlyFFF, OneRefusal}
+use Rattle.demands.specs.Demand1.{Listed, Refused, Accepted, Answered, Unchanged, Events, Places, among, Divisors, Demand1, OnlyFFF, OneRefusal}
 use Rattle.demands.proofs.Opened.{laid-open}
 
--- every number of the list is above 0
-abbrev Numbered : List Ground → Type 0
-Numbered [] = Unit
-Numbered (g ∷ gs) = (g .number ≡ 0 → ⊥) × Numbered gs
-
--- the first that holds is listed; where the number is 0 none holds
-none-holds : (gs : List Ground) → Numbered gs → firstHeld gs ≡ 0 → NoneHolds gs
-unfolding firstHeld
-none-holds [] above e = tt
-none-holds (g ∷ gs) above e =
+-- the number that is given is listed, where there is one
+first-listed : (order : List ℕ) (gs : List Ground) → (firstOf order gs ≡ 0 → ⊥) → Listed order (firstOf order gs) gs
+unfolding firstOf
+first-listed [] gs some = some refl
+first-listed (n ∷ order) gs some =
     ⊎-elim
-    (λ (h : g .holds ≡ true). absurd (above .0 (sym (pick-true _ _ _ h) ∙ e)))
-    (λ (h : g .holds ≡ false). (h, none-holds gs (above .1) (sym (pick-false _ _ _ h) ∙ e)))
-    (either-way (g .holds))
-
-first-listed : (gs : List Ground) → (firstHeld gs ≡ 0 → ⊥) → Listed (firstHeld gs) gs
-unfolding firstHeld
-first-listed [] some = some refl
-first-listed (g ∷ gs) some =
-    ⊎-elim
-    (λ (h : g .holds ≡ true). inl (h, pick-true _ _ _ h))
-    (λ (h : g .holds ≡ false). inr (h, subst (λ (n : ℕ). Listed n gs) (sym (pick-false _ _ _ h)) (first-listed gs (λ z. some (pick-false _ _ _ h ∙ z)))))
-    (either-way (g .holds))
-
-numbered : (b : Bench) (r : Record) → Numbered (grounds b r)
-unfolding grounds
-numbered b r = (λ z. omega arith, (λ z. omega arith, (λ z. omega arith, (λ z. omega arith, (λ z. omega arith, (λ z. omega arith, (λ z. omega arith, (λ z. omega arith, (λ z. omega arith, tt)))))))))
+    (λ (h : stands n gs ≡ true). inl (h, pick-true _ _ _ h))
+    (λ (h : stands n gs ≡ false).
+    let later = pick-false (stands n gs) n (firstOf order gs) h in
+    inr (h, subst (λ (k : ℕ). Listed order k gs) (sym later) (first-listed order gs (λ z. some (later ∙ z)))))
+    (either-way (stands n gs))
 
 -- ---- events
 
 module _ (b : Bench) (r : Record) where
-  refused : (refusal b r ≡ 0 → ⊥) → Refused 0xFFF (grounds b r) (outcome b r .answer)
-  unfolding refusal valueOf
+  refused : (refusal b r ≡ 0 → ⊥) → Refused refusalOrder 0xFFF (grounds b r) (outcome b r .answer)
+  unfolding refusal refusalBy valueOf
   refused some =
       record {
-        listed = subst (λ (n : ℕ). Listed n (grounds b r)) (sym (outcome-number b r)) (first-listed (grounds b r) some);
+        listed = subst (λ (n : ℕ). Listed refusalOrder n (grounds b r)) (sym (outcome-number b r)) (first-listed refusalOrder (grounds b r) some);
         told = ap (λ (o : Outcome). valueOf (o .answer)) (outcome-refused b r some);
       }
 
@@ -78,7 +64,7 @@ module _ (b : Bench) (r : Record) where
 
   accepted : refusal b r ≡ 0 → Accepted (grounds b r) (outcome b r .answer)
   unfolding refusal
-  accepted none = record { number = outcome-number b r ∙ none; none = none-holds (grounds b r) (numbered b r) none }
+  accepted none = record { number = outcome-number b r ∙ none; none = sym (none-given (grounds b r) (in-turn b r)) ∙ eq-eqb _ _ none }
 
 events : Events 0xFFF
 events b [] = tt
@@ -92,19 +78,19 @@ events b (r ∷ rs) = (
 -- ---- the place in turn and the divisor list, each of one ground
 
 -- an answer with no number where the ground does not hold
-free : (k : ℕ) (h : Bool) (a : Answer) → h ≡ false → refusalOf a ≡ 0 → Answered 0xFFF (record { number = k; holds = h } ∷ []) a
-free k h a none e = inl (record { number = e; none = (none, tt) })
+free : (order : List ℕ) (k : ℕ) (h : Bool) (a : Answer) → h ≡ false → refusalOf a ≡ 0 → Answered order 0xFFF (record { number = k; holds = h } ∷ []) a
+free order k h a none e = inl (record { number = e; none = ap (λ (x : Bool). not x && true) none })
 
--- a refusal by its number where it does
-held : (k : ℕ) (h : Bool) (a : Answer) → h ≡ true → a ≡ answer.Refused k → Answered 0xFFF (record { number = k; holds = h } ∷ []) a
+-- a refusal by its number where it does, which is then listed
+held : (order : List ℕ) (k : ℕ) (gs : List Ground) (a : Answer) → Listed order k gs → a ≡ answer.Refused k → Answered order 0xFFF gs a
 unfolding refusalOf valueOf
-held k h a some e = inr (record { listed = inl (some, ap refusalOf e); told = ap valueOf e })
+held order k gs a listed e = inr (record { listed = subst (λ (n : ℕ). Listed order n gs) (sym (ap refusalOf e)) listed; told = ap valueOf e })
 
 places : Places 0xFFF
 unfolding refusalOf
 places b n =
-    ⊎-elim (λ (above : lineAbove n ≡ true). held 1 _ _ above (place-refused (b .controller) n (ltb-true 7 n above)))
-    (λ (small : lineAbove n ≡ false). free 1 _ _ small (ap refusalOf (place-told (b .controller) n (below n (ltb-false 7 n small)))))
+    ⊎-elim (λ (above : lineAbove n ≡ true). held refusalOrder 1 _ _ (inr (refl, inr (refl, inl (above, refl)))) (place-refused (b .controller) n (ltb-true 7 n above)))
+    (λ (small : lineAbove n ≡ false). free refusalOrder 1 _ _ small (ap refusalOf (place-told (b .controller) n (below n (ltb-false 7 n small)))))
     (either-way (lineAbove n))
   where
     below : (n : ℕ) → n ≤ 7 → n < 8
@@ -120,27 +106,19 @@ among-listed : (n : ℕ) (ms : List ℕ) → List·Memᴰ n ms → among n ms �
 among-listed n [] l = absurd (List·Memᴰ·not-nil l)
 among-listed n (m ∷ ms) l =
     ⊎-elim (λ (e : n ≡ m). rw (eq-eqb m n (sym e))) (λ rest. ap (λ (x : Bool). eqb m n || x) (among-listed n ms rest) ∙ or-true (eqb m n)) (List·Memᴰ·cases-cons l)
-  where
-    or-true : (x : Bool) → (x || true) ≡ true
-    or-true true = refl
-    or-true false = refl
 
 divisors : Divisors 0xFFF
 unfolding refusalOf
 divisors rate clock =
     ⊎-elim
     (λ (in-list : (ltb clock 3 && among rate (ratesOf clock)) ≡ true).
-    let k = both (ltb clock 3) _ in-list in
-    free 10 _ _ (ap not in-list) (ap refusalOf (rates.accepted rate clock (ltb-true clock 3 (k .0), listed-among rate (ratesOf clock) (k .1)) .1)))
+    let k = both-hold (ltb clock 3) _ in-list in
+    free (10 ∷ []) 10 _ _ (ap not in-list) (ap refusalOf (rates.accepted rate clock (ltb-true clock 3 (k .0), listed-among rate (ratesOf clock) (k .1)) .1)))
     (λ (out : (ltb clock 3 && among rate (ratesOf clock)) ≡ false).
-    held 10 _ _ (ap not out)
+    held (10 ∷ []) 10 _ _ (inl (ap not out, refl))
     (rates.refused rate clock
     (λ l. not-both (ap₂ _&&_ (lt-ltb clock 3 (l .0)) (among-listed rate (ratesOf clock) (l .1))) out)))
     (either-way (ltb clock 3 && among rate (ratesOf clock)))
-  where
-    both : (x y : Bool) → (x && y) ≡ true → (x ≡ true) × (y ≡ true)
-    both true y e = (refl, e)
-    both false y e = absurd (not-both e refl)
 
 pub demand-1 : Demand1
 demand-1 = record { events = events; places = places; divisors = divisors }
@@ -151,9 +129,9 @@ no-kind : Record
 no-kind = whole 9 0 0 0
 
 -- where the number is not 0 the answer is a refusal
-a-refusal : (value : ℕ) (gs : List Ground) (a : Answer) → (refusalOf a ≡ 0 → ⊥) → Answered value gs a → valueOf a ≡ value
-a-refusal value gs a some (inl x) = absurd (some (x .number))
-a-refusal value gs a some (inr x) = x .told
+a-refusal : (order : List ℕ) (value : ℕ) (gs : List Ground) (a : Answer) → (refusalOf a ≡ 0 → ⊥) → Answered order value gs a → valueOf a ≡ value
+a-refusal order value gs a some (inl x) = absurd (some (x .number))
+a-refusal order value gs a some (inr x) = x .told
 
 pub only-fff : OnlyFFF
 unfolding laid-open no-kind list.divisorOf list.look list.ratesOf list.divisorsOf list.everywhere
@@ -161,8 +139,8 @@ only-fff =
     record {
       events = λ value e.
           ⊎-elim (λ x. absurd (above 2 (x .number))) (λ x. sym (x .0 .told)) (e powerUp (no-kind ∷ []) .0);
-      places = λ value p. sym (a-refusal value _ _ (above 0) (p powerUp 8));
-      divisors = λ value d. sym (a-refusal value _ _ (above 9) (d 0 3));
+      places = λ value p. sym (a-refusal _ value _ _ (above 0) (p powerUp 8));
+      divisors = λ value d. sym (a-refusal _ value _ _ (above 9) (d 0 3));
     }
   where
     above : (n : ℕ) → suc n ≡ 0 → ⊥
@@ -170,23 +148,31 @@ only-fff =
 
 -- ---- one refusal
 
-listed-once : (gs : List Ground) (n m : ℕ) → Listed n gs → Listed m gs → n ≡ m
-listed-once [] n m l k = absurd l
-listed-once (g ∷ gs) n m (inl p) (inl q) = p .1 ∙ sym (q .1)
-listed-once (g ∷ gs) n m (inl p) (inr q) = absurd (not-both (p .0) (q .0))
-listed-once (g ∷ gs) n m (inr p) (inl q) = absurd (not-both (q .0) (p .0))
-listed-once (g ∷ gs) n m (inr p) (inr q) = listed-once gs n m (p .1) (q .1)
+listed-once : (order : List ℕ) (gs : List Ground) (n m : ℕ) → Listed order n gs → Listed order m gs → n ≡ m
+listed-once [] gs n m l k = absurd l
+listed-once (o ∷ order) gs n m (inl p) (inl q) = p .1 ∙ sym (q .1)
+listed-once (o ∷ order) gs n m (inl p) (inr q) = absurd (not-both (p .0) (q .0))
+listed-once (o ∷ order) gs n m (inr p) (inl q) = absurd (not-both (q .0) (p .0))
+listed-once (o ∷ order) gs n m (inr p) (inr q) = listed-once order gs n m (p .1) (q .1)
 
-listed-none : (gs : List Ground) (n : ℕ) → Listed n gs → NoneHolds gs → ⊥
-listed-none [] n l none = l
-listed-none (g ∷ gs) n (inl p) none = not-both (p .0) (none .0)
-listed-none (g ∷ gs) n (inr p) none = listed-none gs n (p .1) (none .1)
+-- where no ground holds no number stands, and so none is listed
+stands-not : (n : ℕ) (gs : List Ground) → noneHolds gs ≡ true → stands n gs ≡ false
+stands-not n [] none = refl
+stands-not n (g ∷ gs) none =
+    let two = both-hold (not (g .holds)) (noneHolds gs) none in
+    ap₂ (λ (x y : Bool). x || eqb (g .number) n && y) (stands-not n gs (two .1)) (not-true (g .holds) (two .0)) ∙ and-false (eqb (g .number) n)
 
-one-number : (value : ℕ) (gs : List Ground) (a b : Answer) → Answered value gs a → Answered value gs b → refusalOf a ≡ refusalOf b
-one-number value gs a b (inl x) (inl y) = x .number ∙ sym (y .number)
-one-number value gs a b (inl x) (inr y) = absurd (listed-none gs (refusalOf b) (y .listed) (x .none))
-one-number value gs a b (inr x) (inl y) = absurd (listed-none gs (refusalOf a) (x .listed) (y .none))
-one-number value gs a b (inr x) (inr y) = listed-once gs (refusalOf a) (refusalOf b) (x .listed) (y .listed)
+listed-none : (order : List ℕ) (gs : List Ground) (n : ℕ) → Listed order n gs → noneHolds gs ≡ true → ⊥
+listed-none [] gs n l none = l
+listed-none (o ∷ order) gs n (inl p) none = not-both (p .0) (stands-not o gs none)
+listed-none (o ∷ order) gs n (inr p) none = listed-none order gs n (p .1) none
+
+module _ (order : List ℕ) (value : ℕ) (gs : List Ground) (a b : Answer) where
+  one-number : Answered order value gs a → Answered order value gs b → refusalOf a ≡ refusalOf b
+  one-number (inl x) (inl y) = x .number ∙ sym (y .number)
+  one-number (inl x) (inr y) = absurd (listed-none order gs (refusalOf b) (y .listed) (x .none))
+  one-number (inr x) (inl y) = absurd (listed-none order gs (refusalOf a) (x .listed) (y .none))
+  one-number (inr x) (inr y) = listed-once order gs (refusalOf a) (refusalOf b) (x .listed) (y .listed)
 
 pub one-refusal : OneRefusal
 one-refusal = record { number = one-number; bench = λ b o p u v. (u .whole ∙ sym (v .whole), u .output ∙ sym (v .output)) }

@@ -7,11 +7,13 @@ use mathlib.Core.Logic.{_⊎_, inl, inr, ⊎-elim}
 use native.Mathlib.Omega.{arith}
 use lib.Dec.{eqb}
 use Rattle.base.specs.Pick.{pick}
+use Rattle.base.specs.Refusals.{firstOf, refusalBy}
 use Rattle.base.specs.BitLaws.{bit-bits}
 use Rattle.base.specs.declared.Answer.{Answer}
 use Rattle.base.specs.declared.Answer.the-variants as answer
 use Rattle.rank.specs.Sets.{has}
-use Rattle.channel.specs.declared.SeatEvent.{SeatEvent}
+use Rattle.registers.specs.declared.SeatEvent.{SeatEvent}
+use Rattle.seat.specs.Seats.{noSeat, line}
 use Rattle.controller.specs.Signals.{Signal, levels, read, write, acknowledge}
 use Rattle.controller.specs.Turns.{settled}
 use Rattle.controller.specs.Steps.{step}
@@ -29,7 +31,8 @@ use Rattle.bench.specs.declared.Event.the-variants.{OfSeat, MasterReset, ReadCo
 use Rattle.bench.specs.declared.Decoded.{Decoded}
 use Rattle.bench.specs.declared.Decoded.the-variants.{Taken, Refused}
 use Rattle.bench.specs.Events.{Record, decoded}
-use Rattle.bench.specs.Seats.{noSeat, chair, seat, seatLine, lines, powerUp}
+use Rattle.bench.specs.Seats.{chair, seat, lines, powerUp}
+use Rattle.bench.specs.Refusals.{roomGrounds}
 use Rattle.bench.specs.Runs.{afterAll}
 use Rattle.bench.specs.Steps.{roomRefusal, after, answerTo, shown, met, outcome, dealt}
 use Rattle.bench.specs.MeetLaws.{outcome-dealt, write-met, acknowledge-met, read-met}
@@ -114,7 +117,7 @@ module _ (b : Bench) (n : ℕ) where
       (still-agrees (Taken (OfSeat m e)) (answer.Refused (roomRefusal b (OfSeat m e))) refl (λ owed. refl))
 
   reset-met : shown (after b MasterReset) (answerTo b MasterReset) ≡ met b MasterReset
-  unfolding met roomRefusal pick
+  unfolding met roomRefusal roomGrounds refusalBy firstOf pick
   reset-met = refl
 
   reset-agrees : Agrees b n (Taken MasterReset) (met b MasterReset) (moved b MasterReset)
@@ -165,11 +168,11 @@ module _ (b : Bench) (n : ℕ) where
 
 -- ---- the line of a seat is the level of the controller's line
 
-line-high : (b : Bench) (n : ℕ) → Wired b → seatLine (seat b n) ≡ true → has (b .controller .lines .levels) n ≡ true
+line-high : (b : Bench) (n : ℕ) → Wired b → line (seat b n) ≡ true → has (b .controller .lines .levels) n ≡ true
 unfolding lines seat
 line-high b n w high =
     ap (λ (l : ℕ). has l n) (w .levels) ∙ bit-bits (chair n) _
-    ∙ mapped-at seatLine (b .seats) (chair n) noSeat false (subst (λ (k : ℕ). chair n < k) (sym (w .eight)) (chair-small n)) ∙ high
+    ∙ mapped-at line (b .seats) (chair n) noSeat false (subst (λ (k : ℕ). chair n < k) (sym (w .all)) (chair-small n)) ∙ high
 
 -- ---- a run of records
 

@@ -4,7 +4,7 @@ use denote.Ref.{now}
 use Rattle.listing.specs.PartLaws.{runs-one}
 use Rattle.lesson.specs.Lesson.{handedOut}
 use Rattle.lesson.specs.declared.Lesson.{Lesson}
-use Rattle.demands.specs.OnceCalls.{BaseOnce, QueueOnce, RatesOnce, RegistersOnce, ReceiverOnce, TransmitterOnce, ChannelOnce, LendingOnce, RankOnce}
+use Rattle.demands.specs.OnceCalls.{BaseOnce, QueueOnce, RatesOnce, RegistersOnce, ReceiverOnce, TransmitterOnce, ChannelOnce, LendingOnce, SeatOnce, RankOnce}
 use Rattle.demands.specs.OnceCalls.{ControllerOnce, BenchOnce, ListingOnce, LessonOnce, StreamsOnce, EmbedOnce}
 use Rattle.demands.proofs.Once.{told, unasked, value}
 
@@ -50,11 +50,10 @@ registers-once M =
       registers·Settings·register = value _ refl (λ κ a v w. refl);
       registers·Settings·changes-mode = value _ refl (λ κ a v w. refl);
       registers·Settings·write = value _ refl (λ κ a v w. refl);
-      registers·Settings·no-divisor = value _ refl (λ κ a v w. refl);
       registers·Settings·cut = value _ refl (λ κ a v w. refl);
       registers·changes-after = value _ refl (λ κ a v w. refl);
       registers·modem-status = value _ refl (λ κ a v w. refl);
-      registers·Settings·is-bad-arrival = value _ refl (λ κ a v w. refl);
+      registers·Settings·refusal = value _ refl (λ κ a v w. refl);
     }
 
 pub receiver-once : (M : Type 1) → ReceiverOnce M
@@ -93,12 +92,7 @@ channel-once M =
       channel·Channel·power-up = value _ refl (λ κ a v w. refl);
       channel·Channel·master-reset = value _ refl (λ κ a v w. refl);
       channel·Channel·step = value _ refl (λ κ a v w. refl);
-      channel·Channel·read = value _ refl (λ κ a v w. refl);
       channel·Channel·line = value _ refl (λ κ a v w. refl);
-      channel·Channel·arrive = value _ refl (λ κ a v w. refl);
-      channel·Channel·modem-inputs = value _ refl (λ κ a v w. refl);
-      channel·Channel·character-time = value _ refl (λ κ a v w. refl);
-      channel·Channel·write = value _ refl (λ κ a v w. refl);
     }
 
 pub lending-once : (M : Type 1) → LendingOnce M
@@ -106,6 +100,15 @@ lending-once M =
     record {
       lending·touch = told _ refl (λ κ a r s v w p q. (p .1 ∙ sym (q .1), λ i. ((p .0 ∙ sym (q .0)) i, (tt, tt))));
       lending·lent = value _ refl (λ κ a v w. refl);
+    }
+
+pub seat-once : (M : Type 1) → SeatOnce M
+seat-once M =
+    record {
+      seat·Seat·power-up = value _ refl (λ κ a v w. refl);
+      seat·Seat·reset = value _ refl (λ κ a v w. refl);
+      seat·Seat·line = value _ refl (λ κ a v w. refl);
+      seat·Seat·step = value _ refl (λ κ a v w. refl);
     }
 
 pub rank-once : (M : Type 1) → RankOnce M
@@ -139,9 +142,13 @@ bench-once M =
       bench·Decoded·decode = value _ refl (λ κ a v w. refl);
       bench·Decoded·decode-short = value _ refl (λ κ a v w. refl);
       bench·Decoded·refusal = value _ refl (λ κ a v w. refl);
+      bench·chair = value _ refl (λ κ a v w. refl);
+      bench·step-parts = value _ refl (λ κ a v w. refl);
+      bench·short-parts = value _ refl (λ κ a v w. refl);
       bench·Bench·power-up = value _ refl (λ κ a v w. refl);
       bench·Bench·step = value _ refl (λ κ a v w. refl);
       bench·Bench·step-short = value _ refl (λ κ a v w. refl);
+      bench·Bench·reset = value _ refl (λ κ a v w. refl);
       bench·Bench·place = value _ refl (λ κ a v w. refl);
       bench·Bench·output = value _ refl (λ κ a v w. refl);
     }

@@ -15,7 +15,7 @@ use borrow.Fn.World.{w₀}
 use lib.ListN.{length}
 use Rattle.bench.specs.declared.Bench.{Bench}
 use Rattle.bench.specs.Events.{whole}
-use Rattle.bench.specs.Seats.{powerUp}
+use Rattle.bench.specs.Seats.{seatCount, powerUp}
 use Rattle.bench.specs.Steps.{outcome}
 use Rattle.embed.specs.Word.{wordOf}
 use Rattle.embed.proofs as embed
@@ -56,7 +56,7 @@ pub power-up-left-open : OnceSaid embed.hailstoat_power_up.ended power-up-is-pow
 power-up-left-open =
     second embed.hailstoat_power_up.ended power-up-is-power-up ([], tt) (record { ptr = (0, 0); name = 0; now = powerUp }, tt) tt tt
     (powerUp, tt) (no-seats, tt) refl refl
-    (λ same. let seats : 8 ≡ 0 = ap (λ (v : _). length (v .0 .seats)) (same .1) in omega arith)
+    (λ same. let seats : seatCount ≡ 0 = ap (λ (v : _). length (v .0 .seats)) (same .1) in omega arith)
 
 -- an event for C, if it told the right word and said nothing of the lent bench
 abbrev word-alone : Fact embed.hailstoat_event.ended
@@ -67,7 +67,7 @@ pub event-left-open : OnceSaid embed.hailstoat_event.ended word-alone → ⊥
 event-left-open =
     second embed.hailstoat_event.ended word-alone ([], tt) (record { ptr = (0, 0); name = 0; now = powerUp }, (0, (0, (0, (0, tt))))) _ _
     (powerUp, (tt, (tt, (tt, (tt, tt))))) (no-seats, (tt, (tt, (tt, (tt, tt))))) refl refl
-    (λ same. let seats : 8 ≡ 0 = ap (λ (v : _). length (v .0 .seats)) (same .1) in omega arith)
+    (λ same. let seats : seatCount ≡ 0 = ap (λ (v : _). length (v .0 .seats)) (same .1) in omega arith)
 
 -- the divisor, if it were told only to those who name a clock of the list
 abbrev clocks-only : Written Model rates.divisor.ended

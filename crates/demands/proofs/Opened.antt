@@ -6,10 +6,12 @@ use Rattle.transmitter.specs.Transmitter as sender
 use Rattle.registers.specs.Registers as registers
 use Rattle.registers.specs.Words as words
 use Rattle.registers.specs.Modem as modem
+use Rattle.registers.specs.Refusals as refusing
 use Rattle.channel.specs.Parts as parts
 use Rattle.channel.specs.Status as status
 use Rattle.channel.specs.Effects as effects
 use Rattle.channel.specs.Steps as channel
+use Rattle.seat.specs.Steps as seat
 use Rattle.bench.specs.Events as events
 use Rattle.bench.specs.Seats as seats
 use Rattle.bench.specs.Refusals as refused
@@ -35,6 +37,7 @@ of-transmitter = 0
 
 unfoldable pub of-registers : ℕ
 unfolding parts.masterReset words.trigger words.cut registers.plainRegister registers.registerAt registers.fcrKept modem.changesAfter modem.msrOf words.badArrival
+    refusing.grounds refusing.refusal
 of-registers = 0
 
 unfoldable pub of-status : ℕ
@@ -46,14 +49,13 @@ unfolding effects.iirRead effects.lsrRead effects.msrRead effects.byteAt effects
     effects.fcrTransmitter effects.fcrWritten effects.afterWrite effects.afterArrival effects.afterLevels effects.afterTime effects.timeAnswer
 of-effects = 0
 
-unfoldable pub of-channel : ℕ
-unfolding channel.registerAbove channel.noDivisor channel.arrivalWrong channel.levelsAbove channel.loopAsked
-    channel.grounds channel.refusal channel.effect channel.stepped
-of-channel = 0
+unfoldable pub of-steps : ℕ
+unfolding channel.effect channel.stepped seat.refusal seat.effect seat.stepped
+of-steps = 0
 
 unfoldable pub of-bench : ℕ
-unfolding events.early events.eventOf events.decoded events.refusedNumber seats.seat seats.withSeat seats.lines seats.withLine refused.grounds
-    refused.refusal bench.after bench.answerTo bench.outcome bench.roomRefusal bench.met bench.touched bench.dealt
+unfolding events.early events.eventOf events.decoded events.refusedNumber seats.seat seats.withSeat seats.lines seats.withLine
+    refused.roomGrounds refused.grounds refused.refusal bench.after bench.answerTo bench.outcome bench.roomRefusal bench.met bench.dealt
 of-bench = 0
 
 unfoldable pub of-moments : ℕ
@@ -65,7 +67,7 @@ unfolding ledger.after ledger.arrivedIn ledger.lostIn ledger.droppedIn
 of-ledger = 0
 
 unfoldable pub of-seat : ℕ
-unfolding of-queue of-receiver of-transmitter of-registers of-status of-effects of-channel
+unfolding of-queue of-receiver of-transmitter of-registers of-status of-effects of-steps
 of-seat = 0
 
 unfoldable pub laid-open : ℕ

@@ -19,7 +19,7 @@ use Rattle.receiver.specs.Ledger as ledger
 use Rattle.bench.specs.declared.Bench.{Bench}
 use Rattle.bench.specs.declared.Outcome.{Outcome}
 use Rattle.bench.specs.Events.{Record, whole, decoded}
-use Rattle.bench.specs.Seats.{powerUp, seat}
+use Rattle.bench.specs.Seats.{seatCount, powerUp}
 use Rattle.bench.specs.Steps.{outcome}
 use Rattle.bench.specs.Runs.{afterAll}
 use Rattle.bench.specs.RunLaws.{after-parts}
@@ -41,9 +41,9 @@ writes byte = whole 1 0 7 byte
 reads : Record
 reads = whole 0 0 7 0
 
--- what it holds
+-- what it holds, as the next read of it tells
 scratch : Outcome → ℕ
-scratch o = seat (o .bench) 0 .channel .settings .scratch
+scratch o = valueOf (outcome (o .bench) reads .answer)
 
 -- ---- steps
 
@@ -62,18 +62,18 @@ fixed-answer a f m =
     one-is-not 0x5F (sym (ap value (met (fixed a f) m powerUp (whole 0 0 5 0))) ∙ ap value (met (fixed a f) m powerUp reads))
 
 ignores-events : (f : Step) → Meets (ignoring f) → ⊥
-unfolding laid-open writes scratch
+unfolding laid-open writes reads scratch
 ignores-events f m = one-is-not 0 (sym (ap scratch (met (ignoring f) m powerUp (writes 1))))
 
 -- a read of the scratch register, and a character waits that never came
 count : ℕ → Outcome → ℕ
-count n o = seat (o .bench) n .channel .receiver .queue .count
+count n o = length (queuedAt n (o .bench))
 
-invents-a-count : (n : ℕ) → n < 8 → Meets (inventing n) → ⊥
+invents-a-count : (n : ℕ) → n < seatCount → Meets (inventing n) → ⊥
 unfolding laid-open reads count
 invents-a-count n small m =
-    let one = equal-at 8 (λ k. count k (inventing k powerUp reads)) (λ k. 1) tt n small in
-    let none = equal-at 8 (λ k. count k (outcome powerUp reads)) (λ k. 0) tt n small in
+    let one = equal-at seatCount (λ k. count k (inventing k powerUp reads)) (λ k. 1) tt n small in
+    let none = equal-at seatCount (λ k. count k (outcome powerUp reads)) (λ k. 0) tt n small in
     one-is-not 0 (sym one ∙ ap (count n) (met (inventing n) m powerUp reads) ∙ none)
 
 came : ℕ → ℕ
@@ -84,11 +84,11 @@ became n =
     length (readAt (inventing n) n powerUp (reads ∷ [])) + goneAt (inventing n) n powerUp (reads ∷ [])
     + length (queuedAt n (ends (inventing n) powerUp (reads ∷ [])))
 
-breaks-the-ledger : (n : ℕ) → n < 8 → Keeps (inventing n) → ⊥
+breaks-the-ledger : (n : ℕ) → n < seatCount → Keeps (inventing n) → ⊥
 unfolding laid-open came became reads
 breaks-the-ledger n small k =
-    let none = equal-at 8 came (λ j. 0) tt n small in
-    let one = equal-at 8 became (λ j. 1) tt n small in
+    let none = equal-at seatCount came (λ j. 0) tt n small in
+    let one = equal-at seatCount became (λ j. 1) tt n small in
     one-is-not 0 (sym one ∙ sym (k n powerUp (reads ∷ []) refl (sound-at n) .balanced) ∙ none)
 
 -- what is in the first list is in the second
@@ -125,7 +125,7 @@ breaks-the-order a k = one-is-not 0 (omega (arith, reads-41 a k, reads-42 a k))
 
 -- two writes: the second is not in the bench
 pretends : (says : List Record → Record → Answer) (raises : List Record → Record → Bool) → MeetsFrom (pretending says raises) → ⊥
-unfolding laid-open writes scratch
+unfolding laid-open writes reads scratch
 pretends says raises m =
     let e = step-says (afterAll powerUp (writes 2 ∷ [])) (writes 1) (pretending says raises (writes 2 ∷ []) (writes 1)) .0 (m (writes 2 ∷ []) (writes 1)) in
     let f : _≡_ {A = ℕ} 2 1 = ap scratch e in

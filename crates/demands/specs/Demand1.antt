@@ -7,7 +7,8 @@ use mathlib.Core.Logic.{_⊎_}
 use lib.Dec.{eqb, ltb}
 use Rattle.base.specs.declared.Answer.{Answer}
 use Rattle.base.specs.Answers.{refusalOf, valueOf}
-use Rattle.base.specs.Refusals.{Ground}
+use Rattle.base.specs.Refusals.{Ground, refusalOrder, stands}
+use Rattle.base.specs.RefusalLaws.{noneHolds}
 use Rattle.rates.specs.Rates.{ratesOf, divisorOf}
 use Rattle.controller.specs.Refusals.{lineAbove}
 use Rattle.controller.specs.Steps.{placed}
@@ -19,29 +20,24 @@ use Rattle.bench.specs.Refusals.{grounds}
 use Rattle.bench.specs.Seats.{seat}
 use Rattle.bench.specs.Steps.{outcome}
 
--- no ground of the list holds
-abbrev pub NoneHolds : List Ground → Type 0
-NoneHolds [] = Unit
-NoneHolds (g ∷ gs) = (g .holds ≡ false) × NoneHolds gs
-
--- the number is that of a ground that holds, and none before it in the order does
-abbrev pub Listed : ℕ → List Ground → Type 0
-Listed n [] = ⊥
-Listed n (g ∷ gs) = ((g .holds ≡ true) × (n ≡ g .number)) ⊎ ((g .holds ≡ false) × Listed n gs)
+-- the number stands, and none before it in the order does
+abbrev pub Listed : List ℕ → ℕ → List Ground → Type 0
+Listed [] n gs = ⊥
+Listed (m ∷ ms) n gs = ((stands m gs ≡ true) × (n ≡ m)) ⊎ ((stands m gs ≡ false) × Listed ms n gs)
 
 -- an accepted one has no number, and no ground of the list holds
 pub record Accepted (gs : List Ground) (a : Answer) : Type 0 where
   pub number : refusalOf a ≡ 0
-  pub none : NoneHolds gs
+  pub none : noneHolds gs ≡ true
 
 -- a refused one has the number listed in document 01, and a value that the demand names
-pub record Refused (value : ℕ) (gs : List Ground) (a : Answer) : Type 0 where
-  pub listed : Listed (refusalOf a) gs
+pub record Refused (order : List ℕ) (value : ℕ) (gs : List Ground) (a : Answer) : Type 0 where
+  pub listed : Listed order (refusalOf a) gs
   pub told : valueOf a ≡ value
 
 -- it is answered: one or the other
-abbrev pub Answered : ℕ → List Ground → Answer → Type 0
-Answered value gs a = Accepted gs a ⊎ Refused value gs a
+abbrev pub Answered : List ℕ → ℕ → List Ground → Answer → Type 0
+Answered order value gs a = Accepted gs a ⊎ Refused order value gs a
 
 -- ---- the three entries: events, the place in turn, the divisor list
 
@@ -56,7 +52,7 @@ pub record Unchanged (b : Bench) (o : Outcome) : Type 0 where
 abbrev pub AllAnswered : ℕ → Bench → List Record → Type 0
 AllAnswered value b [] = Unit
 AllAnswered value b (r ∷ rs) =
-    (Accepted (grounds b r) (outcome b r .answer) ⊎ (Refused value (grounds b r) (outcome b r .answer) × Unchanged b (outcome b r)))
+    (Accepted (grounds b r) (outcome b r .answer) ⊎ (Refused refusalOrder value (grounds b r) (outcome b r .answer) × Unchanged b (outcome b r)))
     × AllAnswered value (outcome b r .bench) rs
 
 abbrev pub Events : ℕ → Type 0
@@ -64,7 +60,7 @@ Events value = (b : Bench) (rs : List Record) → AllAnswered value b rs
 
 -- "line above 7 gives refusal 1"; a call gives the answer alone, so that there is no bench to change
 abbrev pub Places : ℕ → Type 0
-Places value = (b : Bench) (n : ℕ) → Answered value (record { number = 1; holds = lineAbove n } ∷ []) (placed (b .controller) n)
+Places value = (b : Bench) (n : ℕ) → Answered refusalOrder value (record { number = 1; holds = lineAbove n } ∷ []) (placed (b .controller) n)
 
 -- a number is in a list
 abbrev pub among : ℕ → List ℕ → Bool
@@ -75,9 +71,9 @@ among n (m ∷ ms) = eqb m n || among n ms
 abbrev pub unlisted : ℕ → ℕ → Bool
 unlisted rate clock = not (ltb clock 3 && among rate (ratesOf clock))
 
--- and so has this call no bench at all
+-- and so has this call no bench at all; its one number makes its order
 abbrev pub Divisors : ℕ → Type 0
-Divisors value = (rate clock : ℕ) → Answered value (record { number = 10; holds = unlisted rate clock } ∷ []) (divisorOf rate clock)
+Divisors value = (rate clock : ℕ) → Answered (10 ∷ []) value (record { number = 10; holds = unlisted rate clock } ∷ []) (divisorOf rate clock)
 
 -- The tender: every event on the bench, with any numbers in it and in any order, is answered; each public entry tests its own input; a refused
 -- one gives the answer FFF
@@ -92,8 +88,9 @@ pub record OnlyFFF : Type 0 where
   pub places : (value : ℕ) → Places value → value ≡ 0xFFF
   pub divisors : (value : ℕ) → Divisors value → value ≡ 0xFFF
 
--- the demand leaves nothing of a refusal open: by one list of grounds two answers that it lets through have one number, and from one bench two
--- outcomes that it calls unchanged have one bench and one output
+-- the demand leaves nothing of a refusal open: by one order and one list of grounds two answers that it lets through have one number, and from
+-- one bench two outcomes that it calls unchanged have one bench and one output
 pub record OneRefusal : Type 0 where
-  pub number : (value : ℕ) (gs : List Ground) (a b : Answer) → Answered value gs a → Answered value gs b → refusalOf a ≡ refusalOf b
+  pub number : (order : List ℕ) (value : ℕ) (gs : List Ground) (a b : Answer) → Answered order value gs a → Answered order value gs b
+      → refusalOf a ≡ refusalOf b
   pub bench : (b : Bench) (o p : Outcome) → Unchanged b o → Unchanged b p → (o .bench ≡ p .bench) × (o .output ≡ p .output)

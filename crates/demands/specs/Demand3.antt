@@ -10,12 +10,13 @@ use Rattle.controller.specs.Turns.{vector}
 use Rattle.controller.specs.declared.Controller.{Controller}
 use Rattle.turn.specs.Waiting.{Start, word, MayWrite, paid}
 use Rattle.turn.specs.Demand3.{InTurn}
+use Rattle.seat.specs.Seats.{line}
 use Rattle.bench.specs.declared.Bench.{Bench}
 use Rattle.bench.specs.declared.Event.the-variants.{OfSeat, MasterReset, ReadController, WriteController, Acknowledge}
 use Rattle.bench.specs.declared.Decoded.{Decoded}
 use Rattle.bench.specs.declared.Decoded.the-variants.{Taken, Refused}
 use Rattle.bench.specs.Events.{Record, decoded}
-use Rattle.bench.specs.Seats.{seat, seatLine, powerUp}
+use Rattle.bench.specs.Seats.{seat, powerUp}
 use Rattle.bench.specs.Runs.{afterAll}
 use Rattle.bench.specs.Steps.{outcome}
 use Rattle.bench.specs.Wired.{Wired}
@@ -70,7 +71,7 @@ KeptBy stays n owed b (r ∷ rs) =
 
 -- the rule: the line of seat n is high
 abbrev pub High : ℕ → Bench → Type 0
-High n b = seatLine (seat b n) ≡ true
+High n b = line (seat b n) ≡ true
 
 abbrev pub Kept : ℕ → Bool → Bench → List Record → Type 0
 Kept n owed b rs = KeptBy High n owed b rs

@@ -11,6 +11,7 @@ use Rattle.turn.specs.Demand3.{NamedBy}
 use Rattle.bench.specs.declared.Bench.{Bench}
 use Rattle.bench.specs.declared.Outcome.{Outcome}
 use Rattle.bench.specs.Events.{Record, whole}
+use Rattle.bench.specs.Seats.{seatCount}
 use Rattle.bench.specs.Steps.{outcome}
 use Rattle.bench.specs.Wired.{Wired}
 use Rattle.demands.specs.Demand2.{Step, Suffices}
@@ -27,7 +28,7 @@ NamedWhile stays = (b : Bench) (n : ℕ) (rs : List Record) → Wired b → Star
 
 -- the ledger, by any count of the characters that are gone
 abbrev pub Accounted : (Step → ℕ → Bench → List Record → ℕ) → Type 0
-Accounted gone = (n : ℕ) (b : Bench) (rs : List Record) → length (b .seats) ≡ 8 → SoundAt n b → Balanced gone outcome n b rs
+Accounted gone = (n : ℕ) (b : Bench) (rs : List Record) → length (b .seats) ≡ seatCount → SoundAt n b → Balanced gone outcome n b rs
 
 -- every line keeps its place over a record
 abbrev pub KeepsPlaces : Record → Type 0

@@ -8,6 +8,7 @@ use Rattle.receiver.proofs as receiver
 use Rattle.transmitter.proofs as transmitter
 use Rattle.channel.proofs as channel
 use Rattle.lending.proofs as lending
+use Rattle.seat.proofs as seat
 use Rattle.rank.proofs as rank
 use Rattle.controller.proofs as controller
 use Rattle.bench.proofs as bench
@@ -56,12 +57,10 @@ pub record RegistersOnce (M : Type 1) : Type 2 where
   pub registers·Settings·register : Once M registers.Settings.register.ended registers.Settings.register.clauses registers.Settings.register.spec
   pub registers·Settings·changes-mode : Once M registers.Settings.changes_mode.ended registers.Settings.changes_mode.clauses registers.Settings.changes_mode.spec
   pub registers·Settings·write : Once M registers.Settings.write.ended registers.Settings.write.clauses registers.Settings.write.spec
-  pub registers·Settings·no-divisor : Once M registers.Settings.no_divisor.ended registers.Settings.no_divisor.clauses registers.Settings.no_divisor.spec
   pub registers·Settings·cut : Once M registers.Settings.cut.ended registers.Settings.cut.clauses registers.Settings.cut.spec
   pub registers·changes-after : Once M registers.changes_after.ended registers.changes_after.clauses registers.changes_after.spec
   pub registers·modem-status : Once M registers.modem_status.ended registers.modem_status.clauses registers.modem_status.spec
-  pub registers·Settings·is-bad-arrival :
-      Once M registers.Settings.is_bad_arrival.ended registers.Settings.is_bad_arrival.clauses registers.Settings.is_bad_arrival.spec
+  pub registers·Settings·refusal : Once M registers.Settings.refusal.ended registers.Settings.refusal.clauses registers.Settings.refusal.spec
 
 -- ---- receiver: a receive side
 
@@ -99,18 +98,21 @@ pub record ChannelOnce (M : Type 1) : Type 2 where
   pub channel·Channel·power-up : Once M channel.Channel.power_up.ended channel.Channel.power_up.clauses channel.Channel.power_up.spec
   pub channel·Channel·master-reset : Once M channel.Channel.master_reset.ended channel.Channel.master_reset.clauses channel.Channel.master_reset.spec
   pub channel·Channel·step : Once M channel.Channel.step.ended channel.Channel.step.clauses channel.Channel.step.spec
-  pub channel·Channel·read : Once M channel.Channel.read.ended channel.Channel.read.clauses channel.Channel.read.spec
   pub channel·Channel·line : Once M channel.Channel.line.ended channel.Channel.line.clauses channel.Channel.line.spec
-  pub channel·Channel·arrive : Once M channel.Channel.arrive.ended channel.Channel.arrive.clauses channel.Channel.arrive.spec
-  pub channel·Channel·modem-inputs : Once M channel.Channel.modem_inputs.ended channel.Channel.modem_inputs.clauses channel.Channel.modem_inputs.spec
-  pub channel·Channel·character-time : Once M channel.Channel.character_time.ended channel.Channel.character_time.clauses channel.Channel.character_time.spec
-  pub channel·Channel·write : Once M channel.Channel.write.ended channel.Channel.write.clauses channel.Channel.write.spec
 
 -- ---- lending: a channel lent
 
 pub record LendingOnce (M : Type 1) : Type 2 where
   pub lending·touch : Once M lending.touch.ended lending.touch.clauses lending.touch.spec
   pub lending·lent : Once M lending.lent.ended lending.lent.clauses lending.lent.spec
+
+-- ---- seat: a seat
+
+pub record SeatOnce (M : Type 1) : Type 2 where
+  pub seat·Seat·power-up : Once M seat.Seat.power_up.ended seat.Seat.power_up.clauses seat.Seat.power_up.spec
+  pub seat·Seat·reset : Once M seat.Seat.reset.ended seat.Seat.reset.clauses seat.Seat.reset.spec
+  pub seat·Seat·line : Once M seat.Seat.line.ended seat.Seat.line.clauses seat.Seat.line.spec
+  pub seat·Seat·step : Once M seat.Seat.step.ended seat.Seat.step.clauses seat.Seat.step.spec
 
 -- ---- rank: sets and places of lines
 
@@ -142,9 +144,13 @@ pub record BenchOnce (M : Type 1) : Type 2 where
   pub bench·Decoded·decode : Once M bench.Decoded.decode.ended bench.Decoded.decode.clauses bench.Decoded.decode.spec
   pub bench·Decoded·decode-short : Once M bench.Decoded.decode_short.ended bench.Decoded.decode_short.clauses bench.Decoded.decode_short.spec
   pub bench·Decoded·refusal : Once M bench.Decoded.refusal.ended bench.Decoded.refusal.clauses bench.Decoded.refusal.spec
+  pub bench·chair : Once M bench.chair.ended bench.chair.clauses bench.chair.spec
+  pub bench·step-parts : Once M bench.step_parts.ended bench.step_parts.clauses bench.step_parts.spec
+  pub bench·short-parts : Once M bench.short_parts.ended bench.short_parts.clauses bench.short_parts.spec
   pub bench·Bench·power-up : Once M bench.Bench.power_up.ended bench.Bench.power_up.clauses bench.Bench.power_up.spec
   pub bench·Bench·step : Once M bench.Bench.step.ended bench.Bench.step.clauses bench.Bench.step.spec
   pub bench·Bench·step-short : Once M bench.Bench.step_short.ended bench.Bench.step_short.clauses bench.Bench.step_short.spec
+  pub bench·Bench·reset : Once M bench.Bench.reset.ended bench.Bench.reset.clauses bench.Bench.reset.spec
   pub bench·Bench·place : Once M bench.Bench.place.ended bench.Bench.place.clauses bench.Bench.place.spec
   pub bench·Bench·output : Once M bench.Bench.output.ended bench.Bench.output.clauses bench.Bench.output.spec
 

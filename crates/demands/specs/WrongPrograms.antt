@@ -10,11 +10,11 @@ use Rattle.rank.specs.Rank.{before, order}
 use Rattle.rank.specs.Sets.{line}
 use Rattle.turn.specs.Waiting.{Start}
 use Rattle.turn.specs.Demand3.{InTurn}
-use Rattle.channel.specs.declared.Channel.{Channel}
+use Rattle.seat.specs.Receiving.{oneMore}
 use Rattle.bench.specs.declared.Bench.{Bench}
 use Rattle.bench.specs.declared.Outcome.{Outcome}
 use Rattle.bench.specs.Events.{Record, decoded}
-use Rattle.bench.specs.Seats.{powerUp, seat, withSeat}
+use Rattle.bench.specs.Seats.{seatCount, powerUp, seat, withSeat}
 use Rattle.bench.specs.Steps.{shown, outcome}
 use Rattle.bench.specs.Runs.{afterAll}
 use Rattle.demands.specs.Contracts.{Ensured, EnsuredPlace}
@@ -36,28 +36,11 @@ fixed a f b r = record { bench = f b r .bench; answer = a; output = f b r .outpu
 abbrev pub ignoring : Step → Step
 ignoring f b r = record { bench = b; answer = f b r .answer; output = f b r .output }
 
--- one character more in the receive queue of a channel
-abbrev pub oneMore : Channel → Channel
-oneMore c =
-    record {
-      settings = c .settings;
-      receiver =
-          record {
-            queue = record { slots = c .receiver .queue .slots; count = suc (c .receiver .queue .count) };
-            overrun = c .receiver .overrun;
-            kept = c .receiver .kept;
-            timeout = c .receiver .timeout;
-            last = c .receiver .last;
-          };
-      transmitter = c .transmitter;
-      modem = c .modem;
-    }
-
--- "one that invents a queue count", at seat n
+-- "one that invents a queue count": one character more at seat n
 abbrev pub inventing : ℕ → Step
 inventing n b r =
     record {
-      bench = withSeat (outcome b r .bench) n (record { channel = oneMore (seat (outcome b r .bench) n .channel) });
+      bench = withSeat (outcome b r .bench) n (oneMore (seat (outcome b r .bench) n));
       answer = outcome b r .answer;
       output = outcome b r .output;
     }
@@ -113,8 +96,8 @@ pub record ShutOut : Type 0 where
   pub refuses-everything : (number : Bench → Record → ℕ) → Meets (refusing number) → ⊥
   pub fixed-answer : (a : Answer) (f : Step) → Meets (fixed a f) → ⊥
   pub ignores-events : (f : Step) → Meets (ignoring f) → ⊥
-  pub invents-a-count : (n : ℕ) → n < 8 → Meets (inventing n) → ⊥
-  pub breaks-the-ledger : (n : ℕ) → n < 8 → Keeps (inventing n) → ⊥
+  pub invents-a-count : (n : ℕ) → n < seatCount → Meets (inventing n) → ⊥
+  pub breaks-the-ledger : (n : ℕ) → n < seatCount → Keeps (inventing n) → ⊥
   -- every count of it is right, and what is read never came
   pub breaks-the-order : (a : Answer) → Keeps (fixed a outcome) → ⊥
   pub pretends : (says : List Record → Record → Answer) (raises : List Record → Record → Bool) → MeetsFrom (pretending says raises) → ⊥

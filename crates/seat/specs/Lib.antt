@@ -2,6 +2,8 @@ pub mod Seats
 pub mod Steps
 pub mod Acts
 pub mod Sound
+pub mod Receiving
 pub mod StepLaws
 pub mod ActLaws
 pub mod SoundLaws
+pub mod ReceivingLaws
