@@ -2,6 +2,7 @@
 use crate::Ran;
 use crate::Shown;
 use crate::lines;
+use crate::numbers;
 use bench::Bench;
 use bench::Outcome;
 ghost use mathlib.Core.Path.{_≡_};
@@ -9,6 +10,7 @@ ghost use Prim.Native.Nat.{_+_, _-_, _*_, _<_, min};
 ghost use lib.ListN.{length};
 ghost use Rattle.bench.specs.Steps.{outcome};
 ghost use Rattle.listing.specs.Run.{Runs, numberEnd};
+ghost use Rattle.listing.specs.Front.{Fronts};
 ghost use Rattle.listing.specs.Places.{Shows, recordAt, recordCount};
 
 const LAST_NUMBER: u64 = 18446744073709551615;
@@ -25,13 +27,22 @@ fn step_at(bench: Bench, input: &[u8], at: usize) -> Outcome
 }
 
 // Answers the record that stands at `at`, if its line finds room at `place`.
-fn show(bench: Bench, n: u64, input: &[u8], at: usize, out: &mut [u8], place: usize) -> Shown
-    requires { ⌜ at < length (now input) ⌝ }
+fn show(
+    bench: Bench,
+    text: &[u8; 20],
+    digits: usize,
+    n: u64,
+    input: &[u8],
+    at: usize,
+    out: &mut [u8],
+    place: usize,
+) -> Shown
+    requires { ⌜ Fronts (now text) digits n × (at < length (now input)) ⌝ }
     ensures { λ r. ⌜ Shows bench n (recordAt (now (input .entry)) at) (now (out .entry)) (now (out .exit)) place r ⌝ }
 {
     let outcome = step_at(bench, input, at);
     let answer = outcome.answer;
-    let next = lines::put_line(&mut *out, place, n, answer, outcome.output);
+    let next = lines::put_numbered(&mut *out, place, text, digits, n, answer, outcome.output);
     if next == place {
         return Shown { bench, next };
     }
@@ -86,8 +97,12 @@ pub fn run(mut bench: Bench, n: u64, input: &[u8], last: bool, out: &mut [u8]) -
     let count = numbered(record_count(input.len(), last), n);
     let mut k: usize = 0;
     let mut place: usize = 0;
+    let mut text = [0u8; 20];
+    let mut digits = numbers::put_front(&mut text, n);
     while k < count {
-        let shown = show(bench, n + k as u64, input, 4 * k, &mut *out, place);
+        let number = n + k as u64;
+        digits = numbers::keep_front(&mut text, digits, number);
+        let shown = show(bench, &text, digits, number, input, 4 * k, &mut *out, place);
         let next = shown.next;
         if next == place {
             return ran(bench, k, input.len(), place);

@@ -14,22 +14,25 @@ use Rattle.listing.proofs.runs.show.Tie as tie
 step-at-requires : tie.Need-step-at-requires
 step-at-requires c κs = search needs
 
-put-line-requires : tie.Need-put-line-requires
-put-line-requires c κs = search needs
+put-numbered-requires : tie.Need-put-numbered-requires
+put-numbered-requires c κs = c .before .before .before .before .pre .0
 
 same-length : tie.Need-same-length
 same-length c = search needs
 
 returns : tie.Need-returns
 returns c =
-    let no : leb (c .before .before .before .before .before .before .before .before .args .place + length (line (c .before .before .before .before .before .before .before .before .args .n) (c .before .before .before .before .before .step-at .result .answer) (c .before .before .before .before .before .step-at .result .output))) (length (c .before .before .before .before .before .before .before .before .args .out .now)) ≡ false =
-    no-room _ (c .before .before .before .before .before .before .before .before .args .place) (length (line (c .before .before .before .before .before .before .before .before .args .n) (c .before .before .before .before .before .step-at .result .answer) (c .before .before .before .before .before .step-at .result .output)))
-    (line-some (c .before .before .before .before .before .before .before .before .args .n) (c .before .before .before .before .before .step-at .result .answer) (c .before .before .before .before .before .step-at .result .output)) (sym (c .before .before .before .put-line .ensures .next) ∙ c .if1 .taken) in
+    let a = c .before .before .before .before .before .before .before .before .args in
+    let o = c .before .before .before .before .before .step-at in
+    let p = c .before .before .before .put-numbered .ensures in
+    let no : leb (a .place + length (line (a .n) (o .result .answer) (o .result .output))) (length (a .out .now)) ≡ false =
+    no-room _ (a .place) (length (line (a .n) (o .result .answer) (o .result .output)))
+    (line-some (a .n) (o .result .answer) (o .result .output)) (sym (p .next) ∙ c .if1 .taken) in
     record {
-      next = rw (← c .before .before .before .before .before .step-at .ensures) (c .before .before .before .put-line .ensures .next);
-      bench = rw (← c .before .before .before .before .before .step-at .ensures) (sym (pick-false _ _ _ no));
-      bytes = rw (← c .before .before .before .before .before .step-at .ensures) (c .before .before .before .put-line .ensures .bytes);
-      short = rw (← c .before .before .before .before .before .step-at .ensures) (c .before .before .before .put-line .ensures .short);
+      next = rw (← o .ensures) (p .next);
+      bench = rw (← o .ensures) (sym (pick-false _ _ _ no));
+      bytes = rw (← o .ensures) (p .bytes);
+      short = rw (← o .ensures) (p .short);
     }
 
 same-length-2 : tie.Need-same-length-2
@@ -37,16 +40,19 @@ same-length-2 c = search needs
 
 returns-2 : tie.Need-returns-2
 returns-2 c =
-    let yes : leb (c .before .before .before .before .before .before .before .before .before .args .place + length (line (c .before .before .before .before .before .before .before .before .before .args .n) (c .before .before .before .before .before .before .step-at .result .answer) (c .before .before .before .before .before .before .step-at .result .output))) (length (c .before .before .before .before .before .before .before .before .before .args .out .now)) ≡ true =
-    some-room _ (c .before .before .before .before .before .before .before .before .before .args .place) (length (line (c .before .before .before .before .before .before .before .before .before .args .n) (c .before .before .before .before .before .before .step-at .result .answer) (c .before .before .before .before .before .before .step-at .result .output))) (λ e. c .before .if1 .left (c .before .before .before .before .put-line .ensures .next ∙ e)) in
+    let a = c .before .before .before .before .before .before .before .before .before .args in
+    let o = c .before .before .before .before .before .before .step-at in
+    let p = c .before .before .before .before .put-numbered .ensures in
+    let yes : leb (a .place + length (line (a .n) (o .result .answer) (o .result .output))) (length (a .out .now)) ≡ true =
+    some-room _ (a .place) (length (line (a .n) (o .result .answer) (o .result .output))) (λ e. c .before .if1 .left (p .next ∙ e)) in
     record {
-      next = rw (← c .before .before .before .before .before .before .step-at .ensures) (c .before .before .before .before .put-line .ensures .next);
-      bench = rw (← c .before .before .before .before .before .before .step-at .ensures) (sym (pick-true _ _ _ yes));
-      bytes = rw (← c .before .before .before .before .before .before .step-at .ensures) (c .before .before .before .before .put-line .ensures .bytes);
-      short = rw (← c .before .before .before .before .before .before .step-at .ensures) (c .before .before .before .before .put-line .ensures .short);
+      next = rw (← o .ensures) (p .next);
+      bench = rw (← o .ensures) (sym (pick-true _ _ _ yes));
+      bytes = rw (← o .ensures) (p .bytes);
+      short = rw (← o .ensures) (p .short);
     }
 
 pub show-spec : {M : Type 1} → statement M
 show-spec =
     tie.close
-    (tie.spec step-at-requires put-line-requires same-length returns same-length-2 returns-2)
+    (tie.spec step-at-requires put-numbered-requires same-length returns same-length-2 returns-2)
