@@ -15,10 +15,3 @@ pub struct Ran {
     pub used: usize,
     pub written: usize,
 }
-
-// A record answered, or left where its line found no room: `next` is the place after the line, and equals the place before it
-// where there is none.
-pub(crate) struct Shown {
-    pub(crate) bench: Bench,
-    pub(crate) next: usize,
-}
