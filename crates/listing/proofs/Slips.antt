@@ -19,7 +19,7 @@ use Rattle.listing.specs.Places.{recordCount}
 
 -- the text of a line; it opens what a line is made of
 unfoldable text : List ℕ → List ℕ
-unfolding base.pick answers.refusalOf answers.valueOf refusing.firstHeld digitsWithin decimal capital outputDigit line
+unfolding base.pick answers.refusalOf answers.valueOf refusing.refusalBy refusing.firstOf digitsWithin decimal capital outputDigit line
 text l = l
 
 -- "refusal number (0 for none), answer in three hex capitals, output after the event; single spaces": `line-form`; it reads 0 1 FFF 0

@@ -1,13 +1,13 @@
 -- Runs of stores into a buffer.
-use Prim.Native.Nat.{ℕ, suc, _+_}
+use Prim.Native.Nat.{ℕ, suc, _+_, _<_}
 use mathlib.Core.Path.{_≡_}
 use mathlib.Core.Bool.{Bool}
 use mathlib.Core.List.{List, [], _∷_, _++_}
 use native.Mathlib.Omega.{arith}
 use native.Mathlib.Numerals.{add-one}
 use native.Mathlib.Nat.{add-zero, add-suc, suc-add}
-use lib.ListN.{length, set}
-use lib.Seq.{sets}
+use lib.ListN.{length, set, take, getD}
+use lib.Seq.{sets, take-suc, length-take-le}
 use Rattle.base.specs.Answers.{refusalOf, valueOf}
 use Rattle.base.specs.declared.Answer.{Answer}
 use Rattle.listing.specs.Line.{decimal, line, ending}
@@ -16,6 +16,13 @@ use Rattle.listing.specs.Line.{decimal, line, ending}
 pub sets-append : (vs ws l : List ℕ) (i : ℕ) → sets l i (vs ++ ws) ≡ sets (sets l i vs) (i + length vs) ws
 sets-append [] ws l i = rw (add-zero i)
 sets-append (v ∷ vs) ws l i = rw (sets-append vs ws (set l i v) (suc i), add-suc i (length vs), suc-add i (length vs))
+
+-- a text stored byte by byte
+pub one-stored : (text l : List ℕ) (at i : ℕ) → i < length text
+    → set (sets l at (take i text)) (at + i) (getD text i 0) ≡ sets l at (take (i + 1) text)
+one-stored text l at i h =
+    let size : length (take i text) ≡ i = length-take-le i text (omega arith) in
+    rw (add-one i, take-suc text i 0 h, sets-append (take i text), size)
 
 -- seven stores in a row, as code that counts up from `at` leaves them
 pub seven : (l : List ℕ) (at a b c d e f g : ℕ)

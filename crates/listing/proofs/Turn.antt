@@ -1,6 +1,6 @@
 -- The run's loop, one record at a time: what holds after k records, and how the run ends.
 use Prim.Native.Nat.{ℕ, suc, _+_, _-_, _*_, _≤_, _<_, min}
-use mathlib.Core.Path.{_≡_, refl, sym, ap, _∙_}
+use mathlib.Core.Path.{_≡_, refl, sym, ap, subst, _∙_}
 use mathlib.Core.Bool.{Bool, true, false, and-false}
 use mathlib.Core.List.{List, [], _∷_, _++_, append-nil}
 use mathlib.Core.Logic.{⊎-elim}
@@ -18,12 +18,12 @@ use Rattle.bench.specs.Runs.{afterAll}
 use Rattle.bench.specs.RunLaws.{after-parts}
 use Rattle.bench.specs.Steps.{outcome}
 use Rattle.bench.specs.declared.Bench.{Bench}
-use Rattle.listing.specs.Line.{longest}
+use Rattle.bench.specs.declared.Outcome.{Outcome}
+use Rattle.listing.specs.Line.{longest, Puts}
 use Rattle.listing.specs.LineLaws.{line-some}
 use Rattle.listing.specs.Run.{lineOf, listing, answered, fits, numberEnd, recordsOf, Runs}
-use Rattle.listing.specs.RunLaws.{listing-parts}
-use Rattle.listing.specs.Places.{Shows, roomAt}
-use Rattle.listing.specs.declared.Shown.{Shown}
+use Rattle.listing.specs.RunLaws.{listing-parts, record-count, record-inside}
+use Rattle.listing.specs.Places.{roomAt, recordCount}
 use Rattle.listing.proofs.Stores.{sets-append}
 
 -- a place that did not move tells that there was no room, and one that moved that there was
@@ -36,6 +36,13 @@ pub some-room : (x : Bool) (place size : ℕ) → (pick x (place + size) place �
 unfolding pick
 some-room true place size ne = refl
 some-room false place size ne = absurd (ne refl)
+
+-- what a run's test tells of the record that is next: it is there, it begins inside the input, and its number fits 64 bits
+pub ahead : (last : Bool) (s : List ℕ) (n k count records : ℕ) → k < count → count ≡ min records (numberEnd - n) → records ≡ recordCount last (length s)
+    → (k < length (recordsOf last s)) × (4 * k < length s) × (n + k < numberEnd)
+ahead last s n k count records less is all =
+    let there : k < recordCount last (length s) = omega arith in
+    (omega (arith, record-count last s), record-inside last (length s) k there, omega arith)
 
 -- what holds after k of the records rs, of which the first has number n, from the bench b₀ and the buffer d₀
 pub record Turn (b₀ : Bench) (n : ℕ) (rs : List Record) (d₀ : List ℕ) (b : Bench) (d : List ℕ) (w k : ℕ) : Type 0 where
@@ -59,10 +66,13 @@ start b n rs d = record {
   short = omega arith;
 }
 
-module _ (b₀ : Bench) (n : ℕ) (rs : List Record) (d₀ : List ℕ) (b : Bench) (d d′ : List ℕ) (w k : ℕ) (r : Record) (s : Shown)
-    (t : Turn b₀ n rs d₀ b d w k) (h : Shows b (n + k) r d d′ w s) (more : k < length rs) (is : getD rs k short ≡ r) where
+module _ (b₀ : Bench) (n : ℕ) (rs : List Record) (d₀ : List ℕ) (b : Bench) (d d′ : List ℕ) (w k : ℕ) (r : Record) (next : ℕ) (o : Outcome) (came : o ≡ outcome b r)
+    (t : Turn b₀ n rs d₀ b d w k) (p : Puts (n + k) (o .answer) (o .output) d d′ w next) (more : k < length rs) (is : getD rs k short ≡ r) where
   abbrev size : ℕ
   size = length (lineOf b (n + k) r)
+
+  h : Puts (n + k) (outcome b r .answer) (outcome b r .output) d d′ w next
+  h = subst (λ (x : Outcome). Puts (n + k) (x .answer) (x .output) d d′ w next) came p
 
   one-more : take (k + 1) rs ≡ take k rs ++ (r ∷ [])
   one-more = rw (add-one k, ← is) (take-suc rs k short more)
@@ -79,18 +89,15 @@ module _ (b₀ : Bench) (n : ℕ) (rs : List Record) (d₀ : List ℕ) (b : Benc
   bench-more : afterAll b₀ (take (k + 1) rs) ≡ outcome b r .bench
   bench-more = rw (one-more, after-parts, ← t .bench)
 
-  module _ (moved : s .next ≡ w → ⊥) (small : n + k < numberEnd) where
+  module _ (moved : next ≡ w → ⊥) (small : n + k < numberEnd) where
     yes : roomAt b (n + k) r d w ≡ true
     yes = some-room (roomAt b (n + k) r d w) w size (λ e. moved (h .next ∙ e))
 
     ends : w + size ≤ length d
     ends = leb-true (w + size) (length d) yes
 
-    next-is : s .next ≡ w + size
+    next-is : next ≡ w + size
     next-is = h .next ∙ pick-true _ _ _ yes
-
-    bench-is : s .bench ≡ outcome b r .bench
-    bench-is = h .bench ∙ pick-true _ _ _ yes
 
     bytes-is : d′ ≡ sets d w (lineOf b (n + k) r)
     bytes-is = h .bytes ∙ pick-true _ _ _ yes
@@ -105,9 +112,9 @@ module _ (b₀ : Bench) (n : ℕ) (rs : List Record) (d₀ : List ℕ) (b : Benc
         rw (lt-ltb (n + k) numberEnd small) (le-leb size (length d₀ - w) (omega arith)) in
         pick-true _ _ _ it-fits
 
-    pub turn : Turn b₀ n rs d₀ (s .bench) d′ (s .next) (k + 1)
-    turn = record {
-      bench = bench-is ∙ sym bench-more;
+    after-it : Turn b₀ n rs d₀ (outcome b r .bench) d′ next (k + 1)
+    after-it = record {
+      bench = sym bench-more;
       written = rw (listing-more, length-append, ← t .written) next-is;
       bytes = rw (listing-more, sets-append (listing b₀ n (take k rs)), zero-add, ← t .bytes, ← t .written) bytes-is;
       left =
@@ -117,14 +124,17 @@ module _ (b₀ : Bench) (n : ℕ) (rs : List Record) (d₀ : List ℕ) (b : Benc
           t .left
           ∙ ap (λ (x : ℕ). k + x) (ap (λ (l : List Record). answered b (n + k) l (length d₀ - w)) next-up ∙ goes-on)
           ∙ e3 _
-          ∙ rw (next-is, bench-is, e1, e2, add-one k);
+          ∙ rw (next-is, e1, e2, add-one k);
       same = rw (bytes-is, length-sets) (t .same);
       inside = let f : w + size ≤ length d = ends in rw next-is (omega (arith, t .same));
       short = let f : size ≤ longest = h .short in rw next-is (omega (arith, t .short));
     }
 
+    pub turn : Turn b₀ n rs d₀ (o .bench) d′ next (k + 1)
+    turn = subst (λ (x : Outcome). Turn b₀ n rs d₀ (x .bench) d′ next (k + 1)) (sym came) after-it
+
   -- where the place did not move, the run ends with this record left
-  module _ (still : s .next ≡ w) where
+  module _ (still : next ≡ w) where
     no : roomAt b (n + k) r d w ≡ false
     no = no-room (roomAt b (n + k) r d w) w size (line-some (n + k) _ _) (sym (h .next) ∙ still)
 
@@ -178,3 +188,13 @@ finished b₀ n s last d₀ b d d′ w k t e same enough = record {
   inside = t .inside;
   enough = enough;
 }
+
+-- the answer of a run whose next record, whatever way its outcome came, finds no room for its line
+pub stopped : (b₀ : Bench) (n : ℕ) (s : List ℕ) (last : Bool) (d₀ : List ℕ) (b : Bench) (d d′ : List ℕ) (w k next : ℕ) (r : Record) (o : Outcome)
+    → o ≡ outcome b r → Turn b₀ n (recordsOf last s) d₀ b d w k → Puts (n + k) (o .answer) (o .output) d d′ w next
+    → k < length (recordsOf last s) → getD (recordsOf last s) k short ≡ r → next ≡ w
+    → Runs b₀ n s last d₀ d′ (record { bench = b; records = k; used = min (4 * k) (length s); written = w })
+stopped b₀ n s last d₀ b d d′ w k next r o came t p more is still =
+    finished b₀ n s last d₀ b d d′ w k t (full _ _ _ _ _ _ _ _ _ _ _ o came t p more is still)
+    (kept _ _ _ _ _ _ _ _ _ _ _ o came t p more is still)
+    (λ long fit. absurd (too-short _ _ _ _ _ _ _ _ _ _ _ o came t p more is still long))

@@ -1,16 +1,18 @@
 -- Decimal digits denote their number, with no zero in front; three capitals denote a number below 4096.
 use Prim.Native.Nat.{ℕ, zero, suc, _+_, _*_, _/_, _%_, _^_, _≤_, _<_}
-use mathlib.Core.Path.{_≡_, refl, ap, _∙_}
+use mathlib.Core.Path.{_≡_, refl, sym, ap, _∙_}
 use mathlib.Core.Bool.{true, false}
 use mathlib.Core.List.{List, [], _∷_, _++_}
 use mathlib.Core.Logic.{⊎-elim}
 use native.Mathlib.Omega.{arith}
 use native.Mathlib.Nat.{pow-suc}
-use lib.ListN.{length, length-append}
+use lib.ListN.{length, take, length-append}
+use lib.Seq.{sets, length-sets, sets-eq, take-at, length-take-le}
 use lib.Dec.{ltb}
 use borrow.Author.Tests.{lt-ltb, le-ltb, ltb-true, ltb-false}
 use Rattle.base.specs.PickLaws.{pick-true, pick-false, either-way}
 use Rattle.listing.specs.Line.{numeral, digitsWithin, decimal}
+use Rattle.listing.specs.Front.{front, textSize, Fronts, Stays}
 
 -- with enough digits to spare the text is the same
 within-same : (k m n : ℕ) → n ≤ k → n ≤ m → digitsWithin k n ≡ digitsWithin m n
@@ -55,3 +57,63 @@ decimal-length (suc d) n h =
     let i : length (decimal (n / 10)) ≤ suc d = decimal-length d (n / 10) (omega arith) in
     rw (decimal-large n l, length-append) (omega arith))
     (either-way (ltb n 10))
+
+-- ---- the digits before the last
+
+front-none : (n : ℕ) → n < 10 → front n ≡ []
+unfolding front
+front-none n h = pick-true _ _ _ (lt-ltb n 10 h)
+
+front-tens : (n : ℕ) → 10 ≤ n → front n ≡ decimal (n / 10)
+unfolding front
+front-tens n h = pick-false _ _ _ (le-ltb n 10 h)
+
+pub decimal-front : (n : ℕ) → decimal n ≡ front n ++ (numeral (n % 10) ∷ [])
+decimal-front n =
+    ⊎-elim
+    (λ (t : ltb n 10 ≡ true).
+    let l : n < 10 = ltb-true n 10 t in
+    let e : n % 10 ≡ n = omega arith in
+    rw (front-none n l, e) (decimal-small n l))
+    (λ (f : ltb n 10 ≡ false).
+    let l : 10 ≤ n = ltb-false n 10 f in rw (front-tens n l) (decimal-large n l))
+    (either-way (ltb n 10))
+
+pub front-length : (n : ℕ) → length (decimal n) ≡ length (front n) + 1
+front-length n = rw (decimal-front n, length-append)
+
+pub front-digits : (text : List ℕ) (digits n : ℕ) → Fronts text digits n → digits ≡ length (front n)
+front-digits text digits n f = sym (length-take-le digits text (omega (arith, f .size, f .inside))) ∙ ap length (f .shown)
+
+-- the next number has the same, unless it begins a new ten
+front-same : (n : ℕ) → ((n + 1) % 10 ≡ 0 → ⊥) → front n ≡ front (n + 1)
+front-same n within =
+    ⊎-elim
+    (λ (t : ltb n 10 ≡ true).
+    let l : n < 10 = ltb-true n 10 t in
+    let m : n + 1 < 10 = omega (arith, within) in
+    front-none n l ∙ sym (front-none (n + 1) m))
+    (λ (f : ltb n 10 ≡ false).
+    let l : 10 ≤ n = ltb-false n 10 f in
+    let e : (n + 1) / 10 ≡ n / 10 = omega (arith, within) in
+    front-tens n l ∙ ap decimal (sym e) ∙ sym (front-tens (n + 1) (omega arith)))
+    (either-way (ltb n 10))
+
+pub fronts-stay : (text : List ℕ) (digits n : ℕ) → Fronts text digits n → Stays text digits (n + 1)
+fronts-stay text digits n f = record {
+  size = f .size;
+  fronts = λ within. record { size = f .size; inside = f .inside; shown = f .shown ∙ front-same n within };
+}
+
+-- none are put of a number below ten, and of another those of its tenth
+pub fronts-none : (text : List ℕ) (n : ℕ) → n < 10 → length text ≡ textSize → Fronts text 0 n
+fronts-none text n small size = record { size = size; inside = omega arith; shown = sym (front-none n small) }
+
+pub fronts-put : (text : List ℕ) (digits n : ℕ) → 10 ≤ n → digits ≡ length (decimal (n / 10)) → digits ≤ textSize → length text ≡ textSize
+    → Fronts (sets text 0 (decimal (n / 10))) digits n
+fronts-put text digits n tens is inside size = record {
+  size = rw length-sets size;
+  inside = inside;
+  shown =
+      ap (take digits) (sets-eq (decimal (n / 10)) text 0 (omega arith)) ∙ take-at _ _ digits (sym is) ∙ sym (front-tens n tens);
+}

@@ -1,4 +1,5 @@
 pub mod Line
+pub mod Front
 pub mod Run
 pub mod Places
 pub mod DecimalLaws

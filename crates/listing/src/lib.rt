@@ -1,5 +1,6 @@
 // Records in, lines out: the listing of a run of records, byte for byte.
 mod lines;
+mod numbers;
 mod runs;
 
 use bench::Bench;
@@ -13,11 +14,4 @@ pub struct Ran {
     pub records: usize,
     pub used: usize,
     pub written: usize,
-}
-
-// A record answered, or left where its line found no room: `next` is the place after the line, and equals the place before it
-// where there is none.
-pub(crate) struct Shown {
-    pub(crate) bench: Bench,
-    pub(crate) next: usize,
 }

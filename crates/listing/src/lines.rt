@@ -1,4 +1,9 @@
 // One line of the listing, put into a lent buffer.
+use crate::numbers::places;
+use crate::numbers::put_byte;
+use crate::numbers::put_front;
+use crate::numbers::put_number;
+use crate::numbers::wide;
 use base::Answer;
 ghost use mathlib.Core.Path.{_≡_};
 ghost use Prim.Native.Nat.{_+_, _≤_, _<_};
@@ -6,34 +11,11 @@ ghost use lib.Dec.{leb};
 ghost use lib.ListN.{length};
 ghost use lib.Seq.{sets};
 ghost use Rattle.listing.specs.Line.{decimal, ending, line, outputDigit, Puts};
+ghost use Rattle.listing.specs.Front.{Fronts};
 ghost use Rattle.listing.specs.Line.{capital as Line·capital};
 
 // No line is longer: 20 digits of a 64-bit number, 3 of a refusal, and 8 bytes more.
 const LONGEST: usize = 31;
-
-// The number of decimal digits.
-fn places(n: u64) -> usize
-    ensures { λ r. ⌜ r ≡ length (decimal n) ⌝ }
-{
-    if n < 10 {
-        return 1;
-    }
-    places(n / 10) + 1
-}
-
-// Puts n in decimal at `at`, and answers the place after it.
-fn put_decimal(out: &mut [u8], at: usize, n: u64) -> usize
-    requires { ⌜ at + length (decimal n) ≤ length (now out) ⌝ }
-    ensures { λ r. ⌜ (r ≡ at + length (decimal n)) × (now (out .exit) ≡ sets (now (out .entry)) at (decimal n)) ⌝ }
-{
-    if n < 10 {
-        out[at] = b'0' + (n % 10) as u8;
-        return at + 1;
-    }
-    let end = put_decimal(&mut *out, at, n / 10);
-    out[end] = b'0' + (n % 10) as u8;
-    end + 1
-}
 
 fn capital(digit: u16) -> u8
     requires { ⌜ digit < 16 ⌝ }
@@ -51,12 +33,6 @@ fn output_digit(output: bool) -> u8
     if output { b'1' } else { b'0' }
 }
 
-fn wide(x: u8) -> u64
-    ensures { λ r. ⌜ r ≡ x ⌝ }
-{
-    x as u64
-}
-
 // Puts what follows the refusal number.
 fn put_ending(out: &mut [u8], at: usize, value: u16, output: bool) -> usize
     requires { ⌜ at + 7 ≤ length (now out) ⌝ }
@@ -72,15 +48,23 @@ fn put_ending(out: &mut [u8], at: usize, value: u16, output: bool) -> usize
     at + 7
 }
 
-fn write_line(out: &mut [u8], at: usize, n: u64, answer: Answer, output: bool) -> usize
-    requires { ⌜ at + length (line n answer output) ≤ length (now out) ⌝ }
+fn write_line(
+    out: &mut [u8],
+    at: usize,
+    text: &[u8; 20],
+    digits: usize,
+    n: u64,
+    answer: Answer,
+    output: bool,
+) -> usize
+    requires { ⌜ Fronts (now text) digits n × (at + length (line n answer output) ≤ length (now out)) ⌝ }
     ensures { λ r. ⌜ (r ≡ at + length (line n answer output)) × (now (out .exit) ≡ sets (now (out .entry)) at (line n answer output)) ⌝ }
 {
     let refusal = answer.refusal();
     let value = answer.value();
-    let a = put_decimal(&mut *out, at, n);
+    let a = put_number(&mut *out, at, text, digits, n);
     out[a] = b' ';
-    let b = put_decimal(&mut *out, a + 1, wide(refusal));
+    let b = put_byte(&mut *out, a + 1, refusal);
     put_ending(&mut *out, b, value, output)
 }
 
@@ -95,7 +79,16 @@ fn holds(room: usize, n: u64, refusal: u8) -> bool
 }
 
 // Puts the line of record n at `at` and answers the place after it. Where it does not fit, the buffer stays and the answer is `at`.
-pub fn put_line(out: &mut [u8], at: usize, n: u64, answer: Answer, output: bool) -> usize
+pub(crate) fn put_numbered(
+    out: &mut [u8],
+    at: usize,
+    text: &[u8; 20],
+    digits: usize,
+    n: u64,
+    answer: Answer,
+    output: bool,
+) -> usize
+    requires { ⌜ Fronts (now text) digits n ⌝ }
     ensures { λ r. ⌜ Puts n answer output (now (out .entry)) (now (out .exit)) at r ⌝ }
 {
     let length = out.len();
@@ -104,7 +97,16 @@ pub fn put_line(out: &mut [u8], at: usize, n: u64, answer: Answer, output: bool)
         return at;
     }
     if holds(length - at, n, refusal) {
-        return write_line(&mut *out, at, n, answer, output);
+        return write_line(&mut *out, at, text, digits, n, answer, output);
     }
     at
+}
+
+// The same for a record whose number comes after no other.
+pub fn put_line(out: &mut [u8], at: usize, n: u64, answer: Answer, output: bool) -> usize
+    ensures { λ r. ⌜ Puts n answer output (now (out .entry)) (now (out .exit)) at r ⌝ }
+{
+    let mut text = [0u8; 20];
+    let digits = put_front(&mut text, n);
+    put_numbered(&mut *out, at, &text, digits, n, answer, output)
 }

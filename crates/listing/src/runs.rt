@@ -1,42 +1,59 @@
 // A run over the bytes of some records.
 use crate::Ran;
-use crate::Shown;
 use crate::lines;
+use crate::numbers;
 use bench::Bench;
-use bench::Outcome;
+use bench::Decoded;
+use bench::Touched;
+use controller::Controller;
+use seat::Seat;
 ghost use mathlib.Core.Path.{_≡_};
 ghost use Prim.Native.Nat.{_+_, _-_, _*_, _<_, min};
 ghost use lib.ListN.{length};
-ghost use Rattle.bench.specs.Steps.{outcome};
+ghost use Rattle.bench.specs.Parts.{parted, seatNamed, resets};
+ghost use Rattle.bench.specs.Seats.{chair};
 ghost use Rattle.listing.specs.Run.{Runs, numberEnd};
-ghost use Rattle.listing.specs.Places.{Shows, recordAt, recordCount};
+ghost use Rattle.listing.specs.Places.{recordAt, recordCount};
 
 const LAST_NUMBER: u64 = 18446744073709551615;
 
-// The outcome of the record that stands at `at`; one that the input cuts off is short.
-fn step_at(bench: Bench, input: &[u8], at: usize) -> Outcome
+// What the record that stands at `at` makes of its seat and the controller; one that the input cuts off is short.
+fn parts_at(seat: Seat, controller: Controller, input: &[u8], at: usize) -> Touched
     requires { ⌜ at < length (now input) ⌝ }
-    ensures { λ r. ⌜ r ≡ outcome bench (recordAt (now (input .entry)) at) ⌝ }
+    ensures { λ r. ⌜ r ≡ parted seat controller (recordAt (now (input .entry)) at) ⌝ }
 {
     if input.len() - at < 4 {
-        return bench.step_short();
+        return bench::short_parts(seat, controller);
     }
-    bench.step(input[at], input[at + 1], input[at + 2], input[at + 3])
+    bench::step_parts(
+        seat,
+        controller,
+        input[at],
+        input[at + 1],
+        input[at + 2],
+        input[at + 3],
+    )
 }
 
-// Answers the record that stands at `at`, if its line finds room at `place`.
-fn show(bench: Bench, n: u64, input: &[u8], at: usize, out: &mut [u8], place: usize) -> Shown
+// The chair of the seat that it names.
+fn chair_at(input: &[u8], at: usize) -> usize
     requires { ⌜ at < length (now input) ⌝ }
-    ensures { λ r. ⌜ Shows bench n (recordAt (now (input .entry)) at) (now (out .entry)) (now (out .exit)) place r ⌝ }
+    ensures { λ r. ⌜ r ≡ chair (seatNamed (recordAt (now (input .entry)) at)) ⌝ }
 {
-    let outcome = step_at(bench, input, at);
-    let answer = outcome.answer;
-    let next = lines::put_line(&mut *out, place, n, answer, outcome.output);
-    if next == place {
-        return Shown { bench, next };
+    if input.len() - at < 4 {
+        return bench::chair(0);
     }
-    let after = outcome.bench;
-    Shown { bench: after, next }
+    bench::chair(input[at + 1])
+}
+
+fn resets_at(input: &[u8], at: usize) -> bool
+    requires { ⌜ at < length (now input) ⌝ }
+    ensures { λ r. ⌜ r ≡ resets (recordAt (now (input .entry)) at) ⌝ }
+{
+    if input.len() - at < 4 {
+        return false;
+    }
+    input[at] == Decoded::MASTER_RESET
 }
 
 fn record_count(bytes: usize, last: bool) -> usize
@@ -86,14 +103,52 @@ pub fn run(mut bench: Bench, n: u64, input: &[u8], last: bool, out: &mut [u8]) -
     let count = numbered(record_count(input.len(), last), n);
     let mut k: usize = 0;
     let mut place: usize = 0;
+    let mut text = [0u8; 20];
+    let mut digits = numbers::put_front(&mut text, n);
     while k < count {
-        let shown = show(bench, n + k as u64, input, 4 * k, &mut *out, place);
-        let next = shown.next;
+        let number = n + k as u64;
+        digits = numbers::keep_front(&mut text, digits, number);
+        if resets_at(input, 4 * k) {
+            let outcome = bench.reset();
+            let answer = outcome.answer;
+            let next = lines::put_numbered(
+                &mut *out,
+                place,
+                &text,
+                digits,
+                number,
+                answer,
+                outcome.output,
+            );
+            if next == place {
+                return ran(bench, k, input.len(), place);
+            }
+            let after = outcome.bench;
+            bench = after;
+            place = next;
+            k += 1;
+            continue;
+        }
+        let at = chair_at(input, 4 * k);
+        let seat = bench.seats[at];
+        let touched = parts_at(seat, bench.controller, input, 4 * k);
+        let moved = touched.controller;
+        let answer = touched.answer;
+        let next = lines::put_numbered(
+            &mut *out,
+            place,
+            &text,
+            digits,
+            number,
+            answer,
+            moved.output(),
+        );
         if next == place {
             return ran(bench, k, input.len(), place);
         }
-        let after = shown.bench;
-        bench = after;
+        let stood = touched.seat;
+        bench.seats[at] = stood;
+        bench.controller = moved;
         place = next;
         k += 1;
     }

@@ -15,35 +15,37 @@ refusal-requires c κs = search needs
 value-requires : tie.Need-value-requires
 value-requires c κs = search needs
 
-put-decimal-requires : tie.Need-put-decimal-requires
-put-decimal-requires c κs = omega (arith, line-length (c .before .before .before .before .args .n) (c .before .before .before .before .args .answer) (c .before .before .before .before .args .output))
+put-number-requires : tie.Need-put-number-requires
+put-number-requires c κs = let a = c .before .before .before .before .args in (c .before .before .before .before .pre .0, omega (arith, line-length (a .n) (a .answer) (a .output)))
 
 slice-write-out : tie.Need-slice-write-out
-slice-write-out c = omega (arith, line-length (c .before .before .before .before .before .before .before .args .n) (c .before .before .before .before .before .before .before .args .answer) (c .before .before .before .before .before .before .before .args .output))
+slice-write-out c = let a = c .before .before .before .before .before .before .before .args in omega (arith, line-length (a .n) (a .answer) (a .output))
 
-add-put-decimal : tie.Need-add-put-decimal
-add-put-decimal c = omega (arith, line-length (c .before .before .before .before .before .before .before .before .args .n) (c .before .before .before .before .before .before .before .before .args .answer) (c .before .before .before .before .before .before .before .before .args .output))
+add-put-byte : tie.Need-add-put-byte
+add-put-byte c = let a = c .before .before .before .before .before .before .before .before .args in omega (arith, line-length (a .n) (a .answer) (a .output))
 
-wide-requires : tie.Need-wide-requires
-wide-requires c κs = search needs
-
-put-decimal-requires-2 : tie.Need-put-decimal-requires-2
-put-decimal-requires-2 c κs = rw (c .wide .ensures, c .before .before .before .before .before .before .before .refusal .ensures, length-set) (omega (arith, line-length (c .before .before .before .before .before .before .before .before .before .args .n) (c .before .before .before .before .before .before .before .before .before .args .answer) (c .before .before .before .before .before .before .before .before .before .args .output)))
+put-byte-requires : tie.Need-put-byte-requires
+put-byte-requires c κs =
+    let a = c .before .before .before .before .before .before .before .before .args in rw (c .before .before .before .before .before .before .refusal .ensures, length-set) (omega (arith, line-length (a .n) (a .answer) (a .output)))
 
 put-ending-requires : tie.Need-put-ending-requires
-put-ending-requires c κs = omega (arith, line-length (c .before .before .before .before .before .before .before .before .before .before .before .before .before .args .n) (c .before .before .before .before .before .before .before .before .before .before .before .before .before .args .answer) (c .before .before .before .before .before .before .before .before .before .before .before .before .before .args .output), ap (λ (x : ℕ). length (decimal x)) (c .before .before .before .before .wide .ensures ∙ c .before .before .before .before .before .before .before .before .before .before .before .refusal .ensures), length-set (c .before .before .before .before .before .before .before .before .put-decimal .last .0) (c .before .before .before .before .before .before .before .before .put-decimal .result) 32)
+put-ending-requires c κs =
+    let a = c .before .before .before .before .before .before .before .before .before .before .before .before .args in
+    omega (arith, line-length (a .n) (a .answer) (a .output), ap (λ (x : ℕ). length (decimal x)) (c .before .before .before .before .before .before .before .before .before .before .refusal .ensures), length-set (c .before .before .before .before .before .before .before .put-number .last .0) (c .before .before .before .before .before .before .before .put-number .result) 32)
 
 same-length : tie.Need-same-length
 same-length c = c .before .before .put-ending .kept .0
-    ∙ c .before .before .before .before .before .before .put-decimal2 .kept .0
-    ∙ length-set (c .before .before .before .before .before .before .before .before .before .before .before .put-decimal .last .0) (c .before .before .before .before .before .before .before .before .before .before .before .put-decimal .result) 32
-    ∙ c .before .before .before .before .before .before .before .before .before .before .before .put-decimal .kept .0
+    ∙ c .before .before .before .before .before .before .put-byte .kept .0
+    ∙ length-set (c .before .before .before .before .before .before .before .before .before .before .put-number .last .0) (c .before .before .before .before .before .before .before .before .before .before .put-number .result) 32
+    ∙ c .before .before .before .before .before .before .before .before .before .before .put-number .kept .0
 
 returns : tie.Need-returns
-returns c = (
-  omega (arith, line-length (c .before .before .before .before .before .before .before .before .before .before .before .before .before .before .before .before .args .n) (c .before .before .before .before .before .before .before .before .before .before .before .before .before .before .before .before .args .answer) (c .before .before .before .before .before .before .before .before .before .before .before .before .before .before .before .before .args .output), ap (λ (x : ℕ). length (decimal x)) (c .before .before .before .before .before .before .before .wide .ensures ∙ c .before .before .before .before .before .before .before .before .before .before .before .before .before .before .refusal .ensures)),
-  rw (c .before .before .put-ending .ensures .1, c .before .before .before .before .before .before .put-decimal2 .ensures .1, c .before .before .before .before .before .before .put-decimal2 .ensures .0, c .before .before .before .before .before .before .before .before .before .before .before .put-decimal .ensures .1, c .before .before .before .before .before .before .before .before .before .before .before .put-decimal .ensures .0, c .before .before .before .before .before .before .before .wide .ensures, c .before .before .before .before .before .before .before .before .before .before .before .before .before .before .refusal .ensures, c .before .before .before .before .before .before .before .before .before .before .before .before .before .value .ensures) (line-sets _ _ _ _ _),
-)
+returns c =
+    let a = c .before .before .before .before .before .before .before .before .before .before .before .before .before .before .before .args in (
+      omega (arith, line-length (a .n) (a .answer) (a .output), ap (λ (x : ℕ). length (decimal x)) (c .before .before .before .before .before .before .before .before .before .before .before .before .before .refusal .ensures)),
+      rw (c .before .before .put-ending .ensures .1, c .before .before .before .before .before .before .put-byte .ensures .1, c .before .before .before .before .before .before .put-byte .ensures .0, c .before .before .before .before .before .before .before .before .before .before .put-number .ensures .1, c .before .before .before .before .before .before .before .before .before .before .put-number .ensures .0, c .before .before .before .before .before .before .before .before .before .before .before .before .before .refusal .ensures, c .before .before .before .before .before .before .before .before .before .before .before .before .value .ensures)
+          (line-sets _ _ _ _ _),
+    )
 
 pub write-line-spec : {M : Type 1} → statement M
 write-line-spec =
@@ -51,11 +53,10 @@ write-line-spec =
     (tie.spec
     refusal-requires
     value-requires
-    put-decimal-requires
+    put-number-requires
     slice-write-out
-    add-put-decimal
-    wide-requires
-    put-decimal-requires-2
+    add-put-byte
+    put-byte-requires
     put-ending-requires
     same-length
     returns)

@@ -1,18 +1,24 @@
-use Prim.Native.Nat.{_≤_, _<_, _-_, min}
-use mathlib.Core.Path.{_≡_, refl, _∙_}
+use Prim.Native.Nat.{_+_, _≤_, _<_, _-_, min}
+use mathlib.Core.Path.{_≡_, refl, sym, _∙_}
 use native.Mathlib.Omega.{arith}
+use native.Mathlib.Nat.{add-zero, add-assoc}
 use lib.ListN.{length}
+use Rattle.bench.specs.PartLaws.{resets-met, parts-stored}
+use Rattle.listing.specs.Front.{Stays}
+use Rattle.listing.specs.DecimalLaws.{fronts-stay}
 use Rattle.listing.specs.Run.{recordsOf, numberEnd}
-use Rattle.listing.specs.RunLaws.{record-place, record-count, record-inside}
-use Rattle.listing.proofs.Turn.{Turn, start, turn, kept, full, too-short, over, finished}
+use Rattle.listing.specs.RunLaws.{record-place, record-count}
+use Rattle.listing.proofs.Turn.{Turn, ahead, start, turn, over, finished, stopped}
+use borrow.Author.Needs.{needs}
 use Rattle.listing.proofs.runs.run.Statement.{statement}
 use Rattle.listing.proofs.runs.run.Tie as tie
 
 abbrev Inv-loop : tie.InvT-loop
-Inv-loop bench₀ n input last out₀ count k₀ place₀ bench out k place = (k ≤ count) × Turn bench₀ n (recordsOf last input) out₀ bench out place k
+Inv-loop n input last out₀ bench₀ count k₀ place₀ text₀ digits₀ out bench k place text digits =
+    (k ≤ count) × Turn bench₀ n (recordsOf last input) out₀ bench out place k × Stays text digits (n + k)
 
 abbrev μ-loop : tie.MeasureT-loop
-μ-loop bench₀ n input last out₀ count k₀ place₀ bench out k place = count - k
+μ-loop n input last out₀ bench₀ count k₀ place₀ text₀ digits₀ out bench k place text digits = count - k
 
 record-count-requires : tie.Need-record-count-requires Inv-loop μ-loop
 record-count-requires c κs = tt
@@ -20,57 +26,136 @@ record-count-requires c κs = tt
 numbered-requires : tie.Need-numbered-requires Inv-loop μ-loop
 numbered-requires c κs = tt
 
+put-front-requires : tie.Need-put-front-requires Inv-loop μ-loop
+put-front-requires c κs = refl
+
 loop-holds : tie.Need-loop-holds Inv-loop μ-loop
-loop-holds c = (omega arith, start _ _ _ _)
+loop-holds c =
+    let f = c .put-front .ensures in
+    (omega arith, start _ _ _ _, record { size = f .size; fronts = λ within. rw add-zero f })
 
-add-show : tie.Need-add-show Inv-loop μ-loop
-add-show c = omega arith
+add-number : tie.Need-add-number Inv-loop μ-loop
+add-number c = let h = ahead (c .before .before .before .before .before .before .before .before .args .last) (c .before .before .before .before .before .before .before .before .args .input .now) _ _ _ _ (c .loop-test .taken) (c .before .before .before .before .numbered .ensures) (c .before .before .before .before .before .record-count .ensures) in omega (arith, h .2)
 
-mul-show : tie.Need-mul-show Inv-loop μ-loop
-mul-show c = omega (arith, record-inside (c .before .before .before .before .before .before .args .last) (length (c .before .before .before .before .before .before .args .input .now)) (c .before .loop .k) (omega arith))
+keep-front-requires : tie.Need-keep-front-requires Inv-loop μ-loop
+keep-front-requires c κs = c .before .before .loop .inv .2
 
-show-requires : tie.Need-show-requires Inv-loop μ-loop
-show-requires c κs = record-inside (c .before .before .before .before .before .before .before .args .last) (length (c .before .before .before .before .before .before .before .args .input .now)) (c .before .before .loop .k) (omega arith)
+mul-resets-at : tie.Need-mul-resets-at Inv-loop μ-loop
+mul-resets-at c = let h = ahead (c .before .before .before .before .before .before .before .before .before .before .args .last) (c .before .before .before .before .before .before .before .before .before .before .args .input .now) _ _ _ _ (c .before .before .loop-test .taken) (c .before .before .before .before .before .before .numbered .ensures) (c .before .before .before .before .before .before .before .record-count .ensures) in omega (arith, h .1)
+
+resets-at-requires : tie.Need-resets-at-requires Inv-loop μ-loop
+resets-at-requires c κs = let h = ahead (c .before .before .before .before .before .before .before .before .before .before .args .last) (c .before .before .before .before .before .before .before .before .before .before .args .input .now) _ _ _ _ (c .before .before .loop-test .taken) (c .before .before .before .before .before .before .numbered .ensures) (c .before .before .before .before .before .before .before .record-count .ensures) in h .1
+
+reset-requires : tie.Need-reset-requires Inv-loop μ-loop
+reset-requires c κs = tt
+
+put-numbered-requires : tie.Need-put-numbered-requires Inv-loop μ-loop
+put-numbered-requires c κs = c .before .before .before .before .before .keep-front .ensures
 
 ran-requires : tie.Need-ran-requires Inv-loop μ-loop
 ran-requires c κs = tt
 
 same-length : tie.Need-same-length Inv-loop μ-loop
-same-length c = omega arith
+same-length c = omega (arith, c .before .before .before .before .before .before .before .before .before .before .before .before .before .loop .inv .1 .same, c .before .before .before .out .given)
 
 returns : tie.Need-returns Inv-loop μ-loop
 returns c =
-    let more : c .before .before .before .before .before .before .before .loop .k < length (recordsOf (c .before .before .before .before .before .before .before .before .before .before .before .before .args .last) (c .before .before .before .before .before .before .before .before .before .before .before .before .args .input .now)) = omega (arith, record-count (c .before .before .before .before .before .before .before .before .before .before .before .before .args .last) (c .before .before .before .before .before .before .before .before .before .before .before .before .args .input .now)) in
-    let place : _ = record-place (c .before .before .before .before .before .before .before .before .before .before .before .before .args .last) (c .before .before .before .before .before .before .before .before .before .before .before .before .args .input .now) (c .before .before .before .before .before .before .before .loop .k) more in
+    let a = c .before .before .before .before .before .before .before .before .before .before .before .before .before .before .before .before .before .before .before .before .args in
+    let i = c .before .before .before .before .before .before .before .before .before .before .before .before .before .loop in
+    let h = ahead (a .last) (a .input .now) _ _ _ _ (c .before .before .before .before .before .before .before .before .before .before .before .before .loop-test .taken) (c .before .before .before .before .before .before .before .before .before .before .before .before .before .before .before .before .numbered .ensures) (c .before .before .before .before .before .before .before .before .before .before .before .before .before .before .before .before .before .record-count .ensures) in
     rw (c .ran .ensures)
-    (finished _ _ _ _ _ _ _ _ _ _ (c .before .before .before .before .before .before .before .loop .inv .1)
-    (full _ _ _ _ _ _ _ _ _ _ _ (c .before .before .before .before .before .before .before .loop .inv .1) (c .before .before .before .before .show .ensures) more place (c .before .if1 .taken))
-    (kept _ _ _ _ _ _ _ _ _ _ _ (c .before .before .before .before .before .before .before .loop .inv .1) (c .before .before .before .before .show .ensures) more place (c .before .if1 .taken))
-    (λ long fit. absurd (too-short _ _ _ _ _ _ _ _ _ _ _ (c .before .before .before .before .before .before .before .loop .inv .1) (c .before .before .before .before .show .ensures) more place (c .before .if1 .taken) long)))
+    (stopped _ _ _ _ _ _ _ _ _ _ _ _ _ (c .before .before .before .before .before .before .before .reset .ensures ∙ resets-met (i .bench) _ (sym (c .before .before .before .before .before .before .before .before .before .resets-at .ensures) ∙ c .before .before .before .before .before .before .before .before .if1 .taken)) (i .inv .1) (c .before .before .before .before .put-numbered .ensures) (h .0) (record-place (a .last) (a .input .now) (i .k) (h .0)) (c .before .if2 .taken))
 
 add-k : tie.Need-add-k Inv-loop μ-loop
-add-k c = omega arith
+add-k c = omega (arith, c .before .before .before .before .before .before .before .before .before .before .before .before .loop-test .taken)
 
 loop-less : tie.Need-loop-less Inv-loop μ-loop
-loop-less c = omega arith
+loop-less c = omega (arith, c .before .before .before .before .before .before .before .before .before .before .before .before .loop-test .taken)
 
 loop-again : tie.Need-loop-again Inv-loop μ-loop
 loop-again c =
-    let more : c .before .before .before .before .before .before .before .loop .k < length (recordsOf (c .before .before .before .before .before .before .before .before .before .before .before .before .args .last) (c .before .before .before .before .before .before .before .before .before .before .before .before .args .input .now)) = omega (arith, record-count (c .before .before .before .before .before .before .before .before .before .before .before .before .args .last) (c .before .before .before .before .before .before .before .before .before .before .before .before .args .input .now)) in (
-      omega arith,
-      turn _ _ _ _ _ _ _ _ _ _ _ (c .before .before .before .before .before .before .before .loop .inv .1) (c .before .before .before .before .show .ensures) more (record-place (c .before .before .before .before .before .before .before .before .before .before .before .before .args .last) (c .before .before .before .before .before .before .before .before .before .before .before .before .args .input .now) (c .before .before .before .before .before .before .before .loop .k) more) (c .before .if1 .left) (omega arith),
+    let a = c .before .before .before .before .before .before .before .before .before .before .before .before .before .before .before .before .before .before .before .before .args in
+    let i = c .before .before .before .before .before .before .before .before .before .before .before .before .before .loop in
+    let h = ahead (a .last) (a .input .now) _ _ _ _ (c .before .before .before .before .before .before .before .before .before .before .before .before .loop-test .taken) (c .before .before .before .before .before .before .before .before .before .before .before .before .before .before .before .before .numbered .ensures) (c .before .before .before .before .before .before .before .before .before .before .before .before .before .before .before .before .before .record-count .ensures) in
+    let kept-front = c .before .before .before .before .before .before .before .before .before .before .keep-front in (
+      omega (arith, c .before .before .before .before .before .before .before .before .before .before .before .before .loop-test .taken),
+      turn _ _ _ _ _ _ _ _ _ _ _ _ (c .before .before .before .before .before .before .before .reset .ensures ∙ resets-met (i .bench) _ (sym (c .before .before .before .before .before .before .before .before .before .resets-at .ensures) ∙ c .before .before .before .before .before .before .before .before .if1 .taken)) (i .inv .1) (c .before .before .before .before .put-numbered .ensures) (h .0) (record-place (a .last) (a .input .now) (i .k) (h .0)) (c .before .if2 .left) (h .2),
+      rw (← add-assoc (a .n) (i .k) 1) (fronts-stay _ _ _ (kept-front .ensures)),
     )
+
+mul-chair-at : tie.Need-mul-chair-at Inv-loop μ-loop
+mul-chair-at c = let h = ahead (c .before .before .before .before .before .before .before .before .before .before .before .before .args .last) (c .before .before .before .before .before .before .before .before .before .before .before .before .args .input .now) _ _ _ _ (c .before .before .before .before .loop-test .taken) (c .before .before .before .before .before .before .before .before .numbered .ensures) (c .before .before .before .before .before .before .before .before .before .record-count .ensures) in omega (arith, h .1)
+
+chair-at-requires : tie.Need-chair-at-requires Inv-loop μ-loop
+chair-at-requires c κs = let h = ahead (c .before .before .before .before .before .before .before .before .before .before .before .before .args .last) (c .before .before .before .before .before .before .before .before .before .before .before .before .args .input .now) _ _ _ _ (c .before .before .before .before .loop-test .taken) (c .before .before .before .before .before .before .before .before .numbered .ensures) (c .before .before .before .before .before .before .before .before .before .record-count .ensures) in h .1
+
+mul-seat : tie.Need-mul-seat Inv-loop μ-loop
+mul-seat c = search needs
+
+element-copy-out-seat : tie.Need-element-copy-out-seat Inv-loop μ-loop
+element-copy-out-seat c = search needs
+
+mul-parts-at : tie.Need-mul-parts-at Inv-loop μ-loop
+mul-parts-at c = let h = ahead (c .before .before .before .before .before .before .before .before .before .before .before .before .before .before .before .args .last) (c .before .before .before .before .before .before .before .before .before .before .before .before .before .before .before .args .input .now) _ _ _ _ (c .before .before .before .before .before .before .before .loop-test .taken) (c .before .before .before .before .before .before .before .before .before .before .before .numbered .ensures) (c .before .before .before .before .before .before .before .before .before .before .before .before .record-count .ensures) in omega (arith, h .1)
+
+parts-at-requires : tie.Need-parts-at-requires Inv-loop μ-loop
+parts-at-requires c κs = let h = ahead (c .before .before .before .before .before .before .before .before .before .before .before .before .before .before .before .args .last) (c .before .before .before .before .before .before .before .before .before .before .before .before .before .before .before .args .input .now) _ _ _ _ (c .before .before .before .before .before .before .before .loop-test .taken) (c .before .before .before .before .before .before .before .before .before .before .before .numbered .ensures) (c .before .before .before .before .before .before .before .before .before .before .before .before .record-count .ensures) in h .1
+
+output-requires : tie.Need-output-requires Inv-loop μ-loop
+output-requires c κs = tt
+
+put-numbered-requires-2 : tie.Need-put-numbered-requires-2 Inv-loop μ-loop
+put-numbered-requires-2 c κs = c .before .before .before .before .before .before .before .before .before .before .keep-front .ensures
 
 ran-requires-2 : tie.Need-ran-requires-2 Inv-loop μ-loop
 ran-requires-2 c κs = tt
 
 same-length-2 : tie.Need-same-length-2 Inv-loop μ-loop
-same-length-2 c = c .before .before .loop .inv .1 .same
+same-length-2 c = omega (arith, c .before .before .before .before .before .before .before .before .before .before .before .before .before .before .before .before .before .before .loop .inv .1 .same, c .before .before .before .out2 .given)
 
 returns-2 : tie.Need-returns-2 Inv-loop μ-loop
 returns-2 c =
-    let e : c .before .before .loop .k ≡ min (length (recordsOf (c .before .before .before .before .before .before .before .args .last) (c .before .before .before .before .before .before .before .args .input .now))) (numberEnd - c .before .before .before .before .before .before .before .args .n) = omega (arith, record-count (c .before .before .before .before .before .before .before .args .last) (c .before .before .before .before .before .before .before .args .input .now)) in
-    rw (c .ran2 .ensures) (finished _ _ _ _ _ _ _ _ _ _ (c .before .before .loop .inv .1) (over _ _ _ _ _ _ _ _ (c .before .before .loop .inv .1) e) refl (λ long fit. e ∙ omega arith))
+    let a = c .before .before .before .before .before .before .before .before .before .before .before .before .before .before .before .before .before .before .before .before .before .before .before .before .before .args in
+    let i = c .before .before .before .before .before .before .before .before .before .before .before .before .before .before .before .before .before .before .loop in
+    let h = ahead (a .last) (a .input .now) _ _ _ _ (c .before .before .before .before .before .before .before .before .before .before .before .before .before .before .before .before .before .loop-test .taken) (c .before .before .before .before .before .before .before .before .before .before .before .before .before .before .before .before .before .before .before .before .before .numbered .ensures) (c .before .before .before .before .before .before .before .before .before .before .before .before .before .before .before .before .before .before .before .before .before .before .record-count .ensures) in
+    rw (c .ran2 .ensures)
+    (stopped _ _ _ _ _ _ _ _ _ _ _ _ _ (parts-stored (i .bench) _ _ _ _ _ refl (c .before .before .before .before .before .before .before .before .before .before .before .before .chair-at .ensures) (c .before .before .before .before .before .before .before .before .before .parts-at .ensures) (c .before .before .before .before .before .output .ensures) (sym (c .before .before .before .before .before .before .before .before .before .before .before .before .before .before .resets-at .ensures) ∙ c .before .before .before .before .before .before .before .before .before .before .before .before .before .if1 .left)) (i .inv .1) (c .before .before .before .before .put-numbered2 .ensures) (h .0) (record-place (a .last) (a .input .now) (i .k) (h .0)) (c .before .if3 .taken))
+
+mul-stood : tie.Need-mul-stood Inv-loop μ-loop
+mul-stood c = search needs
+
+element-set-from-stood : tie.Need-element-set-from-stood Inv-loop μ-loop
+element-set-from-stood c = search needs
+
+add-k-2 : tie.Need-add-k-2 Inv-loop μ-loop
+add-k-2 c = let h = ahead (c .before .before .before .before .before .before .before .before .before .before .before .before .before .before .before .before .before .before .before .before .before .before .before .before .before .args .last) (c .before .before .before .before .before .before .before .before .before .before .before .before .before .before .before .before .before .before .before .before .before .before .before .before .before .args .input .now) _ _ _ _ (c .before .before .before .before .before .before .before .before .before .before .before .before .before .before .before .before .before .loop-test .taken) (c .before .before .before .before .before .before .before .before .before .before .before .before .before .before .before .before .before .before .before .before .before .numbered .ensures) (c .before .before .before .before .before .before .before .before .before .before .before .before .before .before .before .before .before .before .before .before .before .before .record-count .ensures) in omega (arith, h .1, c .before .before .before .before .before .before .before .before .before .before .before .before .before .before .before .before .before .before .before .before .before .before .before .before .before .good .1 .1 .0 .0)
+
+loop-less-2 : tie.Need-loop-less-2 Inv-loop μ-loop
+loop-less-2 c = omega (arith, c .before .before .before .before .before .before .before .before .before .before .before .before .before .before .before .before .before .loop-test .taken)
+
+loop-again-2 : tie.Need-loop-again-2 Inv-loop μ-loop
+loop-again-2 c =
+    let a = c .before .before .before .before .before .before .before .before .before .before .before .before .before .before .before .before .before .before .before .before .before .before .before .before .before .args in
+    let i = c .before .before .before .before .before .before .before .before .before .before .before .before .before .before .before .before .before .before .loop in
+    let h = ahead (a .last) (a .input .now) _ _ _ _ (c .before .before .before .before .before .before .before .before .before .before .before .before .before .before .before .before .before .loop-test .taken) (c .before .before .before .before .before .before .before .before .before .before .before .before .before .before .before .before .before .before .before .before .before .numbered .ensures) (c .before .before .before .before .before .before .before .before .before .before .before .before .before .before .before .before .before .before .before .before .before .before .record-count .ensures) in
+    let kept-front = c .before .before .before .before .before .before .before .before .before .before .before .before .before .before .before .keep-front in (
+      omega (arith, c .before .before .before .before .before .before .before .before .before .before .before .before .before .before .before .before .before .loop-test .taken),
+      turn _ _ _ _ _ _ _ _ _ _ _ _ (parts-stored (i .bench) _ _ _ _ _ refl (c .before .before .before .before .before .before .before .before .before .before .before .before .chair-at .ensures) (c .before .before .before .before .before .before .before .before .before .parts-at .ensures) (c .before .before .before .before .before .output .ensures) (sym (c .before .before .before .before .before .before .before .before .before .before .before .before .before .before .resets-at .ensures) ∙ c .before .before .before .before .before .before .before .before .before .before .before .before .before .if1 .left)) (i .inv .1) (c .before .before .before .before .put-numbered2 .ensures) (h .0) (record-place (a .last) (a .input .now) (i .k) (h .0)) (c .before .if3 .left) (h .2),
+      rw (← add-assoc (a .n) (i .k) 1) (fronts-stay _ _ _ (kept-front .ensures)),
+    )
+
+ran-requires-3 : tie.Need-ran-requires-3 Inv-loop μ-loop
+ran-requires-3 c κs = tt
+
+same-length-3 : tie.Need-same-length-3 Inv-loop μ-loop
+same-length-3 c = c .before .before .loop .inv .1 .same
+
+returns-3 : tie.Need-returns-3 Inv-loop μ-loop
+returns-3 c =
+    let a = c .before .before .before .before .before .before .before .before .before .args in
+    let i = c .before .before .loop in
+    let e : i .k ≡ min (length (recordsOf (a .last) (a .input .now))) (numberEnd - a .n) = omega (arith, record-count (a .last) (a .input .now)) in
+    rw (c .ran3 .ensures) (finished _ _ _ _ _ _ _ _ _ _ (i .inv .1) (over _ _ _ _ _ _ _ _ (i .inv .1) e) refl (λ long fit. e ∙ omega arith))
 
 pub run-spec : {M : Type 1} → statement M
 run-spec =
@@ -80,16 +165,36 @@ run-spec =
     μ-loop
     record-count-requires
     numbered-requires
+    put-front-requires
     loop-holds
-    add-show
-    mul-show
-    show-requires
+    add-number
+    keep-front-requires
+    mul-resets-at
+    resets-at-requires
+    reset-requires
+    put-numbered-requires
     ran-requires
     same-length
     returns
     add-k
     loop-less
     loop-again
+    mul-chair-at
+    chair-at-requires
+    mul-seat
+    element-copy-out-seat
+    mul-parts-at
+    parts-at-requires
+    output-requires
+    put-numbered-requires-2
     ran-requires-2
     same-length-2
-    returns-2)
+    returns-2
+    mul-stood
+    element-set-from-stood
+    add-k-2
+    loop-less-2
+    loop-again-2
+    ran-requires-3
+    same-length-3
+    returns-3)

@@ -6,11 +6,11 @@ use Rattle.listing.specs.DecimalLaws.{length-small, length-large, decima
 use Prim.Native.Nat.{ℕ, _<_}
 use borrow.Fn.Kinds.{In}
 use borrow.Fn.PlainCycle.{Measures, is, falls, and}
-use Rattle.listing.proofs.lines.places.Reads as places
-use Rattle.listing.proofs.lines.places.Kinds as places-kinds
-use Rattle.listing.proofs.lines.+places.Lts-places as places-lts
-use Rattle.listing.proofs.lines.+places.{statement}
-use Rattle.listing.proofs.lines.+places.Tie.{close}
+use Rattle.listing.proofs.numbers.places.Reads as places
+use Rattle.listing.proofs.numbers.places.Kinds as places-kinds
+use Rattle.listing.proofs.numbers.+places.Lts-places as places-lts
+use Rattle.listing.proofs.numbers.+places.{statement}
+use Rattle.listing.proofs.numbers.+places.Tie.{close}
 
 abbrev μ-places : Measures 0 places-kinds.ps ℕ
 μ-places κs a = a .0

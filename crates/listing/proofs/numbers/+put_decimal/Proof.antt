@@ -6,11 +6,11 @@ use Rattle.listing.proofs.Stores.{sets-append}
 use Prim.Native.Nat.{ℕ, _<_}
 use borrow.Fn.Kinds.{In}
 use borrow.Fn.PlainCycle.{Measures, is, falls, and}
-use Rattle.listing.proofs.lines.put_decimal.Reads as put-decimal
-use Rattle.listing.proofs.lines.put_decimal.Kinds as put-decimal-kinds
-use Rattle.listing.proofs.lines.+put_decimal.Lts-put_decimal as put-decimal-lts
-use Rattle.listing.proofs.lines.+put_decimal.{statement}
-use Rattle.listing.proofs.lines.+put_decimal.Tie.{close}
+use Rattle.listing.proofs.numbers.put_decimal.Reads as put-decimal
+use Rattle.listing.proofs.numbers.put_decimal.Kinds as put-decimal-kinds
+use Rattle.listing.proofs.numbers.+put_decimal.Lts-put_decimal as put-decimal-lts
+use Rattle.listing.proofs.numbers.+put_decimal.{statement}
+use Rattle.listing.proofs.numbers.+put_decimal.Tie.{close}
 
 abbrev μ-put-decimal : Measures 1 put-decimal-kinds.ps ℕ
 μ-put-decimal κs a = a .1 .1 .0
