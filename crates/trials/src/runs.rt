@@ -1,4 +1,4 @@
-// A stream over a bench from power-up, and the digest of what is seen.
+// A stream over a bench, and the digest of what is seen.
 use bench::Bench;
 use streams::Stream;
 
@@ -14,10 +14,10 @@ fn add_places(digest: u32, bench: Bench) -> u32 {
     sum
 }
 
-pub(crate) fn digest(seed: u32, count: u64) -> u32 {
+// The bench is the one that the stream starts from.
+pub(crate) fn digest(seed: u32, count: u64, set: u8, mut bench: Bench) -> u32 {
     let rows = streams::script_rows();
-    let mut stream = Stream::start(seed);
-    let mut bench = Bench::power_up();
+    let mut stream = Stream::start(seed, set);
     let mut sum: u32 = 0;
     for _ in 0..count {
         let made = stream.next(&rows);

@@ -6,19 +6,16 @@ use Rattle.trials.proofs.runs.digest.Tie as tie
 
 -- the count is a number of 64 bits, so that the one after a number below it is
 abbrev Inv-loop : tie.InvT-loop
-Inv-loop seed count rows stream₀ bench₀ sum₀ counter₀ stream bench sum counter = count < 18446744073709551616
+Inv-loop seed count set bench₀ rows stream₀ sum₀ counter₀ bench stream sum counter = count < 18446744073709551616
 
 abbrev μ-loop : tie.MeasureT-loop
-μ-loop seed count rows stream₀ bench₀ sum₀ counter₀ stream bench sum counter = count - counter
+μ-loop seed count set bench₀ rows stream₀ sum₀ counter₀ bench stream sum counter = count - counter
 
 script-rows-requires : tie.Need-script-rows-requires Inv-loop μ-loop
 script-rows-requires c κs = search needs
 
 start-requires : tie.Need-start-requires Inv-loop μ-loop
 start-requires c κs = search needs
-
-power-up-requires : tie.Need-power-up-requires Inv-loop μ-loop
-power-up-requires c κs = search needs
 
 loop-holds : tie.Need-loop-holds Inv-loop μ-loop
 loop-holds c = search needs
@@ -61,7 +58,6 @@ digest-spec =
     μ-loop
     script-rows-requires
     start-requires
-    power-up-requires
     loop-holds
     slice-aggregate-next
     next-requires
