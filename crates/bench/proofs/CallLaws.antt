@@ -8,14 +8,14 @@ use lib.Dec.{eqb}
 use lib.ListN.{getD-replicate}
 use borrow.Author.Tests.{eqb-true}
 use Rattle.base.specs.PickLaws.{pick-true, pick-false, either-way}
-use Rattle.channel.specs.Parts as channel
+use Rattle.seat.specs.Seats.{noSeat}
+use Rattle.seat.specs.Seats as one
 use Rattle.controller.specs.Turns.{outputOf}
-use Rattle.bench.specs.declared.Seat.{Seat}
 use Rattle.bench.specs.declared.Bench.{Bench}
 use Rattle.bench.specs.declared.Outcome.{Outcome}
 use Rattle.bench.specs.declared.Decoded.{Decoded}
 use Rattle.bench.specs.Events.{whole, early, decoded, refusedNumber}
-use Rattle.bench.specs.Seats.{chair, noSeat, seat}
+use Rattle.bench.specs.Seats.{seatCount, chair, seat}
 use Rattle.bench.specs.FrameLaws.{chair-small}
 use Rattle.bench.specs.OutcomeLaws.{outcome-output}
 use Rattle.bench.proofs.Bench.power_up.Reads as power-up
@@ -25,11 +25,9 @@ use Rattle.bench.proofs.Decoded.decode.Reads as decode
 use Rattle.bench.proofs.Decoded.refusal.Reads as number
 
 -- "Power-up": of the eight seats none is left out
-pub each-seat : (κ e : _) (b : Bench) (n : ℕ) → power-up.Post κ tt b e → seat b n .channel ≡ channel.powerUp
+pub each-seat : (κ e : _) (b : Bench) (n : ℕ) → power-up.Post κ tt b e → seat b n ≡ one.powerUp
 unfolding seat
-each-seat κ e b n p =
-    ap (λ (x : Bench). seat x n .channel) p
-    ∙ ap (λ (s : Seat). s .channel) (getD-replicate 8 (chair n) (record { channel = channel.powerUp }) noSeat (chair-small n))
+each-seat κ e b n p = ap (λ (x : Bench). seat x n) p ∙ getD-replicate seatCount (chair n) one.powerUp noSeat (chair-small n)
 
 -- "output after the event"
 pub output-told : (κ κ′ e e′ : _) (b : Bench) (k s n v : ℕ) (o : Outcome) (high : Bool)

@@ -11,10 +11,12 @@ use Rattle.receiver.specs.Receiver as receiver
 use Rattle.transmitter.specs.Transmitter as transmitter
 use Rattle.registers.specs.Registers as registers
 use Rattle.registers.specs.Words as settings
+use Rattle.registers.specs.Refusals as settled-by
 use Rattle.channel.specs.Parts as parts
 use Rattle.channel.specs.Status as status
 use Rattle.channel.specs.Effects as effects
 use Rattle.channel.specs.Steps as channel
+use Rattle.seat.specs.Steps as seat
 use Rattle.rank.specs.Rank as rank
 use Rattle.controller.specs.Turns as turns
 use Rattle.controller.specs.Words as words
@@ -32,7 +34,7 @@ use Rattle.base.specs.Answers.{refusalOf, valueOf}
 
 -- the outcomes of some records from power-up; it opens what a run computes with
 unfoldable pub run : List Record → List Outcome
-unfolding base-pick.pick base-bits.bit base-bits.digit base-bits.bits base-answers.refusalOf base-answers.valueOf base-refusals.firstHeld queue.oldest queue.anyMarked queue.marked receiver.noneQueued receiver.shownMarks receiver.someMarked receiver.restarted receiver.dataStands receiver.timeoutStands transmitter.noneWaiting transmitter.allSent transmitter.flagSetIf transmitter.enabled parts.masterReset settings.trigger registers.plainRegister registers.registerAt status.lsr status.msr status.lineTrouble status.modemChanged status.causes status.firstCause status.cause status.iir status.line effects.iirRead effects.byteAt effects.afterRead effects.ierWritten effects.afterWrite channel.registerAbove channel.noDivisor channel.arrivalWrong channel.levelsAbove channel.loopAsked channel.grounds channel.refusal channel.effect channel.stepped rank.before rank.aboveEvery rank.find rank.firstPlace turns.settled turns.requests turns.asks turns.hinders turns.grantable turns.outputOf turns.found turns.granted turns.taken turns.grant turns.acknowledged words.icw1 words.icw2 words.icw4 words.ended words.served words.plainEnd words.command words.ocw2 words.written0 words.written1 words.written words.shown refusing.refusal controller.step events.early events.eventOf events.decoded seats.seat seats.withSeat seats.lines seats.withLine refusals.grounds refusals.refusal steps.after steps.answerTo steps.outcome
+unfolding base-pick.pick base-bits.bit base-bits.digit base-bits.bits base-answers.refusalOf base-answers.valueOf base-refusals.firstOf base-refusals.refusalBy queue.oldest queue.anyMarked queue.marked receiver.noneQueued receiver.shownMarks receiver.someMarked receiver.restarted receiver.dataStands receiver.timeoutStands transmitter.noneWaiting transmitter.allSent transmitter.flagSetIf transmitter.enabled parts.masterReset settings.trigger registers.plainRegister registers.registerAt status.lsr status.msr status.lineTrouble status.modemChanged status.causes status.firstCause status.cause status.iir status.line effects.iirRead effects.byteAt effects.afterRead effects.ierWritten effects.afterWrite settled-by.grounds channel.effect seat.refusal seat.effect seat.stepped rank.before rank.aboveEvery rank.find rank.firstPlace turns.settled turns.requests turns.asks turns.hinders turns.grantable turns.outputOf turns.found turns.granted turns.taken turns.grant turns.acknowledged words.icw1 words.icw2 words.icw4 words.ended words.served words.plainEnd words.command words.ocw2 words.written0 words.written1 words.written words.shown refusing.grounds refusing.refusal controller.step events.early events.eventOf events.decoded seats.seat seats.withSeat seats.lines seats.withLine refusals.roomGrounds refusals.grounds refusals.refusal steps.after steps.answerTo steps.outcome
 run rs = outcomes seats.powerUp rs
 
 -- what each of them shows: its refusal number, its answer, the output after it

@@ -3,7 +3,7 @@ use Prim.Native.Nat.{ℕ}
 use mathlib.Core.Bool.{true, false}
 use mathlib.Core.Path.{_≡_, refl, ap, sym, _∙_}
 use Rattle.base.specs.Pick.{pick}
-use Rattle.base.specs.Refusals.{firstHeld}
+use Rattle.base.specs.Refusals.{firstOf, refusalBy}
 use Rattle.base.specs.declared.Answer.the-variants.{Vector, Spurious}
 use Rattle.controller.specs.declared.Stepped as controller
 use Rattle.controller.specs.State.{ready}
@@ -19,7 +19,7 @@ use Rattle.bench.specs.MeetLaws.{acknowledge-met, outcome-dealt}
 
 -- kind 8 is an acknowledge, whatever the other bytes
 decoded-8 : (s n v : ℕ) → decoded (whole 8 s n v) ≡ Taken Acknowledge
-unfolding decoded early eventOf firstHeld pick
+unfolding decoded early eventOf refusalBy firstOf pick
 decoded-8 s n v = refl
 
 module _ (b : Bench) (s n v : ℕ) where

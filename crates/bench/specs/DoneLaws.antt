@@ -7,22 +7,22 @@ use lib.Dec.{eqb}
 use lib.ListN.{length, getD}
 use Rattle.base.specs.Pick.{pick}
 use Rattle.base.specs.PickLaws.{pick-true, pick-through}
-use Rattle.channel.specs.declared.SeatEvent.{SeatEvent}
-use Rattle.channel.specs.declared.SeatEvent.the-variants.{Read, Write, Arrival, Levels, Time}
-use Rattle.channel.specs.declared.Stepped as channel
-use Rattle.channel.specs.Parts.{masterReset}
-use Rattle.channel.specs.Steps as seat-step
-use Rattle.channel.specs.Steps.{stepped}
+use Rattle.registers.specs.declared.SeatEvent.{SeatEvent}
+use Rattle.registers.specs.declared.SeatEvent.the-variants.{Read, Write, Arrival, Levels, Time}
+use Rattle.seat.specs.declared.Stepped.{Stepped}
+use Rattle.seat.specs.Seats.{reset}
+use Rattle.seat.specs.Steps as seat-step
+use Rattle.seat.specs.Steps.{stepped}
 use Rattle.controller.specs.declared.Controller.{Controller}
 use Rattle.controller.specs.Signals.{Signal, read, write, acknowledge}
 use Rattle.controller.specs.Steps.{step}
 use Rattle.controller.specs.RefusalLaws.{read-keeps}
-use Rattle.bench.specs.declared.Seat.{Seat}
 use Rattle.bench.specs.declared.Bench.{Bench}
 use Rattle.bench.specs.declared.Outcome.{Outcome}
 use Rattle.bench.specs.declared.Event.the-variants.{OfSeat}
 use Rattle.bench.specs.Events.{Record, whole, early, eventOf, event, decoded}
-use Rattle.bench.specs.Seats.{seat, withController}
+use Rattle.bench.specs.Refusals.{roomGrounds}
+use Rattle.bench.specs.Seats.{seatCount, seat, withController}
 use Rattle.bench.specs.Steps.{roomRefusal, answerTo, shown, met, outcome, dealt}
 use Rattle.bench.specs.MeetLaws.{read-met, write-met, acknowledge-met, outcome-dealt}
 use Rattle.bench.specs.FrameLaws.{own-seat, reset-seat}
@@ -55,29 +55,29 @@ is-met b r none = outcome-dealt b r ∙ ap (dealt b) (pick-true _ _ _ (ap (λ (x
 
 module _ (b : Bench) where
   -- the answer of a seat event is the seat's
-  seat-answer : (n : ℕ) (e : SeatEvent) → met b (OfSeat n e) .answer ≡ stepped (seat b n .channel) e .answer
-  unfolding met roomRefusal answerTo stepped
+  seat-answer : (n : ℕ) (e : SeatEvent) → met b (OfSeat n e) .answer ≡ stepped (seat b n) e .answer
+  unfolding met roomRefusal roomGrounds seat-step.refusal answerTo stepped
   seat-answer n e =
-      pick-through (λ (o : Outcome). o .answer) (eqb (seat-step.refusal (seat b n .channel) e) 0) _ _
-      ∙ sym (pick-through (λ (t : channel.Stepped). t .answer) (eqb (seat-step.refusal (seat b n .channel) e) 0) _ _)
+      pick-through (λ (o : Outcome). o .answer) (eqb (seat-step.refusal (seat b n) e) 0) _ _
+      ∙ sym (pick-through (λ (t : Stepped). t .answer) (eqb (seat-step.refusal (seat b n) e) 0) _ _)
 
-  -- "Each call touches the one seat it names": the seat after it is the channel's own step, and the answer is the channel's
-  pub seat-done : length (b .seats) ≡ 8 → (k s n v : ℕ) → k < 5 → s < 8
-      → (let t = stepped (seat b s .channel) (getD (seatEvents n v) k Time) in
-      (seat (outcome b (whole k s n v) .bench) s .channel ≡ t .channel) × (outcome b (whole k s n v) .answer ≡ t .answer))
-  seat-done eight k s n v kind within =
+  -- "Each call touches the one seat it names": the seat after it is the seat's own step, and the answer is the seat's
+  pub seat-done : length (b .seats) ≡ seatCount → (k s n v : ℕ) → k < 5 → s < seatCount
+      → (let t = stepped (seat b s) (getD (seatEvents n v) k Time) in
+      (seat (outcome b (whole k s n v) .bench) s ≡ t .seat) × (outcome b (whole k s n v) .answer ≡ t .answer))
+  seat-done all k s n v kind within =
       let is : outcome b (whole k s n v) ≡ met b (OfSeat s (getD (seatEvents n v) k Time)) =
       is-met b (whole k s n v) (taken-seat b k s n v kind within) ∙ ap (met b) (seat-kind k s n v kind) in (
-        ap (λ (o : Outcome). seat (o .bench) s .channel) is ∙ ap (λ (t : Seat). t .channel) (own-seat b eight s _),
+        ap (λ (o : Outcome). seat (o .bench) s) is ∙ own-seat b all s _,
         ap (λ (o : Outcome). o .answer) is ∙ seat-answer s _,
       )
 
   -- "master reset of all eight seats": each of them
-  pub reset-done : length (b .seats) ≡ 8 → (m s n v : ℕ) → seat (outcome b (whole 5 s n v) .bench) m .channel ≡ masterReset (seat b m .channel)
+  pub reset-done : length (b .seats) ≡ seatCount → (m s n v : ℕ) → seat (outcome b (whole 5 s n v) .bench) m ≡ reset (seat b m)
   unfolding eventOf pick
-  reset-done eight m s n v =
-      ap (λ (o : Outcome). seat (o .bench) m .channel) (is-met b (whole 5 s n v) (taken-other b 5 s n v (omega arith) (omega arith)))
-      ∙ ap (λ (t : Seat). t .channel) (reset-seat b eight m)
+  reset-done all m s n v =
+      ap (λ (o : Outcome). seat (o .bench) m) (is-met b (whole 5 s n v) (taken-other b 5 s n v (omega arith) (omega arith)))
+      ∙ reset-seat b all m
 
   -- a controller event is one signal to the controller and the answer to it, and touches no seat
   abbrev pub signalled : Signal → Outcome

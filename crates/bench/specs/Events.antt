@@ -1,48 +1,43 @@
 -- A record of four bytes, and the event that it stands for.
 use Prim.Native.Nat.{ℕ}
-use mathlib.Core.Bool.{Bool, true, false, _&&_}
-use mathlib.Core.List.{[], _∷_}
-use lib.Dec.{ltb, eqb}
+use mathlib.Core.Bool.{Bool, true, _&&_}
+use mathlib.Core.List.{List, [], _∷_}
+use lib.Dec.{ltb, leb, eqb}
 use Rattle.base.specs.Pick.{pick}
-use Rattle.base.specs.Refusals.{firstHeld}
-use Rattle.channel.specs.declared.SeatEvent.the-variants.{Read, Write, Arrival, Levels, Time}
+use Rattle.base.specs.Refusals.{Ground, refusalBy}
+use Rattle.registers.specs.declared.SeatEvent.the-variants.{Read, Write, Arrival, Levels, Time}
 use Rattle.bench.specs.declared.Event.{Event}
 use Rattle.bench.specs.declared.Event.the-variants.{OfSeat, MasterReset, ReadController, WriteController, Acknowledge}
 use Rattle.bench.specs.declared.Decoded.{Decoded}
 use Rattle.bench.specs.declared.Decoded.the-variants.{Taken, Refused}
+use Rattle.bench.specs.Seats.{seatCount}
 
 -- "An event is a four-byte record: kind, seat, number, value."; or a "record of 1 to 3 bytes at the end of input"
 pub data Record : Type 0 where
   whole : ℕ → ℕ → ℕ → ℕ → Record
   short : Record
 
--- "record of 1 to 3 bytes at the end of input"
-abbrev pub isShort : Record → Bool
-isShort (whole kind seat number value) = false
-isShort short = true
-
 -- "kind above 8"
-abbrev pub kindAbove : Record → Bool
-kindAbove (whole kind seat number value) = ltb 8 kind
-kindAbove short = false
+abbrev pub kindAbove : ℕ → Bool
+kindAbove kind = ltb 8 kind
 
 -- the kinds that use the seat: "read register", "write register", "character arrives", "modem inputs", "one character time passes"
 abbrev pub usesSeat : ℕ → Bool
 usesSeat kind = ltb kind 5
 
--- "seat (or line) above 7"
-abbrev pub seatAbove : Record → Bool
-seatAbove (whole kind seat number value) = usesSeat kind && ltb 7 seat
-seatAbove short = false
+-- "seat (or line) above 7": a number that no seat has
+abbrev pub seatAbove : ℕ → Bool
+seatAbove seat = leb seatCount seat
 
--- what decoding refuses, three of the four that come first: "The order is 4, 3, 1, 2"; 2 is the rooms' own
+-- what decoding refuses: "record of 1 to 3 bytes at the end of input"; "kind above 8"; and the seat, where the kind uses it. The next in the
+-- order, "register above 7, port above 1", is the rooms' own
+abbrev pub earlyGrounds : Record → List Ground
+earlyGrounds (whole kind seat number value) =
+    record { number = 3; holds = kindAbove kind } ∷ record { number = 1; holds = usesSeat kind && seatAbove seat } ∷ []
+earlyGrounds short = record { number = 4; holds = true } ∷ []
+
 unfoldable pub early : Record → ℕ
-early r =
-    firstHeld
-    (record { number = 4; holds = isShort r }
-    ∷ record { number = 3; holds = kindAbove r }
-    ∷ record { number = 1; holds = seatAbove r }
-    ∷ [])
+early r = refusalBy (earlyGrounds r)
 
 -- "0 read register seat, register, - the byte"; "1 write register seat, register, byte 000";
 -- "2 character arrives seat, marks (1 parity, 2 framing, 4 break), data 000";

@@ -10,21 +10,27 @@ use lib.Dec.{eqb}
 use lib.ListN.{length, getD, set, length-set}
 use lib.Seq.{getD-set-same, getD-set-other}
 use borrow.Author.Tests.{eqb-true, eqb-false}
+use Rattle.base.specs.Pick.{pick}
+use Rattle.base.specs.Refusals.{firstOf, refusalBy}
 use Rattle.base.specs.PickLaws.{pick-true, pick-false, pick-through, pick-same, either-way}
-use Rattle.channel.specs.declared.Stepped as channel
-use Rattle.channel.specs.declared.SeatEvent.{SeatEvent}
-use Rattle.channel.specs.Steps.{refusal, stepped}
+use Rattle.registers.specs.declared.SeatEvent.{SeatEvent}
+use Rattle.seat.specs.declared.Seat.{Seat}
+use Rattle.seat.specs.declared.Stepped.{Stepped}
+use Rattle.seat.specs.Seats.{noSeat, reset}
+use Rattle.seat.specs.Steps.{refusal, stepped}
+use Rattle.seat.specs.Acts.{actedAll}
 use Rattle.controller.specs.declared.Controller.{Controller}
-use Rattle.bench.specs.declared.Seat.{Seat}
 use Rattle.bench.specs.declared.Bench.{Bench}
 use Rattle.bench.specs.declared.Touched.{Touched}
 use Rattle.bench.specs.declared.Outcome.{Outcome}
 use Rattle.bench.specs.declared.Event.the-variants.{OfSeat, MasterReset, ReadController, WriteController, Acknowledge}
 use Rattle.bench.specs.declared.Decoded.{Decoded}
 use Rattle.bench.specs.declared.Decoded.the-variants.{Taken, Refused}
-use Rattle.bench.specs.Seats.{noSeat, chair, seat, withSeat, seatReset}
-use Rattle.bench.specs.Steps.{roomRefusal, after, met, touched, dealt}
-use Rattle.bench.specs.Runs.{actedAll, own}
+use Rattle.bench.specs.Refusals.{roomGrounds}
+use Rattle.bench.specs.Seats.{seatCount, chair, seat, withSeat}
+use Rattle.bench.specs.Steps.{roomRefusal, after, met, dealt}
+use Rattle.bench.specs.Parts.{touched}
+use Rattle.bench.specs.Runs.{own}
 use Rattle.bench.specs.MeetLaws.{seat-met}
 
 -- ---- lists of seats, of any length
@@ -38,41 +44,41 @@ pub mapped-length : {A B : Type 0} (f : A → B) (l : List A) → length (map f 
 mapped-length f [] = refl
 mapped-length f (x ∷ l) = ap suc (mapped-length f l)
 
-pub chair-small : (n : ℕ) → chair n < 8
+pub chair-small : (n : ℕ) → chair n < seatCount
 chair-small n = omega arith
 
 -- "Eight seats, 0 to 7.": each has a chair of its own
-pub chair-own : (n : ℕ) → n < 8 → chair n ≡ n
+pub chair-own : (n : ℕ) → n < seatCount → chair n ≡ n
 chair-own n seat = omega arith
 
 -- ---- an event on a seat
 
--- the seat that is touched is the channel's step, refused or not
-touched-seat : (s : Seat) (c : Controller) (n : ℕ) (e : SeatEvent) → touched s c n e .seat ≡ record { channel = stepped (s .channel) e .channel }
+-- the seat that is touched is the seat's own step, refused or not
+touched-seat : (s : Seat) (c : Controller) (n : ℕ) (e : SeatEvent) → touched s c n e .seat ≡ stepped s e .seat
 unfolding touched stepped
 touched-seat s c n e =
-    pick-through (λ (t : Touched). t .seat) (eqb (refusal (s .channel) e) 0) _ _
-    ∙ sym (pick-through {B = Seat} (λ (r : channel.Stepped). record { channel = r .channel }) (eqb (refusal (s .channel) e) 0) _ _)
+    pick-through (λ (t : Touched). t .seat) (eqb (refusal s e) 0) _ _
+    ∙ sym (pick-through (λ (t : Stepped). t .seat) (eqb (refusal s e) 0) _ _)
 
 -- the seats after it: one place is new
 pub seats-after : (b : Bench) (n : ℕ) (e : SeatEvent)
-    → met b (OfSeat n e) .bench .seats ≡ set (b .seats) (chair n) (record { channel = stepped (seat b n .channel) e .channel })
+    → met b (OfSeat n e) .bench .seats ≡ set (b .seats) (chair n) (stepped (seat b n) e .seat)
 unfolding withSeat
 seats-after b n e =
     ap (λ (o : Outcome). o .bench .seats) (sym (seat-met b n e)) ∙ ap (set (b .seats) (chair n)) (touched-seat (seat b n) (b .controller) n e)
 
-module _ (b : Bench) (eight : length (b .seats) ≡ 8) where
+module _ (b : Bench) (all : length (b .seats) ≡ seatCount) where
   within : (n : ℕ) → chair n < length (b .seats)
-  within n = subst (λ (k : ℕ). chair n < k) (sym eight) (chair-small n)
+  within n = subst (λ (k : ℕ). chair n < k) (sym all) (chair-small n)
 
-  pub own-seat : (n : ℕ) (e : SeatEvent) → seat (met b (OfSeat n e) .bench) n ≡ record { channel = stepped (seat b n .channel) e .channel }
+  pub own-seat : (n : ℕ) (e : SeatEvent) → seat (met b (OfSeat n e) .bench) n ≡ stepped (seat b n) e .seat
   unfolding seat
   own-seat n e = ap (λ l. getD l (chair n) noSeat) (seats-after b n e) ∙ getD-set-same (b .seats) (chair n) _ noSeat (within n)
 
   -- a master reset acts on each seat by itself
-  pub reset-seat : (n : ℕ) → seat (met b MasterReset .bench) n ≡ seatReset (seat b n)
-  unfolding met roomRefusal after seat
-  reset-seat n = ap (λ (o : Outcome). getD (o .bench .seats) (chair n) noSeat) (pick-true _ _ _ refl) ∙ mapped-at seatReset (b .seats) (chair n) noSeat noSeat (within n)
+  pub reset-seat : (n : ℕ) → seat (met b MasterReset .bench) n ≡ reset (seat b n)
+  unfolding met roomRefusal roomGrounds refusalBy firstOf pick after seat
+  reset-seat n = mapped-at reset (b .seats) (chair n) noSeat noSeat (within n)
 
 -- an event on a seat leaves the others
 pub other-seat : (b : Bench) (n m : ℕ) (e : SeatEvent) → (chair m ≡ chair n → ⊥) → seat (met b (OfSeat n e) .bench) m ≡ seat b m
@@ -96,8 +102,8 @@ module _ (b : Bench) where
 -- ---- any decoded record, seen from one seat
 
 reset-length : (b : Bench) → length (met b MasterReset .bench .seats) ≡ length (b .seats)
-unfolding met roomRefusal after
-reset-length b = ap (λ (o : Outcome). length (o .bench .seats)) (pick-true _ _ _ refl) ∙ mapped-length seatReset (b .seats)
+unfolding met roomRefusal roomGrounds refusalBy firstOf pick after
+reset-length b = mapped-length reset (b .seats)
 
 -- how many seats there are stays
 pub as-many : (b : Bench) (d : Decoded) → length (dealt b d .bench .seats) ≡ length (b .seats)
@@ -110,31 +116,30 @@ as-many b (Taken Acknowledge) = ap length (acknowledge-leaves b)
 as-many b (Refused number) = refl
 
 -- the seats decide what stands at each
-seat-by-seats : (a b : Bench) (n : ℕ) → a .seats ≡ b .seats → seat a n .channel ≡ seat b n .channel
+seat-by-seats : (a b : Bench) (n : ℕ) → a .seats ≡ b .seats → seat a n ≡ seat b n
 unfolding seat
-seat-by-seats a b n e = ap (λ l. getD l (chair n) noSeat .channel) e
+seat-by-seats a b n e = ap (λ l. getD l (chair n) noSeat) e
 
 seat-by-chair : (b : Bench) (m n : ℕ) → chair m ≡ chair n → seat b m ≡ seat b n
 unfolding seat
 seat-by-chair b m n e = ap (λ (k : ℕ). getD (b .seats) k noSeat) e
 
 -- seat n after a record is seat n after what the record does to seat n
-pub seat-acts : (b : Bench) → length (b .seats) ≡ 8 → (n : ℕ) (d : Decoded)
-    → seat (dealt b d .bench) n .channel ≡ actedAll (seat b n .channel) (own (chair n) d)
+pub seat-acts : (b : Bench) → length (b .seats) ≡ seatCount → (n : ℕ) (d : Decoded)
+    → seat (dealt b d .bench) n ≡ actedAll (seat b n) (own (chair n) d)
 unfolding dealt own
-seat-acts b eight n (Taken (OfSeat m e)) =
+seat-acts b all n (Taken (OfSeat m e)) =
     ⊎-elim
     (λ (here : eqb (chair m) (chair n) ≡ true).
     let same : chair m ≡ chair n = eqb-true _ _ here in
-    ap (λ (s : Seat). s .channel) (seat-by-chair (met b (OfSeat m e) .bench) n m (sym same) ∙ own-seat b eight m e)
-    ∙ ap (λ (s : Seat). stepped (s .channel) e .channel) (seat-by-chair b m n same)
-    ∙ sym (ap (actedAll (seat b n .channel)) (pick-true _ _ _ here)))
+    seat-by-chair (met b (OfSeat m e) .bench) n m (sym same) ∙ own-seat b all m e
+    ∙ ap (λ (s : Seat). stepped s e .seat) (seat-by-chair b m n same)
+    ∙ sym (ap (actedAll (seat b n)) (pick-true _ _ _ here)))
     (λ (elsewhere : eqb (chair m) (chair n) ≡ false).
-    ap (λ (s : Seat). s .channel) (other-seat b m n e (λ z. eqb-false _ _ elsewhere (sym z)))
-    ∙ sym (ap (actedAll (seat b n .channel)) (pick-false _ _ _ elsewhere)))
+    other-seat b m n e (λ z. eqb-false _ _ elsewhere (sym z)) ∙ sym (ap (actedAll (seat b n)) (pick-false _ _ _ elsewhere)))
     (either-way (eqb (chair m) (chair n)))
-seat-acts b eight n (Taken MasterReset) = ap (λ (s : Seat). s .channel) (reset-seat b eight n)
-seat-acts b eight n (Taken (ReadController port)) = seat-by-seats _ b n (read-leaves b port)
-seat-acts b eight n (Taken (WriteController port byte)) = seat-by-seats _ b n (write-leaves b port byte)
-seat-acts b eight n (Taken Acknowledge) = seat-by-seats _ b n (acknowledge-leaves b)
-seat-acts b eight n (Refused number) = refl
+seat-acts b all n (Taken MasterReset) = reset-seat b all n
+seat-acts b all n (Taken (ReadController port)) = seat-by-seats _ b n (read-leaves b port)
+seat-acts b all n (Taken (WriteController port byte)) = seat-by-seats _ b n (write-leaves b port byte)
+seat-acts b all n (Taken Acknowledge) = seat-by-seats _ b n (acknowledge-leaves b)
+seat-acts b all n (Refused number) = refl

@@ -14,7 +14,7 @@ use Rattle.base.specs.PickLaws.{pick-true, pick-false, either-way}
 use Rattle.base.specs.Bits.{bit}
 use Rattle.base.specs.BitLaws.{bit-bits}
 use Rattle.rank.specs.Sets.{has}
-use Rattle.channel.specs.Status.{line}
+use Rattle.seat.specs.Seats.{noSeat, line}
 use Rattle.controller.specs.declared.Controller.{Controller}
 use Rattle.controller.specs.declared.Stepped as controller
 use Rattle.controller.specs.Signals.{Signal, levels, acknowledge}
@@ -25,7 +25,7 @@ use Rattle.bench.specs.declared.Bench.{Bench}
 use Rattle.bench.specs.declared.Outcome.{Outcome}
 use Rattle.bench.specs.Events.{Record, whole, short, eventOf, event}
 use Rattle.bench.specs.Refusals.{refusal}
-use Rattle.bench.specs.Seats.{noSeat, seat, seatLine, lines}
+use Rattle.bench.specs.Seats.{seatCount, seat, lines}
 use Rattle.bench.specs.Steps.{after, outcome}
 use Rattle.bench.specs.FrameLaws.{mapped-at}
 use Rattle.bench.specs.EdgeLaws.{short-refused, kind-refused}
@@ -90,9 +90,9 @@ module _ (b : Bench) (w : Wired b) where
       (either-way (eqb (refusal b (whole k s n v)) 0))
 
 -- "Seat n is one serial channel; its interrupt output is line n of one 8259A."
-pub line-of-seat : (b : Bench) (n : ℕ) → length (b .seats) ≡ 8 → n < 8 → has (lines (b .seats)) n ≡ line (seat b n .channel)
+pub line-of-seat : (b : Bench) (n : ℕ) → length (b .seats) ≡ seatCount → n < seatCount → has (lines (b .seats)) n ≡ line (seat b n)
 unfolding lines seat
-line-of-seat b n eight small =
-    ap (λ (k : ℕ). bit k (lines (b .seats))) (mod-eq-of-lt small) ∙ bit-bits n (map seatLine (b .seats))
-    ∙ mapped-at seatLine (b .seats) n noSeat false (subst (λ (k : ℕ). n < k) (sym eight) small)
-    ∙ ap (λ (k : ℕ). seatLine (getD (b .seats) k noSeat)) (sym (mod-eq-of-lt small))
+line-of-seat b n all small =
+    ap (λ (k : ℕ). bit k (lines (b .seats))) (mod-eq-of-lt small) ∙ bit-bits n (map line (b .seats))
+    ∙ mapped-at line (b .seats) n noSeat false (subst (λ (k : ℕ). n < k) (sym all) small)
+    ∙ ap (λ (k : ℕ). line (getD (b .seats) k noSeat)) (sym (mod-eq-of-lt small))

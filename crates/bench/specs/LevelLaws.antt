@@ -1,22 +1,21 @@
 -- The lines as a set: one seat anew moves one line.
 use Prim.Native.Nat.{ℕ, zero, suc, _+_, _*_, _/_, _%_, _^_, _<_, min, max}
-use mathlib.Core.Bool.{Bool, true, false, not, and-false}
+use mathlib.Core.Bool.{Bool, true, false}
 use mathlib.Core.List.{List, [], _∷_, map}
 use mathlib.Core.Path.{_≡_, refl, ap, ap₂, sym, subst, _∙_}
-use native.Mathlib.Nat.{le-of-suc-le-suc, not-suc-le-zero, pow-succ', mod-eq-of-lt}
+use native.Mathlib.Nat.{le-of-suc-le-suc, not-suc-le-zero, pow-succ'}
 use native.Mathlib.Omega.{arith}
-use lib.Dec.{eqb}
 use lib.Bits.{bitOr, bitAnd, bitXor, or-step, and-step, xor-step, or-zero-r, and-zero-r, xor-zero-r, differ}
 use lib.ListN.{length, set}
 use Rattle.base.specs.Pick.{pick}
-use Rattle.base.specs.Bits.{bit, digit, bits}
+use Rattle.base.specs.Bits.{digit, bits}
 use Rattle.base.specs.BitLaws.{digit-le}
-use Rattle.channel.specs.declared.Channel.{Channel}
-use Rattle.channel.specs.Parts.{masterReset}
-use Rattle.channel.specs.Status.{cause, line}
-use Rattle.bench.specs.declared.Seat.{Seat}
+use Rattle.seat.specs.declared.Seat.{Seat}
+use Rattle.seat.specs.Seats.{line, reset}
+use Rattle.seat.specs.ActLaws as one
 use Rattle.rank.specs.Sets.{join, without}
-use Rattle.bench.specs.Seats.{seatLine, lines, withLine, seatReset}
+use Rattle.rank.specs.Sets as sets
+use Rattle.bench.specs.Seats.{lines, withLine}
 use Rattle.bench.specs.FrameLaws.{mapped-length}
 
 -- a number and its last bit
@@ -107,21 +106,16 @@ unfolding pick
 bit-anew l n true h = set-bit l n h
 bit-anew l n false h = clear-bit l n h
 
--- one seat anew moves its own line, and no other
-pub line-anew : (seats : List Seat) (n : ℕ) (s : Seat) → n < 8 → length seats ≡ 8 → lines (set seats n s) ≡ withLine (lines seats) n (seatLine s)
+-- of any number of seats: one seat anew moves its own line, and no other, where its number is a line's
+pub line-anew : (seats : List Seat) (n : ℕ) (s : Seat) → sets.line n ≡ n → n < length seats → lines (set seats n s) ≡ withLine (lines seats) n (line s)
 unfolding lines withLine
-line-anew seats n s small eight =
-    ap bits (mapped-set seatLine seats n s)
-    ∙ bit-anew (map seatLine seats) n (seatLine s) (subst (λ (k : ℕ). n < k) (sym (mapped-length seatLine seats ∙ eight)) small)
-    ∙ ap (λ (k : ℕ). pick (seatLine s) (join (bits (map seatLine seats)) (2 ^ k)) (without (bits (map seatLine seats)) (2 ^ k))) (sym (mod-eq-of-lt small))
+line-anew seats n s own inside =
+    ap bits (mapped-set line seats n s)
+    ∙ bit-anew (map line seats) n (line s) (subst (λ (k : ℕ). n < k) (sym (mapped-length line seats)) inside)
+    ∙ ap (λ (k : ℕ). pick (line s) (join (bits (map line seats)) (2 ^ k)) (without (bits (map line seats)) (2 ^ k))) (sym own)
 
--- a master reset clears MCR bit 3, without which no line is high
-silent : (c : Channel) → line (masterReset c) ≡ false
-unfolding line masterReset bit
-silent c = and-false (not (eqb (cause (masterReset c)) 0x01))
-
--- so after a master reset no line is high
-pub reset-silent : (seats : List Seat) → lines (map seatReset seats) ≡ 0
+-- after a master reset no line is high
+pub reset-silent : (seats : List Seat) → lines (map reset seats) ≡ 0
 unfolding lines bits digit pick
 reset-silent [] = refl
-reset-silent (s ∷ seats) = ap₂ (λ (b : Bool) (m : ℕ). digit b + 2 * m) (silent (s .channel)) (reset-silent seats)
+reset-silent (s ∷ seats) = ap₂ (λ (b : Bool) (m : ℕ). digit b + 2 * m) (one.reset-silent s) (reset-silent seats)

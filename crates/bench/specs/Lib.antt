@@ -2,12 +2,15 @@ pub mod Events
 pub mod Seats
 pub mod Refusals
 pub mod Steps
+pub mod Parts
+pub mod RefusalLaws
 pub mod MeetLaws
 pub mod Valid
 pub mod Wired
 pub mod Uses
 pub mod Runs
 pub mod UsesLaws
+pub mod PartLaws
 pub mod FrameLaws
 pub mod RunLaws
 pub mod LevelLaws

@@ -7,7 +7,7 @@ use borrow.Author.Tests.{eqb-true, eq-eqb, ne-eqb}
 use Rattle.base.specs.PickLaws.{pick-true, pick-false, either-way}
 use Rattle.base.specs.Answers.{refusalOf}
 use Rattle.base.specs.declared.Answer.the-variants as answer
-use Rattle.channel.specs.StepLaws.{effect-taken}
+use Rattle.seat.specs.StepLaws.{effect-taken}
 use Rattle.controller.specs.declared.Controller.{Controller}
 use Rattle.controller.specs.declared.Turn.{Turn}
 use Rattle.controller.specs.declared.Turn.the-variants.{Line, Nobody}
@@ -30,7 +30,7 @@ turn-taken c Nobody = refl
 -- what is done is answered with no refusal
 pub answer-taken : (b : Bench) (e : Event) → refusalOf (answerTo b e) ≡ 0
 unfolding answerTo refusalOf acknowledged
-answer-taken b (OfSeat n e) = effect-taken (seat b n .channel) e
+answer-taken b (OfSeat n e) = effect-taken (seat b n) e
 answer-taken b MasterReset = refl
 answer-taken b (ReadController port) = refl
 answer-taken b (WriteController port byte) = refl

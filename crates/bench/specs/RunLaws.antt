@@ -3,13 +3,15 @@ use Prim.Native.Nat.{ℕ}
 use mathlib.Core.List.{List, [], _∷_, _++_}
 use mathlib.Core.Path.{_≡_, refl, ap, sym, _∙_}
 use lib.ListN.{length}
-use Rattle.channel.specs.declared.Channel.{Channel}
+use Rattle.seat.specs.declared.Seat.{Seat}
+use Rattle.seat.specs.Acts.{actedAll}
+use Rattle.seat.specs.ActLaws.{acted-parts}
 use Rattle.bench.specs.declared.Bench.{Bench}
 use Rattle.bench.specs.declared.Outcome.{Outcome}
 use Rattle.bench.specs.Events.{Record, decoded}
-use Rattle.bench.specs.Seats.{chair, seat}
+use Rattle.bench.specs.Seats.{seatCount, chair, seat}
 use Rattle.bench.specs.Steps.{outcome}
-use Rattle.bench.specs.Runs.{Act, afterAll, outcomes, acted, actedAll, own, ownAll}
+use Rattle.bench.specs.Runs.{afterAll, outcomes, own, ownAll}
 use Rattle.bench.specs.MeetLaws.{outcome-dealt}
 use Rattle.bench.specs.FrameLaws.{as-many, seat-acts}
 
@@ -29,19 +31,15 @@ after-one b rs r = after-parts b rs (r ∷ [])
 pub outcomes-one : (b : Bench) (rs : List Record) (r : Record) → outcomes b (rs ++ (r ∷ [])) ≡ outcomes b rs ++ (outcome (afterAll b rs) r ∷ [])
 outcomes-one b rs r = outcomes-parts b rs (r ∷ [])
 
-acted-parts : (c : Channel) (xs ys : List Act) → actedAll c (xs ++ ys) ≡ actedAll (actedAll c xs) ys
-acted-parts c [] ys = refl
-acted-parts c (x ∷ xs) ys = acted-parts (acted c x) xs ys
-
-pub eight-kept : (b : Bench) (r : Record) → length (outcome b r .bench .seats) ≡ length (b .seats)
-eight-kept b r = ap (λ (o : Outcome). length (o .bench .seats)) (outcome-dealt b r) ∙ as-many b (decoded r)
+pub all-kept : (b : Bench) (r : Record) → length (outcome b r .bench .seats) ≡ length (b .seats)
+all-kept b r = ap (λ (o : Outcome). length (o .bench .seats)) (outcome-dealt b r) ∙ as-many b (decoded r)
 
 -- a seat after a run of records is that seat after its own events among them, whatever the others do
-pub seat-runs : (b : Bench) → length (b .seats) ≡ 8 → (n : ℕ) (rs : List Record)
-    → seat (afterAll b rs) n .channel ≡ actedAll (seat b n .channel) (ownAll (chair n) rs)
-seat-runs b eight n [] = refl
-seat-runs b eight n (r ∷ rs) =
-    seat-runs (outcome b r .bench) (eight-kept b r ∙ eight) n rs
-    ∙ ap (λ (c : Channel). actedAll c (ownAll (chair n) rs))
-    (ap (λ (o : Outcome). seat (o .bench) n .channel) (outcome-dealt b r) ∙ seat-acts b eight n (decoded r))
-    ∙ sym (acted-parts (seat b n .channel) (own (chair n) (decoded r)) (ownAll (chair n) rs))
+pub seat-runs : (b : Bench) → length (b .seats) ≡ seatCount → (n : ℕ) (rs : List Record)
+    → seat (afterAll b rs) n ≡ actedAll (seat b n) (ownAll (chair n) rs)
+seat-runs b all n [] = refl
+seat-runs b all n (r ∷ rs) =
+    seat-runs (outcome b r .bench) (all-kept b r ∙ all) n rs
+    ∙ ap (λ (s : Seat). actedAll s (ownAll (chair n) rs))
+    (ap (λ (o : Outcome). seat (o .bench) n) (outcome-dealt b r) ∙ seat-acts b all n (decoded r))
+    ∙ sym (acted-parts (seat b n) (own (chair n) (decoded r)) (ownAll (chair n) rs))

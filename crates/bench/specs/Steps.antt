@@ -3,44 +3,39 @@ use Prim.Native.Nat.{ℕ}
 use mathlib.Core.List.{map}
 use lib.Dec.{eqb}
 use Rattle.base.specs.Pick.{pick}
+use Rattle.base.specs.Refusals.{refusalBy}
 use Rattle.base.specs.declared.Answer.{Answer}
 use Rattle.base.specs.declared.Answer.the-variants.{Done}
 use Rattle.base.specs.declared.Answer.the-variants as answer
-use Rattle.channel.specs.declared.SeatEvent.{SeatEvent}
-use Rattle.channel.specs.Status.{line}
-use Rattle.channel.specs.Steps as channel
-use Rattle.controller.specs.declared.Controller.{Controller}
+use Rattle.seat.specs.Seats.{line, reset}
+use Rattle.seat.specs.Steps as seat-step
 use Rattle.controller.specs.Signals.{read, write, acknowledge}
 use Rattle.controller.specs.Turns.{settled, outputOf}
 use Rattle.controller.specs.Steps as controller
-use Rattle.controller.specs.Refusals as refusing
-use Rattle.bench.specs.declared.Seat.{Seat}
 use Rattle.bench.specs.declared.Bench.{Bench}
 use Rattle.bench.specs.declared.Outcome.{Outcome}
-use Rattle.bench.specs.declared.Touched.{Touched}
 use Rattle.bench.specs.declared.Event.{Event}
 use Rattle.bench.specs.declared.Event.the-variants.{OfSeat, MasterReset, ReadController, WriteController, Acknowledge}
 use Rattle.bench.specs.declared.Decoded.{Decoded}
 use Rattle.bench.specs.declared.Decoded.the-variants.{Taken, Refused}
 use Rattle.bench.specs.Events.{Record, event}
-use Rattle.bench.specs.Refusals.{refusal}
-use Rattle.bench.specs.Seats.{seat, withSeat, withController, lines, withLine, seatReset}
+use Rattle.bench.specs.Refusals.{roomGrounds, refusal}
+use Rattle.bench.specs.Seats.{seat, withSeat, withController, lines, withLine}
 
 -- "Each call touches the one seat it names, or the controller; a master reset touches all eight seats. Line changes reach the controller's
 -- latches in the same event."
 unfoldable pub after : Bench → Event → Bench
 after b (OfSeat n e) =
-    withController (withSeat b n (record { channel = channel.effect (seat b n .channel) e .channel }))
-    (settled (b .controller) (withLine (b .controller .lines .levels) n (line (channel.effect (seat b n .channel) e .channel))))
-after b MasterReset =
-    record { seats = map seatReset (b .seats); controller = settled (b .controller) (lines (map seatReset (b .seats))) }
+    withController (withSeat b n (seat-step.effect (seat b n) e .seat))
+    (settled (b .controller) (withLine (b .controller .lines .levels) n (line (seat-step.effect (seat b n) e .seat))))
+after b MasterReset = record { seats = map reset (b .seats); controller = settled (b .controller) (lines (map reset (b .seats))) }
 after b (ReadController port) = b
 after b (WriteController port byte) = withController b (controller.effect (b .controller) (write port byte) .controller)
 after b Acknowledge = withController b (controller.effect (b .controller) acknowledge .controller)
 
 -- what an accepted event is answered with
 unfoldable pub answerTo : Bench → Event → Answer
-answerTo b (OfSeat n e) = channel.effect (seat b n .channel) e .answer
+answerTo b (OfSeat n e) = seat-step.effect (seat b n) e .answer
 answerTo b MasterReset = Done
 answerTo b (ReadController port) = controller.effect (b .controller) (read port) .answer
 answerTo b (WriteController port byte) = controller.effect (b .controller) (write port byte) .answer
@@ -57,15 +52,11 @@ outcome b r =
     (shown (after b (event r)) (answerTo b (event r)))
     (shown b (answer.Refused (refusal b r)))
 
--- ---- the same on the parts that an event touches, which is how the code has it
+-- ---- the same, with what is refused told apart by who refuses it
 
--- what the room that an event goes to refuses: a seat event its seat, a controller event the controller
+-- what the room that an event goes to refuses
 unfoldable pub roomRefusal : Bench → Event → ℕ
-roomRefusal b (OfSeat n e) = channel.refusal (seat b n .channel) e
-roomRefusal b MasterReset = 0
-roomRefusal b (ReadController port) = refusing.refusal (b .controller .setup) (read port)
-roomRefusal b (WriteController port byte) = refusing.refusal (b .controller .setup) (write port byte)
-roomRefusal b Acknowledge = refusing.refusal (b .controller .setup) acknowledge
+roomRefusal b e = refusalBy (roomGrounds b e)
 
 -- a decoded event: refused by its room, or done
 unfoldable pub met : Bench → Event → Outcome
@@ -73,17 +64,6 @@ met b e =
     pick (eqb (roomRefusal b e) 0)
     (shown (after b e) (answerTo b e))
     (shown b (answer.Refused (roomRefusal b e)))
-
--- an event on the seat whose line is n, with the controller beside it
-unfoldable pub touched : Seat → Controller → ℕ → SeatEvent → Touched
-touched s c n e =
-    pick (eqb (channel.refusal (s .channel) e) 0)
-    (record {
-      seat = record { channel = channel.effect (s .channel) e .channel };
-      controller = settled c (withLine (c .lines .levels) n (line (channel.effect (s .channel) e .channel)));
-      answer = channel.effect (s .channel) e .answer;
-    })
-    (record { seat = s; controller = c; answer = answer.Refused (channel.refusal (s .channel) e) })
 
 -- a decoded record: its event is met, or its refusal shown
 unfoldable pub dealt : Bench → Decoded → Outcome

@@ -4,7 +4,7 @@ use mathlib.Core.Path.{_≡_, refl, ap, ap₂, sym, _∙_}
 use native.Mathlib.Omega.{arith}
 use borrow.Author.Tests.{lt-ltb}
 use Rattle.base.specs.Pick.{pick}
-use Rattle.base.specs.Refusals.{firstHeld}
+use Rattle.base.specs.Refusals.{firstOf, refusalBy}
 use Rattle.bench.specs.declared.Bench.{Bench}
 use Rattle.bench.specs.declared.Decoded.{Decoded}
 use Rattle.bench.specs.Events.{whole, early, eventOf, decoded}
@@ -18,11 +18,11 @@ dec k s n v = decoded (whole k s n v)
 
 -- a kind above 8 is refused whatever the bytes
 no-kind : (k s n v s' n' v' : ℕ) → 8 < k → dec k s n v ≡ dec k s' n' v'
-unfolding decoded early firstHeld pick
+unfolding decoded early refusalBy firstOf pick
 no-kind k s n v s' n' v' above = rw (lt-ltb 8 k above)
 
 pub decoded-alike : (k s n v s' n' v' : ℕ) → Agree k s n v s' n' v' → dec k s n v ≡ dec k s' n' v'
-unfolding decoded early eventOf firstHeld pick
+unfolding decoded early eventOf refusalBy firstOf pick
 decoded-alike zero s n v s' n' v' a = ap₂ (λ x y. dec 0 x y v) (a .seats refl) (a .numbers refl)
 decoded-alike (suc zero) s n v s' n' v' a = ap₂ (λ x y. dec 1 x y v) (a .seats refl) (a .numbers refl) ∙ ap (λ z. dec 1 s' n' z) (a .values refl)
 decoded-alike (suc (suc zero)) s n v s' n' v' a = ap₂ (λ x y. dec 2 x y v) (a .seats refl) (a .numbers refl) ∙ ap (λ z. dec 2 s' n' z) (a .values refl)

@@ -7,17 +7,20 @@ use mathlib.Core.Path.{_≡_, refl, ap, sym, subst, _∙_}
 use lib.Dec.{eqb}
 use lib.ListN.{length, getD, set, replicate}
 use borrow.Author.Tests.{eqb-true, eq-eqb}
-use Rattle.base.specs.PickLaws.{both-hold, pick-true, pick-cases}
-use Rattle.channel.specs.Sound.{soundChannel}
-use Rattle.channel.specs.Parts as channel
-use Rattle.channel_laws.specs.SoundLaws.{power-up-sound, reset-sound}
-use Rattle.channel_laws.specs.SoundStepLaws.{step-sound}
+use Rattle.base.specs.Pick.{pick}
+use Rattle.base.specs.Refusals.{firstOf, refusalBy}
+use Rattle.base.specs.PickLaws.{both-hold, pick-cases}
+use Rattle.seat.specs.declared.Seat.{Seat}
+use Rattle.seat.specs.Seats.{noSeat, reset}
+use Rattle.seat.specs.Seats as one
+use Rattle.seat.specs.Sound.{sound}
+use Rattle.seat.specs.SoundLaws.{power-up-sound, step-sound, reset-sound}
 use Rattle.controller.specs.declared.Stepped as controller
 use Rattle.controller.specs.Signals.{write, acknowledge}
 use Rattle.controller.specs.Valid as controller-valid
 use Rattle.controller.specs.ValidLaws.{power-up-valid, valid-kept, valid-settled}
+use Rattle.controller.specs.Refusals as controller-refusal
 use Rattle.controller.specs.RefusalLaws.{step-done}
-use Rattle.bench.specs.declared.Seat.{Seat}
 use Rattle.bench.specs.declared.Bench.{Bench}
 use Rattle.bench.specs.declared.Outcome.{Outcome}
 use Rattle.bench.specs.declared.Event.{Event}
@@ -25,7 +28,8 @@ use Rattle.bench.specs.declared.Event.the-variants.{OfSeat, MasterReset,
 use Rattle.bench.specs.declared.Decoded.{Decoded}
 use Rattle.bench.specs.declared.Decoded.the-variants.{Taken, Refused}
 use Rattle.bench.specs.Events.{Record, decoded}
-use Rattle.bench.specs.Seats.{noSeat, chair, seat, lines, seatReset, powerUp}
+use Rattle.bench.specs.Refusals.{roomGrounds}
+use Rattle.bench.specs.Seats.{seatCount, chair, seat, lines, powerUp}
 use Rattle.bench.specs.Steps.{roomRefusal, after, met, outcome, dealt}
 use Rattle.bench.specs.Runs.{afterAll}
 use Rattle.bench.specs.MeetLaws.{outcome-dealt}
@@ -43,52 +47,52 @@ pub record Sound (b : Bench) : Type 0 where
 pub parts : (b : Bench) → valid b ≡ true → Sound b
 unfolding valid
 parts b e =
-    let three = both-hold (eqb (length (b .seats)) 8 && eqb (b .controller .lines .levels) (lines (b .seats)) && controller-valid.valid (b .controller)) (soundSeats (b .seats)) e in
-    let two = both-hold (eqb (length (b .seats)) 8 && eqb (b .controller .lines .levels) (lines (b .seats))) (controller-valid.valid (b .controller)) (three .0) in
-    let one = both-hold (eqb (length (b .seats)) 8) (eqb (b .controller .lines .levels) (lines (b .seats))) (two .0) in
-    record { wired = record { eight = eqb-true _ _ (one .0); levels = eqb-true _ _ (one .1) }; controller = two .1; seats = three .1 }
+    let three = both-hold (eqb (length (b .seats)) seatCount && eqb (b .controller .lines .levels) (lines (b .seats)) && controller-valid.valid (b .controller)) (soundSeats (b .seats)) e in
+    let two = both-hold (eqb (length (b .seats)) seatCount && eqb (b .controller .lines .levels) (lines (b .seats))) (controller-valid.valid (b .controller)) (three .0) in
+    let one = both-hold (eqb (length (b .seats)) seatCount) (eqb (b .controller .lines .levels) (lines (b .seats))) (two .0) in
+    record { wired = record { all = eqb-true _ _ (one .0); levels = eqb-true _ _ (one .1) }; controller = two .1; seats = three .1 }
 
 pub whole : (b : Bench) → Sound b → valid b ≡ true
 unfolding valid
-whole b s = rw (eq-eqb _ _ (s .wired .eight), eq-eqb _ _ (s .wired .levels), s .controller, s .seats)
+whole b s = rw (eq-eqb _ _ (s .wired .all), eq-eqb _ _ (s .wired .levels), s .controller, s .seats)
 
 -- ---- the seats
 
 -- a sound seat in place of another
-sound-set : (l : List Seat) (n : ℕ) (s : Seat) → soundSeats l ≡ true → soundChannel (s .channel) ≡ true → soundSeats (set l n s) ≡ true
+sound-set : (l : List Seat) (n : ℕ) (s : Seat) → soundSeats l ≡ true → sound s ≡ true → soundSeats (set l n s) ≡ true
 unfolding soundSeats
 sound-set [] n s all new = refl
-sound-set (x ∷ l) zero s all new = rw (new, both-hold (soundChannel (x .channel)) (soundSeats l) all .1)
+sound-set (x ∷ l) zero s all new = rw (new, both-hold (sound x) (soundSeats l) all .1)
 sound-set (x ∷ l) (suc n) s all new =
-    let h = both-hold (soundChannel (x .channel)) (soundSeats l) all in
+    let h = both-hold (sound x) (soundSeats l) all in
     rw (h .0, sound-set l n s (h .1) new)
 
 -- the seat at a place is sound, where there is one
-sound-at : (l : List Seat) (n : ℕ) (d : Seat) → soundSeats l ≡ true → n < length l → soundChannel (getD l n d .channel) ≡ true
+sound-at : (l : List Seat) (n : ℕ) (d : Seat) → soundSeats l ≡ true → n < length l → sound (getD l n d) ≡ true
 unfolding soundSeats
 sound-at [] n d all inside = absurd (not-suc-le-zero inside)
-sound-at (x ∷ l) zero d all inside = both-hold (soundChannel (x .channel)) (soundSeats l) all .0
-sound-at (x ∷ l) (suc n) d all inside = sound-at l n d (both-hold (soundChannel (x .channel)) (soundSeats l) all .1) (le-of-suc-le-suc inside)
+sound-at (x ∷ l) zero d all inside = both-hold (sound x) (soundSeats l) all .0
+sound-at (x ∷ l) (suc n) d all inside = sound-at l n d (both-hold (sound x) (soundSeats l) all .1) (le-of-suc-le-suc inside)
 
-sound-reset : (l : List Seat) → soundSeats l ≡ true → soundSeats (map seatReset l) ≡ true
+sound-reset : (l : List Seat) → soundSeats l ≡ true → soundSeats (map reset l) ≡ true
 unfolding soundSeats
 sound-reset [] all = refl
 sound-reset (x ∷ l) all =
-    let h = both-hold (soundChannel (x .channel)) (soundSeats l) all in
-    rw (reset-sound (x .channel) (h .0), sound-reset l (h .1))
+    let h = both-hold (sound x) (soundSeats l) all in
+    rw (reset-sound x (h .0), sound-reset l (h .1))
 
 module _ (b : Bench) (s : Sound b) where
-  at-seat : (n : ℕ) → soundChannel (seat b n .channel) ≡ true
+  at-seat : (n : ℕ) → sound (seat b n) ≡ true
   unfolding seat
-  at-seat n = sound-at (b .seats) (chair n) noSeat (s .seats) (subst (λ (k : ℕ). chair n < k) (sym (s .wired .eight)) (chair-small n))
+  at-seat n = sound-at (b .seats) (chair n) noSeat (s .seats) (subst (λ (k : ℕ). chair n < k) (sym (s .wired .all)) (chair-small n))
 
   reset-seats : soundSeats (met b MasterReset .bench .seats) ≡ true
-  unfolding met roomRefusal after
-  reset-seats = ap (λ (o : Outcome). soundSeats (o .bench .seats)) (pick-true _ _ _ refl) ∙ sound-reset (b .seats) (s .seats)
+  unfolding met roomRefusal roomGrounds refusalBy firstOf pick after
+  reset-seats = sound-reset (b .seats) (s .seats)
 
   seats-met : (e : Event) → soundSeats (met b e .bench .seats) ≡ true
   seats-met (OfSeat n e) =
-      ap soundSeats (seats-after b n e) ∙ sound-set (b .seats) (chair n) _ (s .seats) (step-sound (seat b n .channel) e (at-seat n))
+      ap soundSeats (seats-after b n e) ∙ sound-set (b .seats) (chair n) _ (s .seats) (step-sound (seat b n) e (at-seat n))
   seats-met MasterReset = reset-seats
   seats-met (ReadController port) = ap soundSeats (read-leaves b port) ∙ s .seats
   seats-met (WriteController port byte) = ap soundSeats (write-leaves b port byte) ∙ s .seats
@@ -97,7 +101,7 @@ module _ (b : Bench) (s : Sound b) where
   -- ---- the controller
 
   controller-after : (e : Event) → roomRefusal b e ≡ 0 → controller-valid.valid (after b e .controller) ≡ true
-  unfolding after roomRefusal
+  unfolding after roomRefusal roomGrounds controller-refusal.refusal
   controller-after (OfSeat n e) none = valid-settled (b .controller) _ (s .controller)
   controller-after MasterReset none = valid-settled (b .controller) _ (s .controller)
   controller-after (ReadController port) none = s .controller
@@ -131,13 +135,13 @@ module _ (b : Bench) (s : Sound b) where
 pub kept : (b : Bench) (r : Record) → valid b ≡ true → valid (outcome b r .bench) ≡ true
 kept b r e = whole (outcome b r .bench) (sound-kept b (parts b e) r)
 
-seats-power-up : (n : ℕ) → soundSeats (replicate n (record { channel = channel.powerUp })) ≡ true
+seats-power-up : (n : ℕ) → soundSeats (replicate n one.powerUp) ≡ true
 unfolding soundSeats
 seats-power-up zero = refl
 seats-power-up (suc n) = rw (power-up-sound, seats-power-up n)
 
 pub power-up : valid powerUp ≡ true
-power-up = whole powerUp (record { wired = wired-power-up; controller = power-up-valid; seats = seats-power-up 8 })
+power-up = whole powerUp (record { wired = wired-power-up; controller = power-up-valid; seats = seats-power-up seatCount })
 
 -- and so does a run
 pub run-kept : (b : Bench) (rs : List Record) → valid b ≡ true → valid (afterAll b rs) ≡ true

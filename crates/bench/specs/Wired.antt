@@ -2,10 +2,10 @@
 use mathlib.Core.Path.{_≡_}
 use lib.ListN.{length}
 use Rattle.bench.specs.declared.Bench.{Bench}
-use Rattle.bench.specs.Seats.{lines}
+use Rattle.bench.specs.Seats.{seatCount, lines}
 
--- "Eight seats, 0 to 7. Seat n is one serial channel; its interrupt output is line n of one 8259A.": eight seats, and each line of the
--- controller at the level of its seat
+-- "Eight seats, 0 to 7. Seat n is one serial channel; its interrupt output is line n of one 8259A.": all seats are there, and each
+-- line of the controller is at the level of its seat
 pub record Wired (b : Bench) : Type 0 where
-  pub eight : length (b .seats) ≡ 8
+  pub all : length (b .seats) ≡ seatCount
   pub levels : b .controller .lines .levels ≡ lines (b .seats)

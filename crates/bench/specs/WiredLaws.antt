@@ -1,5 +1,5 @@
 -- The controller's levels are the seats' lines: at power-up, and after every record.
-use Prim.Native.Nat.{ℕ, _^_}
+use Prim.Native.Nat.{ℕ, _^_, _<_}
 use mathlib.Core.Bool.{Bool}
 use mathlib.Core.Path.{_≡_, refl, ap, sym, subst, _∙_}
 use native.Mathlib.Nat.{mod-mod}
@@ -10,19 +10,20 @@ use Rattle.base.specs.Pick.{pick}
 use Rattle.base.specs.PickLaws.{pick-cases}
 use Rattle.base.specs.Bits.{bit, digit, bits}
 use Rattle.rank.specs.Sets.{join, without}
-use Rattle.channel.specs.declared.SeatEvent.{SeatEvent}
-use Rattle.channel.specs.Status.{line}
+use Rattle.registers.specs.declared.SeatEvent.{SeatEvent}
+use Rattle.seat.specs.Seats.{line, reset}
+use Rattle.seat.specs.Steps as seat-step
 use Rattle.channel.specs.Status as status
 use Rattle.registers.specs.Words as words
 use Rattle.receiver.specs.Receiver as heard
 use Rattle.transmitter.specs.Transmitter as sent
 use Rattle.queue.specs.Queue as queued
-use Rattle.channel.specs.Steps as channel
 use Rattle.controller.specs.declared.Controller.{Controller}
 use Rattle.controller.specs.declared.Stepped as controller
 use Rattle.controller.specs.Signals.{write, acknowledge}
 use Rattle.controller.specs.Turns.{settled}
 use Rattle.controller.specs.Steps.{effect}
+use Rattle.controller.specs.Refusals as controller-refusal
 use Rattle.controller.specs.RefusalLaws.{step-done}
 use Rattle.controller.specs.FrameLaws.{LevelMoves, stays, level-moves}
 use Rattle.bench.specs.declared.Bench.{Bench}
@@ -32,17 +33,18 @@ use Rattle.bench.specs.declared.Event.the-variants.{OfSeat, MasterReset,
 use Rattle.bench.specs.declared.Decoded.{Decoded}
 use Rattle.bench.specs.declared.Decoded.the-variants.{Taken, Refused}
 use Rattle.bench.specs.Events.{Record, decoded}
-use Rattle.bench.specs.Seats.{chair, seat, withSeat, lines, withLine, seatReset, powerUp}
+use Rattle.bench.specs.Refusals.{roomGrounds}
+use Rattle.bench.specs.Seats.{seatCount, chair, seat, withSeat, lines, withLine, powerUp}
 use Rattle.bench.specs.Steps.{roomRefusal, after, met, outcome, dealt}
 use Rattle.bench.specs.MeetLaws.{outcome-dealt}
 use Rattle.bench.specs.FrameLaws.{mapped-length, chair-small}
 use Rattle.bench.specs.Wired.{Wired}
 use Rattle.bench.specs.LevelLaws.{line-anew}
 
--- a number of a line may be read round the eight once more
+-- a seat's number, read round the seats, is read round the lines alike: there are as many
 around : (n : ℕ) (l : ℕ) (h : Bool) → withLine l n h ≡ withLine l (chair n) h
 unfolding withLine
-around n l h = ap (λ (k : ℕ). pick h (join l (2 ^ k)) (without l (2 ^ k))) (sym (mod-mod n 8))
+around n l h = ap (λ (k : ℕ). pick h (join l (2 ^ k)) (without l (2 ^ k))) (sym (mod-mod n seatCount))
 
 -- no word and no acknowledge moves the levels
 same-levels : (c : Controller) (p b x : ℕ) → LevelMoves c (write p b) x → x ≡ c .lines .levels
@@ -56,32 +58,32 @@ module _ (b : Bench) (w : Wired b) where
   unfolding after withSeat settled
   wired-seat n e =
       record {
-        eight = length-set (b .seats) (chair n) _ ∙ w .eight;
+        all = length-set (b .seats) (chair n) _ ∙ w .all;
         levels =
-            around n (b .controller .lines .levels) (line (channel.effect (seat b n .channel) e .channel))
-            ∙ ap (λ (l : ℕ). withLine l (chair n) (line (channel.effect (seat b n .channel) e .channel))) (w .levels)
-            ∙ sym (line-anew (b .seats) (chair n) _ (chair-small n) (w .eight));
+            around n (b .controller .lines .levels) (line (seat-step.effect (seat b n) e .seat))
+            ∙ ap (λ (l : ℕ). withLine l (chair n) (line (seat-step.effect (seat b n) e .seat))) (w .levels)
+            ∙ sym (line-anew (b .seats) (chair n) _ (mod-mod n seatCount) (subst (λ (k : ℕ). chair n < k) (sym (w .all)) (chair-small n)));
       }
 
   wired-reset : Wired (after b MasterReset)
   unfolding after settled
-  wired-reset = record { eight = mapped-length seatReset (b .seats) ∙ w .eight; levels = refl }
+  wired-reset = record { all = mapped-length reset (b .seats) ∙ w .all; levels = refl }
 
   wired-write : (port byte : ℕ) → roomRefusal b (WriteController port byte) ≡ 0 → Wired (after b (WriteController port byte))
-  unfolding after roomRefusal
+  unfolding after roomRefusal roomGrounds controller-refusal.refusal
   wired-write port byte none =
       record {
-        eight = w .eight;
+        all = w .all;
         levels =
             ap (λ (s : controller.Stepped). s .controller .lines .levels) (sym (step-done (b .controller) (write port byte) none))
             ∙ same-levels (b .controller) port byte _ (level-moves (b .controller) (write port byte)) ∙ w .levels;
       }
 
   wired-acknowledge : roomRefusal b Acknowledge ≡ 0 → Wired (after b Acknowledge)
-  unfolding after roomRefusal
+  unfolding after roomRefusal roomGrounds controller-refusal.refusal
   wired-acknowledge none =
       record {
-        eight = w .eight;
+        all = w .all;
         levels =
             ap (λ (s : controller.Stepped). s .controller .lines .levels) (sym (step-done (b .controller) acknowledge none))
             ∙ same-levels-acknowledged (b .controller) _ (level-moves (b .controller) acknowledge) ∙ w .levels;
@@ -112,4 +114,4 @@ module _ (b : Bench) (w : Wired b) where
 -- at power-up every line is low
 pub wired-power-up : Wired powerUp
 unfolding lines bits digit pick bit status.lsr status.msr status.lineTrouble status.modemChanged status.causes status.firstCause status.cause status.line words.trigger heard.noneQueued heard.shownMarks heard.someMarked heard.dataStands heard.timeoutStands sent.noneWaiting sent.allSent queued.oldest queued.anyMarked queued.marked
-wired-power-up = record { eight = refl; levels = refl }
+wired-power-up = record { all = refl; levels = refl }

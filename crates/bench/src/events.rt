@@ -1,7 +1,9 @@
 // From the four bytes of a record to its event.
 use crate::Decoded;
 use crate::Event;
-use channel::SeatEvent;
+use crate::SEATS;
+use base::Answer;
+use registers::SeatEvent;
 ghost use mathlib.Core.Path.{_≡_};
 ghost use Rattle.bench.specs.Events.{whole, short, eventOf, decoded, refusedNumber};
 
@@ -22,20 +24,17 @@ fn event_of(kind: u8, seat: u8, number: u8, value: u8) -> Event
 }
 
 impl Decoded {
-    pub const SEAT_ABOVE: u8 = 1;
-
-    pub const KIND_ABOVE: u8 = 3;
-
-    pub const SHORT: u8 = 4;
+    // The kind that touches all the seats.
+    pub const MASTER_RESET: u8 = 5;
 
     pub fn decode(kind: u8, seat: u8, number: u8, value: u8) -> Decoded
         ensures { λ r. ⌜ r ≡ decoded (whole kind seat number value) ⌝ }
     {
         if 8 < kind {
-            return Decoded::Refused(Decoded::KIND_ABOVE);
+            return Decoded::Refused(Answer::KIND_ABOVE);
         }
-        if (kind < 5) & (7 < seat) {
-            return Decoded::Refused(Decoded::SEAT_ABOVE);
+        if (kind < 5) & (SEATS <= seat as usize) {
+            return Decoded::Refused(Answer::SEAT_ABOVE);
         }
         Decoded::Taken(event_of(kind, seat, number, value))
     }
@@ -44,7 +43,7 @@ impl Decoded {
     pub fn decode_short() -> Decoded
         ensures { λ r. ⌜ r ≡ decoded short ⌝ }
     {
-        Decoded::Refused(Decoded::SHORT)
+        Decoded::Refused(Answer::SHORT)
     }
 
     // The number of the refusal, 0 where the record was taken.

@@ -1,26 +1,26 @@
 // Eight seats and the controller: one record at a time.
 use base::Answer;
-use channel::Channel;
-use channel::SeatEvent;
 use controller::Controller;
+use registers::SeatEvent;
+use seat::Seat;
 
 mod events;
+mod parts;
 mod seats;
 mod steps;
 
+pub use parts::short_parts;
+pub use parts::step_parts;
+pub use seats::chair;
 ghost use mathlib.Core.Path.{_≡_};
 ghost use Rattle.bench.specs.Seats.{powerUp};
 
-// What stands at a seat. One seat of a bench is opened by `meet_seat` alone, copied out at its chair and stored back there; `meet_reset`
-// opens all eight.
-#[repr(C)]
-pub struct Seat {
-    pub channel: Channel,
-}
+// The number of seats stands here, and in the definitions as `seatCount`.
+pub const SEATS: usize = 8;
 
 #[repr(C)]
 pub struct Bench {
-    pub seats: [Seat; 8],
+    pub seats: [Seat; SEATS],
     pub controller: Controller,
 }
 
@@ -44,7 +44,7 @@ pub struct Outcome {
     pub output: bool,
 }
 
-// A seat event works on these parts alone.
+// A record works on these parts alone, but a master reset.
 pub struct Touched {
     pub seat: Seat,
     pub controller: Controller,
@@ -52,15 +52,11 @@ pub struct Touched {
 }
 
 impl Bench {
-    pub const SEATS: u8 = 8;
-
     pub fn power_up() -> Self
         ensures { λ r. ⌜ r ≡ powerUp ⌝ }
     {
         Bench {
-            seats: [Seat {
-                channel: Channel::power_up(),
-            }; 8],
+            seats: [Seat::power_up(); SEATS],
             controller: Controller::power_up(),
         }
     }

@@ -5,7 +5,7 @@ use mathlib.Core.Path.{_≡_, refl}
 use Rattle.base.specs.Pick.{pick}
 use Rattle.base.specs.Bits.{bit, digit, bits}
 use Rattle.base.specs.Answers.{valueOf}
-use Rattle.base.specs.Refusals.{firstHeld}
+use Rattle.base.specs.Refusals.{firstOf, refusalBy}
 use Rattle.queue.specs.Queue.{room, entered, replaced, capacity, accepted, movedDown, taken, oldest, unmarked, anyMarked, marked}
 use Rattle.receiver.specs.Receiver.{noneQueued, received, got, shownMarks, someMarked, looked, cleared, turned, dataStands, timeoutStands}
 use Rattle.transmitter.specs.Transmitter.{noneWaiting, allSent, flagSetIf, written, emptied, enabled}
@@ -13,17 +13,18 @@ use Rattle.registers.specs.Words.{trigger, badArrival}
 use Rattle.registers.specs.Registers.{plainRegister, registerAt, fcrKept}
 use Rattle.registers.specs.Modem.{msrOf}
 use Rattle.channel.specs.declared.Channel.{Channel}
-use Rattle.channel.specs.declared.SeatEvent.{SeatEvent}
-use Rattle.channel.specs.declared.SeatEvent.the-variants.{Read, Write, Arrival}
+use Rattle.registers.specs.declared.SeatEvent.{SeatEvent}
+use Rattle.registers.specs.declared.SeatEvent.the-variants.{Read, Write, Arrival}
 use Rattle.channel.specs.Parts.{powerUp, withSettings, withReceiver}
 use Rattle.channel.specs.Status.{lsr, msr, lineTrouble, modemChanged, causes, firstCause, cause, iir, line}
 use Rattle.channel.specs.Effects.{iirRead, lsrRead, byteAt, afterRead, ierWritten, modeChanged, fcrReceiver, fcrTransmitter, fcrWritten, afterWrite, afterArrival}
-use Rattle.channel.specs.Steps.{registerAbove, noDivisor, arrivalWrong, levelsAbove, loopAsked, grounds, refusal, effect, stepped}
+use Rattle.registers.specs.Refusals.{grounds, refusal}
+use Rattle.channel.specs.Steps.{effect, stepped}
 
 -- what a channel answers to these events, in order; the line names all that such a run computes with, under the edits too
 unfoldable told : Channel → List SeatEvent → List ℕ
 unfolding stepped effect valueOf registerAt plainRegister pick bit digit bits
-    refusal grounds firstHeld registerAbove noDivisor arrivalWrong badArrival levelsAbove loopAsked
+    refusal grounds refusalBy firstOf badArrival
     byteAt afterRead iirRead lsrRead looked got taken movedDown unmarked
     iir cause causes firstCause lineTrouble modemChanged dataStands timeoutStands trigger
     lsr msr msrOf noneQueued shownMarks someMarked oldest anyMarked marked noneWaiting allSent

@@ -5,12 +5,13 @@ use lib.Dec.{eqb}
 use Rattle.base.specs.Pick.{pick}
 use Rattle.base.specs.Bits.{bit}
 use Rattle.base.specs.declared.Answer.{Answer}
-use Rattle.base.specs.declared.Answer.the-variants.{Sent, Idle, Break}
+use Rattle.base.specs.declared.Answer.the-variants.{Byte, Sent, Idle, Break}
 use Rattle.receiver.specs.declared.Receiver.{Receiver}
 use Rattle.receiver.specs.Receiver.{received, got, looked, waited, fcrHeard}
 use Rattle.transmitter.specs.declared.Transmitter.{Transmitter}
 use Rattle.transmitter.specs.Transmitter.{written, shifted, iirSeen, ierSent, fcrSent}
 use Rattle.channel.specs.declared.Channel.{Channel}
+use Rattle.channel.specs.declared.Stepped.{Stepped}
 use Rattle.registers.specs.declared.Register.{Register}
 use Rattle.registers.specs.declared.Register.the-variants.{RbrThr, Ier, IirFcr, Lcr, Mcr, Lsr, Msr, Scratch, Dll, Dlm}
 use Rattle.channel.specs.Parts.{withSettings, withReceiver, withTransmitter, withModem, fifo}
@@ -58,6 +59,14 @@ afterRead c Msr = msrRead c
 afterRead c Scratch = c
 afterRead c Dll = c
 afterRead c Dlm = c
+
+-- a channel as it is, with "the byte"
+abbrev pub told : Channel → ℕ → Stepped
+told c byte = record { channel = c; answer = Byte byte }
+
+-- "read register": the byte answers, and then the channel is what the read leaves
+abbrev pub readOf : Channel → Register → Stepped
+readOf c r = told (afterRead c r) (byteAt c r)
 
 -- ---- writes
 

@@ -17,14 +17,15 @@ use Rattle.receiver.specs.Receiver.{turned, cleared}
 use Rattle.receiver.specs.Ledger.{Moment, empties, changes, resets, Side, after, afterAll, readIn}
 use Rattle.channel.specs.declared.Channel.{Channel}
 use Rattle.channel.specs.declared.Stepped.{Stepped}
-use Rattle.channel.specs.declared.SeatEvent.{SeatEvent}
-use Rattle.channel.specs.declared.SeatEvent.the-variants.{Read, Write, Arrival, Levels, Time}
+use Rattle.registers.specs.declared.SeatEvent.{SeatEvent}
+use Rattle.registers.specs.declared.SeatEvent.the-variants.{Read, Write, Arrival, Levels, Time}
 use Rattle.registers.specs.declared.Register.{Register}
 use Rattle.registers.specs.declared.Register.the-variants.{RbrThr, Ier, IirFcr, Lcr, Mcr, Lsr, Msr, Scratch, Dll, Dlm}
 use Rattle.channel.specs.Parts.{masterReset, fifo, divisorShown}
 use Rattle.registers.specs.Registers.{registerAt, fcrKept}
 use Rattle.channel.specs.Effects.{lsrRead, iirRead, msrRead, byteAt, afterRead, ierWritten, modeChanged, fcrReceiver, fcrWritten, afterWrite, afterArrival, afterLevels, afterTime}
-use Rattle.channel.specs.Steps.{refusal, effect, stepped}
+use Rattle.registers.specs.Refusals.{refusal}
+use Rattle.channel.specs.Steps.{effect, stepped}
 use Rattle.channel.specs.Moments.{side, readMoments, fcrMoments, writeMoments, acceptedMoments, momentsOf, telling, toldIn}
 
 -- ---- the mode after an FCR write
@@ -115,9 +116,9 @@ effect-side c Time = refl
 pub step-side : (c : Channel) (e : SeatEvent) → side (stepped c e .channel) ≡ afterAll (side c) (momentsOf c e)
 unfolding stepped momentsOf afterAll
 step-side c e =
-    pick-through (λ (s : Stepped). side (s .channel)) (eqb (refusal c e) 0) _ _
-    ∙ ap (λ (s : Side). pick (eqb (refusal c e) 0) s (side c)) (effect-side c e)
-    ∙ sym (pick-through (afterAll (side c)) (eqb (refusal c e) 0) _ _)
+    pick-through (λ (s : Stepped). side (s .channel)) (eqb (refusal (c .settings) e) 0) _ _
+    ∙ ap (λ (s : Side). pick (eqb (refusal (c .settings) e) 0) s (side c)) (effect-side c e)
+    ∙ sym (pick-through (afterAll (side c)) (eqb (refusal (c .settings) e) 0) _ _)
 
 -- a master reset clears the FCR
 pub reset-side : (c : Channel) → side (masterReset c) ≡ afterAll (side c) (resets ∷ [])
@@ -175,4 +176,4 @@ by-test s false x y ms ns first second = second
 
 pub step-told : (c : Channel) (e : SeatEvent) → toldIn (side c) (stepped c e .answer) (momentsOf c e) ≡ readIn (side c) (momentsOf c e)
 unfolding stepped momentsOf toldIn readIn
-step-told c e = by-test (side c) (eqb (refusal c e) 0) _ _ _ _ (effect-told c e) refl
+step-told c e = by-test (side c) (eqb (refusal (c .settings) e) 0) _ _ _ _ (effect-told c e) refl

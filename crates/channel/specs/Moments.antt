@@ -10,14 +10,14 @@ use Rattle.base.specs.declared.Answer.{Answer}
 use Rattle.receiver.specs.Receiver.{noneQueued}
 use Rattle.receiver.specs.Ledger.{Moment, arrives, rbr, lsr, passes, empties, changes, resets, Side}
 use Rattle.channel.specs.declared.Channel.{Channel}
-use Rattle.channel.specs.declared.SeatEvent.{SeatEvent}
-use Rattle.channel.specs.declared.SeatEvent.the-variants.{Read, Write, Arrival, Levels, Time}
+use Rattle.registers.specs.declared.SeatEvent.{SeatEvent}
+use Rattle.registers.specs.declared.SeatEvent.the-variants.{Read, Write, Arrival, Levels, Time}
 use Rattle.registers.specs.declared.Register.{Register}
 use Rattle.registers.specs.declared.Register.the-variants.{RbrThr, Ier, IirFcr, Lcr, Mcr, Lsr, Msr, Scratch, Dll, Dlm}
 use Rattle.channel.specs.Parts.{fifo, divisorShown}
 use Rattle.registers.specs.Registers.{registerAt}
 use Rattle.channel.specs.Effects.{modeChanged}
-use Rattle.channel.specs.Steps.{refusal}
+use Rattle.registers.specs.Refusals.{refusal}
 
 -- the receive side of a channel, with its mode
 abbrev pub side : Channel → Side
@@ -63,7 +63,7 @@ acceptedMoments c Time = passes ∷ []
 
 -- of any event: "The answer of every refusal is FFF and nothing changes."
 unfoldable pub momentsOf : Channel → SeatEvent → List Moment
-momentsOf c e = pick (eqb (refusal c e) 0) (acceptedMoments c e) []
+momentsOf c e = pick (eqb (refusal (c .settings) e) 0) (acceptedMoments c e) []
 
 -- the character that an answer tells: that of an RBR read, where one is queued
 unfoldable pub telling : Side → Answer → Moment → List ℕ

@@ -11,10 +11,11 @@ use Rattle.base.specs.Answers.{refusalOf}
 use Rattle.base.specs.declared.Answer.the-variants.{Refused}
 use Rattle.channel.specs.declared.Channel.{Channel}
 use Rattle.channel.specs.declared.Stepped.{Stepped}
-use Rattle.channel.specs.declared.SeatEvent.{SeatEvent}
-use Rattle.channel.specs.declared.SeatEvent.the-variants.{Read, Write, Arrival, Levels, Time}
+use Rattle.registers.specs.declared.SeatEvent.{SeatEvent}
+use Rattle.registers.specs.declared.SeatEvent.the-variants.{Read, Write, Arrival, Levels, Time}
 use Rattle.channel.specs.Effects.{timeAnswer}
-use Rattle.channel.specs.Steps.{refusal, effect, stepped}
+use Rattle.registers.specs.Refusals.{refusal}
+use Rattle.channel.specs.Steps.{effect, stepped}
 
 -- what is done is answered with no refusal
 time-taken : (c : Channel) → refusalOf (timeAnswer c) ≡ 0
@@ -32,20 +33,20 @@ effect-taken c (Arrival marks byte) = refl
 effect-taken c (Levels levels) = refl
 effect-taken c Time = time-taken c
 
-pub step-taken : (c : Channel) (e : SeatEvent) → eqb (refusal c e) 0 ≡ true → stepped c e ≡ effect c e
+pub step-taken : (c : Channel) (e : SeatEvent) → eqb (refusal (c .settings) e) 0 ≡ true → stepped c e ≡ effect c e
 unfolding stepped
 step-taken c e none = pick-true _ _ _ none
 
-pub step-refused : (c : Channel) (e : SeatEvent) → eqb (refusal c e) 0 ≡ false → stepped c e ≡ record { channel = c; answer = Refused (refusal c e) }
+pub step-refused : (c : Channel) (e : SeatEvent) → eqb (refusal (c .settings) e) 0 ≡ false → stepped c e ≡ record { channel = c; answer = Refused (refusal (c .settings) e) }
 unfolding stepped
 step-refused c e some = pick-false _ _ _ some
 
 -- the number in the answer is the refusal's
-pub step-number : (c : Channel) (e : SeatEvent) → refusalOf (stepped c e .answer) ≡ refusal c e
+pub step-number : (c : Channel) (e : SeatEvent) → refusalOf (stepped c e .answer) ≡ refusal (c .settings) e
 unfolding refusalOf
 step-number c e =
     ⊎-elim
-    (λ (none : eqb (refusal c e) 0 ≡ true).
-    ap (λ (s : Stepped). refusalOf (s .answer)) (step-taken c e none) ∙ effect-taken c e ∙ sym (eqb-true (refusal c e) 0 none))
-    (λ (some : eqb (refusal c e) 0 ≡ false). ap (λ (s : Stepped). refusalOf (s .answer)) (step-refused c e some))
-    (either-way (eqb (refusal c e) 0))
+    (λ (none : eqb (refusal (c .settings) e) 0 ≡ true).
+    ap (λ (s : Stepped). refusalOf (s .answer)) (step-taken c e none) ∙ effect-taken c e ∙ sym (eqb-true (refusal (c .settings) e) 0 none))
+    (λ (some : eqb (refusal (c .settings) e) 0 ≡ false). ap (λ (s : Stepped). refusalOf (s .answer)) (step-refused c e some))
+    (either-way (eqb (refusal (c .settings) e) 0))

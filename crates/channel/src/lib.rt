@@ -1,18 +1,18 @@
 // One TL16C552A channel, register by register: the state, its parts, and one event at a time.
 use base::Answer;
 use receiver::Receiver;
+use registers::SeatEvent;
 use registers::Settings;
 use transmitter::Transmitter;
 
 mod reads;
-mod refusals;
 mod status;
 mod wire;
 mod writes;
 
 ghost use mathlib.Core.Path.{_≡_};
 ghost use Rattle.channel.specs.Parts.{powerUp, masterReset};
-ghost use Rattle.channel.specs.Steps.{stepped};
+ghost use Rattle.channel.specs.Steps.{effect, stepped};
 
 // `levels` are the inputs last given, `changes` the bits 0 to 3 of the MSR.
 #[repr(C)]
@@ -27,15 +27,6 @@ pub struct Channel {
     pub receiver: Receiver,
     pub transmitter: Transmitter,
     pub modem: Modem,
-}
-
-// What can happen to a seat.
-pub enum SeatEvent {
-    Read(u8),
-    Write(u8, u8),
-    Arrival(u8, u8),
-    Levels(u8),
-    Time,
 }
 
 pub struct Stepped {
@@ -79,8 +70,8 @@ impl Channel {
         self
     }
 
-    pub fn step(self, e: SeatEvent) -> Stepped
-        ensures { λ r. ⌜ r ≡ stepped self e ⌝ }
+    fn act(self, e: SeatEvent) -> Stepped
+        ensures { λ r. ⌜ r ≡ effect self e ⌝ }
     {
         match e {
             SeatEvent::Read(number) => return self.read(number),
@@ -88,6 +79,19 @@ impl Channel {
             SeatEvent::Arrival(marks, byte) => return self.arrive(marks, byte),
             SeatEvent::Levels(levels) => return self.modem_inputs(levels),
             SeatEvent::Time => return self.character_time(),
+        }
+    }
+
+    pub fn step(self, e: SeatEvent) -> Stepped
+        ensures { λ r. ⌜ r ≡ stepped self e ⌝ }
+    {
+        let refused = self.settings.refusal(e);
+        if refused == 0 {
+            return self.act(e);
+        }
+        Stepped {
+            channel: self,
+            answer: Answer::Refused(refused),
         }
     }
 }

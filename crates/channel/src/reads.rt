@@ -4,95 +4,69 @@ use crate::Stepped;
 use base::Answer;
 use registers::Register;
 ghost use mathlib.Core.Path.{_≡_};
-ghost use Rattle.channel.specs.Effects.{iirRead, lsrRead, msrRead, byteAt, afterRead};
-ghost use Rattle.channel.specs.Steps.{stepped};
-ghost use Rattle.channel.specs.declared.SeatEvent.the-variants.{Read};
-ghost use Rattle.registers.specs.declared.Register.the-variants.{RbrThr};
+ghost use Rattle.channel.specs.Effects.{readOf, told};
+ghost use Rattle.channel.specs.Steps.{effect};
+ghost use Rattle.registers.specs.declared.SeatEvent.the-variants.{Read};
+ghost use Rattle.registers.specs.declared.Register.the-variants.{RbrThr, IirFcr, Lsr};
 
 impl Channel {
-    fn read_iir(mut self) -> Self
-        ensures { λ r. ⌜ r ≡ iirRead self ⌝ }
+    fn tell(self, byte: u8) -> Stepped
+        ensures { λ r. ⌜ r ≡ told self byte ⌝ }
     {
-        let named = self.cause() == Channel::HOLDING_EMPTY;
-        self.transmitter = self.transmitter.iir_read(named);
-        self
+        Stepped {
+            channel: self,
+            answer: Answer::Byte(byte),
+        }
     }
 
-    fn read_lsr(mut self) -> Self
-        ensures { λ r. ⌜ r ≡ lsrRead self ⌝ }
-    {
-        self.receiver = self.receiver.look(self.settings.is_fifo());
-        self
-    }
-
-    fn read_msr(mut self) -> Self
-        ensures { λ r. ⌜ r ≡ msrRead self ⌝ }
-    {
-        self.modem.changes = 0;
-        self
-    }
-
-    fn read_rbr(mut self) -> Self
-        ensures { λ r. ⌜ r ≡ afterRead self RbrThr ⌝ }
+    fn read_rbr(mut self) -> Stepped
+        ensures { λ r. ⌜ r ≡ readOf self RbrThr ⌝ }
     {
         let got = self.receiver.get();
         let rest = got.receiver;
         self.receiver = rest;
-        self
+        self.tell(got.byte)
     }
 
-    fn oldest_byte(self) -> u8
-        ensures { λ r. ⌜ r ≡ byteAt self RbrThr ⌝ }
+    // The cause is looked for once: it is named, and it decides whether the flag is cleared.
+    fn read_iir(mut self) -> Stepped
+        ensures { λ r. ⌜ r ≡ readOf self IirFcr ⌝ }
     {
-        let got = self.receiver.get();
-        got.byte
+        let cause = self.cause();
+        let byte = cause + base::pick_byte(self.settings.is_fifo(), Channel::FIFO_MARK, 0);
+        let named = cause == Channel::HOLDING_EMPTY;
+        self.transmitter = self.transmitter.iir_read(named);
+        self.tell(byte)
     }
 
-    fn byte_at(self, register: Register) -> u8
-        ensures { λ r. ⌜ r ≡ byteAt self register ⌝ }
+    fn read_lsr(mut self) -> Stepped
+        ensures { λ r. ⌜ r ≡ readOf self Lsr ⌝ }
     {
-        match register {
-            Register::RbrThr => self.oldest_byte(),
-            Register::Ier => self.settings.ier,
-            Register::IirFcr => self.identify(),
-            Register::Lcr => self.settings.lcr,
-            Register::Mcr => self.settings.mcr,
-            Register::Lsr => self.line_status(),
-            Register::Msr => self.modem_status(),
-            Register::Scratch => self.settings.scratch,
-            Register::Dll => self.settings.dll,
-            Register::Dlm => self.settings.dlm,
-        }
+        let byte = self.line_status();
+        self.receiver = self.receiver.look(self.settings.is_fifo());
+        self.tell(byte)
     }
 
-    fn after_read(self, register: Register) -> Self
-        ensures { λ r. ⌜ r ≡ afterRead self register ⌝ }
+    // The byte and the channel after it, in the same arm.
+    pub(crate) fn read(mut self, number: u8) -> Stepped
+        ensures { λ r. ⌜ r ≡ effect self (Read number) ⌝ }
     {
+        let register = self.settings.register(number);
         match register {
             Register::RbrThr => return self.read_rbr(),
+            Register::Ier => return self.tell(self.settings.ier),
             Register::IirFcr => return self.read_iir(),
+            Register::Lcr => return self.tell(self.settings.lcr),
+            Register::Mcr => return self.tell(self.settings.mcr),
             Register::Lsr => return self.read_lsr(),
-            Register::Msr => return self.read_msr(),
-            _ => return self,
-        }
-    }
-
-    pub fn read(mut self, number: u8) -> Stepped
-        ensures { λ r. ⌜ r ≡ stepped self (Read number) ⌝ }
-    {
-        let refused = self.refuse_read(number);
-        if refused == 0 {
-            let register = self.settings.register(number);
-            let byte = self.byte_at(register);
-            self = self.after_read(register);
-            return Stepped {
-                channel: self,
-                answer: Answer::Byte(byte),
-            };
-        }
-        Stepped {
-            channel: self,
-            answer: Answer::Refused(refused),
+            Register::Msr => {
+                let byte = self.modem_status();
+                self.modem.changes = 0;
+                return self.tell(byte);
+            }
+            Register::Scratch => return self.tell(self.settings.scratch),
+            Register::Dll => return self.tell(self.settings.dll),
+            Register::Dlm => return self.tell(self.settings.dlm),
         }
     }
 }

@@ -2,10 +2,12 @@
 use crate::Channel;
 use registers::Settings;
 ghost use mathlib.Core.Path.{_≡_};
-ghost use Rattle.receiver.specs.Receiver.{dataStands};
+ghost use mathlib.Core.Bool.{_&&_};
+ghost use Rattle.base.specs.Bits.{bit};
+ghost use Rattle.receiver.specs.Receiver.{dataStands, timeoutStands};
 ghost use Rattle.registers.specs.Words.{trigger};
 ghost use Rattle.channel.specs.Parts.{fifo};
-ghost use Rattle.channel.specs.Status.{lsr, msr, lineTrouble, modemChanged, cause, iir, line};
+ghost use Rattle.channel.specs.Status.{lsr, msr, lineTrouble, modemChanged, cause, line};
 
 impl Channel {
     pub const LINE_TROUBLE: u8 = 0x06;
@@ -66,33 +68,65 @@ impl Channel {
             .data(self.settings.is_fifo(), self.settings.trigger())
     }
 
+    // A cause is told where IER enables it and it stands; what stands is looked for only then.
+    fn tells_line(self) -> bool
+        ensures { λ r. ⌜ r ≡ (bit 2 (self .settings .ier) && lineTrouble self) ⌝ }
+    {
+        if base::bit(Settings::IER_LINE, self.settings.ier) {
+            return self.line_trouble();
+        }
+        false
+    }
+
+    fn tells_data(self) -> bool
+        ensures { λ r. ⌜ r ≡ (bit 0 (self .settings .ier) && dataStands (fifo self) (trigger (self .settings .fcr)) (self .receiver)) ⌝ }
+    {
+        if base::bit(Settings::IER_DATA, self.settings.ier) {
+            return self.data_stands();
+        }
+        false
+    }
+
+    fn tells_time_out(self) -> bool
+        ensures { λ r. ⌜ r ≡ (bit 0 (self .settings .ier) && timeoutStands (self .receiver)) ⌝ }
+    {
+        base::bit(Settings::IER_DATA, self.settings.ier) & self.receiver.timed_out()
+    }
+
+    fn tells_holding(self) -> bool
+        ensures { λ r. ⌜ r ≡ (bit 1 (self .settings .ier) && self .transmitter .flag) ⌝ }
+    {
+        base::bit(Settings::IER_HOLDING, self.settings.ier) & self.transmitter.flag
+    }
+
+    fn tells_modem(self) -> bool
+        ensures { λ r. ⌜ r ≡ (bit 3 (self .settings .ier) && modemChanged self) ⌝ }
+    {
+        if base::bit(Settings::IER_MODEM, self.settings.ier) {
+            return self.modem_changed();
+        }
+        false
+    }
+
     pub(crate) fn cause(self) -> u8
         ensures { λ r. ⌜ r ≡ cause self ⌝ }
     {
-        if base::bit(Settings::IER_LINE, self.settings.ier) & self.line_trouble() {
+        if self.tells_line() {
             return Channel::LINE_TROUBLE;
         }
-        let data = base::bit(Settings::IER_DATA, self.settings.ier);
-        let late = self.receiver.timed_out();
-        if data & self.data_stands() {
+        if self.tells_data() {
             return Channel::DATA;
         }
-        if data & late {
+        if self.tells_time_out() {
             return Channel::TIME_OUT;
         }
-        if base::bit(Settings::IER_HOLDING, self.settings.ier) & self.transmitter.flag {
+        if self.tells_holding() {
             return Channel::HOLDING_EMPTY;
         }
-        if base::bit(Settings::IER_MODEM, self.settings.ier) & self.modem_changed() {
+        if self.tells_modem() {
             return Channel::MODEM;
         }
         Channel::NO_CAUSE
-    }
-
-    pub(crate) fn identify(self) -> u8
-        ensures { λ r. ⌜ r ≡ iir self ⌝ }
-    {
-        self.cause() + base::pick_byte(self.settings.is_fifo(), Channel::FIFO_MARK, 0)
     }
 
     pub fn line(self) -> bool

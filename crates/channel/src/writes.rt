@@ -6,8 +6,8 @@ use registers::Register;
 use registers::Settings;
 ghost use mathlib.Core.Path.{_≡_};
 ghost use Rattle.channel.specs.Effects.{ierWritten, fcrWritten, afterWrite};
-ghost use Rattle.channel.specs.Steps.{stepped};
-ghost use Rattle.channel.specs.declared.SeatEvent.the-variants.{Write};
+ghost use Rattle.channel.specs.Steps.{effect};
+ghost use Rattle.registers.specs.declared.SeatEvent.the-variants.{Write};
 ghost use Rattle.registers.specs.declared.Register.the-variants.{RbrThr};
 
 impl Channel {
@@ -55,21 +55,14 @@ impl Channel {
         }
     }
 
-    pub fn write(mut self, number: u8, byte: u8) -> Stepped
-        ensures { λ r. ⌜ r ≡ stepped self (Write number byte) ⌝ }
+    pub(crate) fn write(mut self, number: u8, byte: u8) -> Stepped
+        ensures { λ r. ⌜ r ≡ effect self (Write number byte) ⌝ }
     {
-        let refused = self.refuse_write(number, byte);
-        if refused == 0 {
-            let register = self.settings.register(number);
-            self = self.after_write(register, byte);
-            return Stepped {
-                channel: self,
-                answer: Answer::Done,
-            };
-        }
+        let register = self.settings.register(number);
+        self = self.after_write(register, byte);
         Stepped {
             channel: self,
-            answer: Answer::Refused(refused),
+            answer: Answer::Done,
         }
     }
 }

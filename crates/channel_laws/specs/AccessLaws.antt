@@ -9,12 +9,13 @@ use Rattle.channel.specs.declared.Channel.{Channel}
 use Rattle.channel.specs.declared.Stepped.{Stepped}
 use Rattle.registers.specs.declared.Register.{Register}
 use Rattle.registers.specs.declared.Register.the-variants.{RbrThr, Ier, IirFcr, Lcr, Mcr, Lsr, Msr, Scratch, Dll, Dlm}
-use Rattle.channel.specs.declared.SeatEvent.{SeatEvent}
-use Rattle.channel.specs.declared.SeatEvent.the-variants.{Read, Write, Arrival, Levels, Time}
+use Rattle.registers.specs.declared.SeatEvent.{SeatEvent}
+use Rattle.registers.specs.declared.SeatEvent.the-variants.{Read, Write, Arrival, Levels, Time}
 use Rattle.channel.specs.Parts.{divisorShown}
 use Rattle.registers.specs.Registers.{registerAt}
 use Rattle.channel.specs.Effects.{iirRead, lsrRead, msrRead, ierWritten, fcrWritten, afterRead, afterWrite, afterArrival, afterLevels, afterTime}
-use Rattle.channel.specs.Steps.{refusal, effect, stepped}
+use Rattle.registers.specs.Refusals.{refusal}
+use Rattle.channel.specs.Steps.{effect, stepped}
 
 -- which parts of a channel an access may change
 pub record Touched : Type 0 where
@@ -110,7 +111,7 @@ effect-touches c Time = refl
 pub touches : (c : Channel) (e : SeatEvent) → stepped c e .channel ≡ mixed (byEvent c e) (stepped c e .channel) c
 unfolding stepped
 touches c e =
-    pick-either (λ (s : Stepped). s .channel ≡ mixed (byEvent c e) (s .channel) c) (eqb (refusal c e) 0) _ _ (effect-touches c e)
+    pick-either (λ (s : Stepped). s .channel ≡ mixed (byEvent c e) (s .channel) c) (eqb (refusal (c .settings) e) 0) _ _ (effect-touches c e)
     (λ i. record {
       settings = sym (pick-same (byEvent c e .settings) (c .settings)) i;
       receiver = sym (pick-same (byEvent c e .receiver) (c .receiver)) i;

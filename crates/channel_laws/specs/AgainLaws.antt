@@ -17,7 +17,7 @@ use Rattle.receiver.specs.Receiver.{looked}
 use Rattle.receiver.specs.CallLaws.{look-fifo, look-16450}
 use Rattle.channel.specs.declared.Channel.{Channel}
 use Rattle.channel.specs.declared.Stepped.{Stepped}
-use Rattle.channel.specs.declared.SeatEvent.the-variants.{Read}
+use Rattle.registers.specs.declared.SeatEvent.the-variants.{Read}
 use Rattle.channel.specs.Parts.{fifo}
 use Rattle.channel.specs.Status.{lsr, msr, cause, iir}
 use Rattle.channel.specs.Effects.{iirRead, lsrRead, msrRead}

@@ -8,11 +8,12 @@ use Rattle.base.specs.Bits.{bit}
 use Rattle.base.specs.declared.Answer.{Answer}
 use Rattle.base.specs.declared.Answer.the-variants.{Byte, Done, Sent, Idle, Break}
 use Rattle.channel.specs.declared.Channel.{Channel}
-use Rattle.channel.specs.declared.SeatEvent.{SeatEvent}
-use Rattle.channel.specs.declared.SeatEvent.the-variants.{Read, Write, Arrival, Levels, Time}
+use Rattle.registers.specs.declared.SeatEvent.{SeatEvent}
+use Rattle.registers.specs.declared.SeatEvent.the-variants.{Read, Write, Arrival, Levels, Time}
 use Rattle.channel.specs.Effects.{timeAnswer}
 use Rattle.channel.specs.Steps.{effect, stepped}
-use Rattle.channel_laws.specs.RefusalLaws.{accepts, done}
+use Rattle.registers.specs.RefusalLaws.{accepts}
+use Rattle.channel_laws.specs.RefusalLaws.{done}
 
 -- "read register": "the byte"; "write register", "character arrives", "modem inputs": "000"; "one character time passes": "the byte sent; 100 idle;
 -- 200 break"
@@ -43,5 +44,5 @@ effect-answers c (Arrival marks byte) = refl
 effect-answers c (Levels levels) = refl
 effect-answers c Time = time-answers c
 
-pub answers : (c : Channel) (e : SeatEvent) → accepts c e ≡ true → Answers e (stepped c e .answer)
+pub answers : (c : Channel) (e : SeatEvent) → accepts (c .settings) e ≡ true → Answers e (stepped c e .answer)
 answers c e served = subst (λ s. Answers e (s .answer)) (sym (done c e served)) (effect-answers c e)

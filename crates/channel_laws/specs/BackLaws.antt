@@ -12,12 +12,13 @@ use Rattle.channel.specs.declared.Channel.{Channel}
 use Rattle.registers.specs.declared.Settings.{Settings}
 use Rattle.registers.specs.declared.Register.{Register}
 use Rattle.registers.specs.declared.Register.the-variants.{RbrThr, Ier, IirFcr, Lcr, Mcr, Lsr, Msr, Scratch, Dll, Dlm}
-use Rattle.channel.specs.declared.SeatEvent.the-variants.{Read, Write}
+use Rattle.registers.specs.declared.SeatEvent.the-variants.{Read, Write}
 use Rattle.channel.specs.Parts.{withSettings, divisorShown}
 use Rattle.registers.specs.Registers.{plainRegister, registerAt, fcrKept, withDll, withDlm}
 use Rattle.channel.specs.Effects.{ierWritten, fcrWritten, byteAt, afterRead, afterWrite}
 use Rattle.channel.specs.Steps.{effect, stepped}
-use Rattle.channel_laws.specs.RefusalLaws.{accepts, done}
+use Rattle.registers.specs.RefusalLaws.{accepts}
+use Rattle.channel_laws.specs.RefusalLaws.{done}
 use Rattle.channel_laws.specs.ReadLaws.{read-at}
 
 -- ---- the settings after a write: one register has a new byte, and each other keeps its own
@@ -63,7 +64,7 @@ settings-after c Dlm byte = refl
 
 -- ---- by number
 
-module _ (c : Channel) (n byte : ℕ) (r : Register) (served : accepts c (Write n byte) ≡ true) (at : registerAt (divisorShown c) n ≡ r) where
+module _ (c : Channel) (n byte : ℕ) (r : Register) (served : accepts (c .settings) (Write n byte) ≡ true) (at : registerAt (divisorShown c) n ≡ r) where
   -- a write is done, and it reaches the register that LCR bit 7 says
   pub write-at : stepped c (Write n byte) ≡ record { channel = afterWrite c r byte; answer = Done }
   unfolding effect

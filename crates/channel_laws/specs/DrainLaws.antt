@@ -20,10 +20,10 @@ use Rattle.transmitter.specs.CallLaws.{shift-none, shift-last, shift-more}
 use Rattle.registers.specs.Words.{cut}
 use Rattle.channel.specs.declared.Channel.{Channel}
 use Rattle.channel.specs.declared.Stepped.{Stepped}
-use Rattle.channel.specs.declared.SeatEvent.the-variants.{Write, Time}
+use Rattle.registers.specs.declared.SeatEvent.the-variants.{Write, Time}
 use Rattle.channel.specs.Parts.{fifo}
 use Rattle.channel.specs.Steps.{stepped}
-use Rattle.channel_laws.specs.RefusalLaws.{undivided}
+use Rattle.registers.specs.RefusalLaws.{undivided}
 use Rattle.channel_laws.specs.WireLaws.{sent, idle}
 use Rattle.channel_laws.specs.SideLaws.{thr-writes, time-shifts}
 use Rattle.channel_laws.specs.SendingLaws.{passed}
@@ -35,7 +35,7 @@ use Rattle.channel_laws.specs.Sends.{answersTo}
 abbrev pub onTheWire : Channel → Answer
 onTheWire c = pick (c .transmitter .busy) (Sent (cut (c .settings .lcr) (c .transmitter .shift))) Idle
 
-leaves : (c : Channel) → undivided c ≡ false → bit 6 (c .settings .lcr) ≡ false → stepped c Time .answer ≡ onTheWire c
+leaves : (c : Channel) → undivided (c .settings) ≡ false → bit 6 (c .settings .lcr) ≡ false → stepped c Time .answer ≡ onTheWire c
 leaves c going clear =
     ⊎-elim
     (λ (full : c .transmitter .busy ≡ true). sent c going clear full ∙ sym (pick-true _ _ _ full))
@@ -52,7 +52,7 @@ moved-in t ch (next ∷ l) held fits =
     let more = shift-more t ch next l held (omega arith) in
     (ap (λ (u : Transmitter). u .queue) more, ap (λ (u : Transmitter). u .busy) more, ap (λ (u : Transmitter). u .shift) more)
 
-rests : (k : ℕ) (c : Channel) → c .transmitter .queue ≡ holding [] → c .transmitter .busy ≡ false → undivided c ≡ false
+rests : (k : ℕ) (c : Channel) → c .transmitter .queue ≡ holding [] → c .transmitter .busy ≡ false → undivided (c .settings) ≡ false
     → bit 6 (c .settings .lcr) ≡ false → answersTo c (replicate k Time) ≡ replicate k Idle
 unfolding answersTo
 rests zero c none empty going clear = refl
@@ -66,7 +66,7 @@ abbrev sentOf : ℕ → Character → Answer
 sentOf lcr ch = Sent (cut lcr (ch .«data»))
 
 -- one character time for the shift register, one for each that waits, and k more
-pub drains : (l : List Character) (c : Channel) → c .transmitter .queue ≡ holding l → length l ≤ 16 → undivided c ≡ false
+pub drains : (l : List Character) (c : Channel) → c .transmitter .queue ≡ holding l → length l ≤ 16 → undivided (c .settings) ≡ false
     → bit 6 (c .settings .lcr) ≡ false → (k : ℕ)
     → answersTo c (replicate (suc (length l) + k) Time)
     ≡ onTheWire c ∷ (map (λ (ch : Character). Sent (cut (c .settings .lcr) (ch .«data»))) l ++ replicate k Idle)
@@ -96,7 +96,7 @@ module _ (c : Channel) (byte : ℕ) (plain : bit 7 (c .settings .lcr) ≡ false)
   abbrev waiting : List Character
   waiting = joined (fifo c) l (toSend byte)
 
-  pub thr-leaves : undivided c ≡ false → bit 6 (c .settings .lcr) ≡ false → (k : ℕ)
+  pub thr-leaves : undivided (c .settings) ≡ false → bit 6 (c .settings .lcr) ≡ false → (k : ℕ)
       → answersTo c (Write 0 byte ∷ replicate (suc (length waiting) + k) Time)
       ≡ Done ∷ onTheWire c ∷ (map (λ (ch : Character). Sent (cut (c .settings .lcr) (ch .«data»))) waiting ++ replicate k Idle)
   unfolding answersTo written
@@ -105,5 +105,5 @@ module _ (c : Channel) (byte : ℕ) (plain : bit 7 (c .settings .lcr) ≡ false)
       let later = after c (Write 0 byte) in
       ap₂ (λ (a : Answer) (rest : List Answer). a ∷ rest) (ap (λ (s : Stepped). s .answer) did)
       (drains waiting later (thr-joins c byte plain l held within) (joined-fits (fifo c) l (toSend byte) within)
-      (ap (λ (s : Stepped). undivided (s .channel)) did ∙ going) (ap (λ (s : Stepped). bit 6 (s .channel .settings .lcr)) did ∙ clear) k
+      (ap (λ (s : Stepped). undivided (s .channel .settings)) did ∙ going) (ap (λ (s : Stepped). bit 6 (s .channel .settings .lcr)) did ∙ clear) k
       ∙ ap (λ (s : Stepped). onTheWire (s .channel) ∷ (map (sentOf (s .channel .settings .lcr)) waiting ++ replicate k Idle)) did)

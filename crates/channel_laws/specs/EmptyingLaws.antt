@@ -23,7 +23,7 @@ use Rattle.registers.specs.Registers.{plainRegister, registerAt, fcrKept}
 use Rattle.registers.specs.Words.{trigger}
 use Rattle.channel.specs.declared.Channel.{Channel}
 use Rattle.channel.specs.declared.Stepped.{Stepped}
-use Rattle.channel.specs.declared.SeatEvent.the-variants.{Write}
+use Rattle.registers.specs.declared.SeatEvent.the-variants.{Write}
 use Rattle.channel.specs.Parts.{fifo, divisorShown}
 use Rattle.channel.specs.Status.{lsr, iir}
 use Rattle.channel.specs.Effects.{fcrWritten, afterWrite}

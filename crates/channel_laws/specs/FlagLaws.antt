@@ -18,15 +18,16 @@ use Rattle.registers.specs.declared.Register.the-variants.{RbrThr, Ier, IirFcr,
 use Rattle.registers.specs.Registers.{plainRegister, registerAt}
 use Rattle.channel.specs.declared.Channel.{Channel}
 use Rattle.channel.specs.declared.Stepped.{Stepped}
-use Rattle.channel.specs.declared.SeatEvent.{SeatEvent}
-use Rattle.channel.specs.declared.SeatEvent.the-variants.{Read, Write, Arrival, Levels, Time}
+use Rattle.registers.specs.declared.SeatEvent.{SeatEvent}
+use Rattle.registers.specs.declared.SeatEvent.the-variants.{Read, Write, Arrival, Levels, Time}
 use Rattle.channel.specs.Parts.{divisorShown, fifo}
 use Rattle.channel.specs.Effects.{iirRead, lsrRead, msrRead, ierWritten, fcrWritten, afterRead, afterWrite, afterArrival, afterLevels, afterTime}
 use Rattle.channel.specs.Steps.{effect}
 use Rattle.channel.specs.StatusLaws.{lsr-empty}
 use Rattle.channel.specs.IirLaws.{iir-clears}
 use Rattle.channel.specs.ModeLaws.{fcr-sent, ier-sent}
-use Rattle.channel_laws.specs.RefusalLaws.{accepts, done, refused}
+use Rattle.registers.specs.RefusalLaws.{accepts}
+use Rattle.channel_laws.specs.RefusalLaws.{done, refused}
 use Rattle.channel_laws.specs.AgainLaws.{shows-lsr, named, named-is}
 use Rattle.channel_laws.specs.EmptyingLaws.{none-left}
 use Rattle.channel_laws.specs.ShiftLaws.{moved-flag}
@@ -223,7 +224,7 @@ namesFlag c (Arrival marks byte) = false
 namesFlag c (Levels levels) = false
 namesFlag c Time = false
 
-by-effect : (c : Channel) (e : SeatEvent) → accepts c e ≡ true → Stands c (effect c e .channel) (writesThr c e) (namesFlag c e)
+by-effect : (c : Channel) (e : SeatEvent) → accepts (c .settings) e ≡ true → Stands c (effect c e .channel) (writesThr c e) (namesFlag c e)
 unfolding effect afterArrival afterLevels
 by-effect c (Read n) served =
     subst (λ (two : Bool). Stands c (afterRead c (registerAt (divisorShown c) n)) false (two && eqb (named c) 0x02))
@@ -236,7 +237,7 @@ by-effect c (Levels levels) served = quiet c (afterLevels c levels) refl refl
 by-effect c Time served = by-time c
 
 -- what is refused is neither
-no-thr : (c : Channel) (e : SeatEvent) → accepts c e ≡ false → writesThr c e ≡ false
+no-thr : (c : Channel) (e : SeatEvent) → accepts (c .settings) e ≡ false → writesThr c e ≡ false
 no-thr c (Read n) wrong = refl
 no-thr c (Write zero byte) wrong = absurd (never (sym wrong))
 no-thr c (Write (suc n) byte) wrong = ap (λ (b : Bool). b && not (divisorShown c)) (ne-eqb (suc n) 0 (λ (e : suc n ≡ 0). omega arith))
@@ -244,7 +245,7 @@ no-thr c (Arrival marks byte) wrong = refl
 no-thr c (Levels levels) wrong = refl
 no-thr c Time wrong = refl
 
-no-iir : (c : Channel) (e : SeatEvent) → accepts c e ≡ false → namesFlag c e ≡ false
+no-iir : (c : Channel) (e : SeatEvent) → accepts (c .settings) e ≡ false → namesFlag c e ≡ false
 no-iir c (Read n) wrong =
     let past : 8 ≤ n = ltb-false n 8 wrong in
     ap (λ (b : Bool). b && eqb (named c) 0x02) (ne-eqb n 2 (λ (e : n ≡ 2). omega arith))
@@ -263,10 +264,10 @@ pub flag-after : (c : Channel) (e : SeatEvent)
     || ((not (bit 1 (c .settings .ier)) && bit 1 (after c e .settings .ier)) && bit 5 (shown c 5))))
 flag-after c e =
     ⊎-elim
-    (λ (served : accepts c e ≡ true).
+    (λ (served : accepts (c .settings) e ≡ true).
     subst (λ (s : Stepped). Stands c (s .channel) (writesThr c e) (namesFlag c e)) (sym (done c e served)) (by-effect c e served))
-    (λ (wrong : accepts c e ≡ false).
+    (λ (wrong : accepts (c .settings) e ≡ false).
     subst (λ (s : Stepped). Stands c (s .channel) (writesThr c e) (namesFlag c e)) (sym (refused c e wrong))
     (subst (λ (w : Bool). Stands c c w (namesFlag c e)) (sym (no-thr c e wrong))
     (subst (λ (r : Bool). Stands c c false r) (sym (no-iir c e wrong)) (quiet c c refl refl))))
-    (either-way (accepts c e))
+    (either-way (accepts (c .settings) e))

@@ -16,11 +16,11 @@ use Rattle.receiver.specs.Receiver.{received}
 use Rattle.receiver.specs.CallLaws.{read-oldest, read-none}
 use Rattle.channel.specs.declared.Channel.{Channel}
 use Rattle.channel.specs.declared.Stepped.{Stepped}
-use Rattle.channel.specs.declared.SeatEvent.{SeatEvent}
-use Rattle.channel.specs.declared.SeatEvent.the-variants.{Read, Arrival}
+use Rattle.registers.specs.declared.SeatEvent.{SeatEvent}
+use Rattle.registers.specs.declared.SeatEvent.the-variants.{Read, Arrival}
 use Rattle.channel.specs.Parts.{withReceiver, fifo}
 use Rattle.channel.specs.Steps.{stepped}
-use Rattle.channel_laws.specs.RefusalLaws.{accepts}
+use Rattle.registers.specs.RefusalLaws.{accepts}
 use Rattle.channel_laws.specs.SideLaws.{arrival-received, rbr-gets}
 use Rattle.channel_laws.specs.QueuedLaws.{places, joined, joined-fits, arrival-joins}
 use Rattle.channel_laws.specs.Shown.{after}
@@ -85,7 +85,7 @@ reads-give (ch ∷ l) c plain held fits k =
     ∙ ap (λ (rest : List Answer). byteOf ch ∷ rest) (reads-give l (withReceiver c (taken (c .receiver) ch l)) plain refl (omega arith) k)
 
 -- an arrival, and then the reads
-module _ (c : Channel) (marks byte : ℕ) (served : accepts c (Arrival marks byte) ≡ true) (plain : bit 7 (c .settings .lcr) ≡ false)
+module _ (c : Channel) (marks byte : ℕ) (served : accepts (c .settings) (Arrival marks byte) ≡ true) (plain : bit 7 (c .settings .lcr) ≡ false)
     (l : List Character) (held : c .receiver .queue ≡ holding l) (within : length l ≤ places (fifo c)) where
   abbrev waiting : List Character
   waiting = joined (fifo c) l (record { «data» = byte; marks = marks })

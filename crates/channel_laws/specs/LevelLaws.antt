@@ -9,7 +9,7 @@ use Rattle.registers.specs.Modem.{changesAfter}
 use Rattle.registers.specs.ModemLaws.{changed, rung}
 use Rattle.channel.specs.declared.Channel.{Channel}
 use Rattle.channel.specs.declared.Stepped.{Stepped}
-use Rattle.channel.specs.declared.SeatEvent.the-variants.{Levels}
+use Rattle.registers.specs.declared.SeatEvent.the-variants.{Levels}
 use Rattle.channel.specs.Parts.{withModem}
 use Rattle.channel.specs.Status.{msr}
 use Rattle.channel.specs.StatusLaws.{msr-changes, msr-levels}

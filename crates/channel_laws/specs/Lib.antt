@@ -7,7 +7,6 @@ pub mod WireLaws
 pub mod SoundLaws
 pub mod SoundStepLaws
 pub mod Shown
-pub mod NumberLaws
 pub mod AgainLaws
 pub mod LevelLaws
 pub mod EmptyingLaws

@@ -27,11 +27,11 @@ use Rattle.transmitter.specs.Sending.{toSend}
 use Rattle.transmitter.specs.SoundLaws as sending
 use Rattle.channel.specs.declared.Channel.{Channel}
 use Rattle.channel.specs.declared.Stepped.{Stepped}
-use Rattle.channel.specs.declared.SeatEvent.the-variants.{Write, Arrival}
+use Rattle.registers.specs.declared.SeatEvent.the-variants.{Write, Arrival}
 use Rattle.channel.specs.Parts.{fifo}
 use Rattle.channel.specs.Sound.{soundChannel}
 use Rattle.channel.specs.StatusLaws.{lsr-data, lsr-overrun, lsr-kept, lsr-oldest, lsr-empty, lsr-idle, lsr-marked}
-use Rattle.channel_laws.specs.RefusalLaws.{accepts}
+use Rattle.registers.specs.RefusalLaws.{accepts}
 use Rattle.channel_laws.specs.SoundLaws.{parts}
 use Rattle.channel_laws.specs.SideLaws.{arrival-received, thr-writes}
 use Rattle.channel_laws.specs.AgainLaws.{shows-lsr}
@@ -126,7 +126,7 @@ holds-marks c l held mode k less =
 
 -- ---- an arrival
 
-module _ (c : Channel) (marks byte : ℕ) (served : accepts c (Arrival marks byte) ≡ true) where
+module _ (c : Channel) (marks byte : ℕ) (served : accepts (c .settings) (Arrival marks byte) ≡ true) where
   abbrev arrived : Character
   arrived = record { «data» = byte; marks = marks }
 

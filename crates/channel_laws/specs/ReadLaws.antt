@@ -20,7 +20,7 @@ use Rattle.receiver.specs.Receiver.{looked}
 use Rattle.channel.specs.declared.Channel.{Channel}
 use Rattle.registers.specs.declared.Register.{Register}
 use Rattle.registers.specs.declared.Register.the-variants.{IirFcr, Lsr, Msr}
-use Rattle.channel.specs.declared.SeatEvent.the-variants.{Read}
+use Rattle.registers.specs.declared.SeatEvent.the-variants.{Read}
 use Rattle.channel.specs.Parts.{divisorShown, fifo}
 use Rattle.registers.specs.Registers.{plainRegister, registerAt}
 use Rattle.channel.specs.Status.{lsr, msr, iir}

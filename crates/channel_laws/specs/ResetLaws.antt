@@ -9,18 +9,19 @@ use Rattle.base.specs.Bits.{bit, digit, bits}
 use Rattle.base.specs.BitLaws.{bit-past}
 use Rattle.base.specs.ListLaws.{listed}
 use Rattle.base.specs.Answers.{valueOf}
-use Rattle.base.specs.Refusals.{firstHeld}
+use Rattle.base.specs.Refusals.{firstOf, refusalBy}
 use Rattle.receiver.specs.Receiver.{restarted, noneQueued, got, shownMarks, someMarked}
 use Rattle.transmitter.specs.Transmitter.{noneWaiting, allSent}
 use Rattle.registers.specs.Modem.{msrOf}
 use Rattle.registers.specs.Registers.{plainRegister, registerAt}
 use Rattle.channel.specs.declared.Channel.{Channel}
-use Rattle.channel.specs.declared.SeatEvent.the-variants.{Write}
+use Rattle.registers.specs.declared.SeatEvent.the-variants.{Write}
 use Rattle.channel.specs.Parts.{powerUp, masterReset}
 use Rattle.channel.specs.Status.{lsr, msr, causes, firstCause, cause, iir, line}
 use Rattle.channel.specs.StatusLaws.{msr-changes, msr-levels}
 use Rattle.channel.specs.Effects.{byteAt, afterWrite}
-use Rattle.channel.specs.Steps.{registerAbove, noDivisor, arrivalWrong, levelsAbove, loopAsked, grounds, refusal, effect, stepped}
+use Rattle.registers.specs.Refusals.{grounds, refusal}
+use Rattle.channel.specs.Steps.{effect, stepped}
 use Rattle.channel_laws.specs.Shown.{shown, after}
 
 -- power-up with the things that a reset keeps
@@ -88,7 +89,7 @@ module _ (c : Channel) where
 -- "Power-up: all registers, divisor, scratch, modem inputs, flags, marks and counts 0, queues and shift register empty.": LSR shows the empty
 -- queues, IIR that there is no cause
 pub power-up-reads : listed 8 (shown powerUp) ≡ 0x00 ∷ 0x00 ∷ 0x01 ∷ 0x00 ∷ 0x00 ∷ 0x60 ∷ 0x00 ∷ 0x00 ∷ []
-unfolding stepped effect refusal grounds firstHeld registerAbove noDivisor arrivalWrong levelsAbove loopAsked
+unfolding stepped effect refusal grounds refusalBy firstOf
     registerAt plainRegister pick bit digit bits valueOf byteAt afterWrite got iir cause causes firstCause lsr msr msrOf
     noneQueued shownMarks someMarked noneWaiting allSent
 power-up-reads = refl
@@ -105,7 +106,7 @@ abbrev pub divisorReads : Channel → List ℕ
 divisorReads c = listed 2 (shown (after c (Write 3 0x80)))
 
 pub power-up-divisor : divisorReads powerUp ≡ 0x00 ∷ 0x00 ∷ []
-unfolding stepped effect refusal grounds firstHeld registerAbove noDivisor arrivalWrong levelsAbove loopAsked
+unfolding stepped effect refusal grounds refusalBy firstOf
     registerAt plainRegister pick bit digit bits valueOf byteAt afterWrite got iir cause causes firstCause lsr msr msrOf
     noneQueued shownMarks someMarked noneWaiting allSent
 power-up-divisor = refl
@@ -114,7 +115,7 @@ power-up-divisor = refl
 pub reset-reads : (c : Channel)
     → (listed 6 (shown (masterReset c)) ≡ c .receiver .last ∷ 0x00 ∷ 0x01 ∷ 0x00 ∷ 0x00 ∷ 0x60 ∷ [])
     × (shown (masterReset c) 7 ≡ c .settings .scratch) × (divisorReads (masterReset c) ≡ c .settings .dll ∷ c .settings .dlm ∷ [])
-unfolding masterReset restarted stepped effect refusal grounds firstHeld registerAbove noDivisor arrivalWrong levelsAbove loopAsked
+unfolding masterReset restarted stepped effect refusal grounds refusalBy firstOf
     registerAt plainRegister pick bit digit bits valueOf byteAt afterWrite got iir cause causes firstCause lsr msr msrOf
     noneQueued shownMarks someMarked noneWaiting allSent
 reset-reads c = (refl, refl, refl)

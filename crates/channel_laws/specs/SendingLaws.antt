@@ -25,12 +25,12 @@ use Rattle.transmitter.specs.SendingLaws.{sends-in-order, idle-at-last, flag-at
 use Rattle.receiver.specs.Receiver.{waited}
 use Rattle.channel.specs.declared.Channel.{Channel}
 use Rattle.channel.specs.declared.Stepped.{Stepped}
-use Rattle.channel.specs.declared.SeatEvent.{SeatEvent}
-use Rattle.channel.specs.declared.SeatEvent.the-variants.{Write, Time}
+use Rattle.registers.specs.declared.SeatEvent.{SeatEvent}
+use Rattle.registers.specs.declared.SeatEvent.the-variants.{Write, Time}
 use Rattle.channel.specs.Parts.{powerUp, withSettings, withTransmitter, divisorShown, fifo}
 use Rattle.channel.specs.Sound.{soundChannel}
 use Rattle.channel.specs.Steps.{stepped}
-use Rattle.channel_laws.specs.RefusalLaws.{undivided}
+use Rattle.registers.specs.RefusalLaws.{undivided}
 use Rattle.channel_laws.specs.SoundLaws.{parts, whole}
 use Rattle.channel_laws.specs.WireLaws.{broken, sent, idle}
 use Rattle.channel_laws.specs.SideLaws.{thr-writes, time-shifts}
@@ -71,7 +71,7 @@ writes-told (byte ∷ bytes) c plain =
 abbrev pub passed : Channel → Channel
 passed c = record { settings = c .settings; receiver = waited (fifo c) (c .receiver); transmitter = shifted (c .transmitter); modem = c .modem }
 
-after-times : (k : ℕ) (c : Channel) → undivided c ≡ false → afterEvents c (replicate k Time) .transmitter ≡ afterTimes k (c .transmitter)
+after-times : (k : ℕ) (c : Channel) → undivided (c .settings) ≡ false → afterEvents c (replicate k Time) .transmitter ≡ afterTimes k (c .transmitter)
 unfolding afterEvents afterTimes
 after-times zero c going = refl
 after-times (suc k) c going =
@@ -91,7 +91,7 @@ onWire lcr (Divisor d) = Divisor d
 onWire lcr (Refused n) = Refused n
 
 -- one character time, without break
-leaves : (c : Channel) → undivided c ≡ false → bit 6 (c .settings .lcr) ≡ false
+leaves : (c : Channel) → undivided (c .settings) ≡ false → bit 6 (c .settings .lcr) ≡ false
     → stepped c Time .answer ≡ onWire (c .settings .lcr) (leaving (c .transmitter))
 leaves c going clear =
     ⊎-elim
@@ -99,7 +99,7 @@ leaves c going clear =
     (λ (empty : c .transmitter .busy ≡ false). idle c going clear empty ∙ sym (ap (onWire (c .settings .lcr)) (pick-false _ _ _ empty)))
     (either-way (c .transmitter .busy))
 
-times-told : (k : ℕ) (c : Channel) → undivided c ≡ false → bit 6 (c .settings .lcr) ≡ false
+times-told : (k : ℕ) (c : Channel) → undivided (c .settings) ≡ false → bit 6 (c .settings .lcr) ≡ false
     → answersTo c (replicate k Time) ≡ map (onWire (c .settings .lcr)) (side.sending k (c .transmitter))
 unfolding answersTo side.sending
 times-told zero c going clear = refl
@@ -108,7 +108,7 @@ times-told (suc k) c going clear =
     (ap (λ (d : Channel). answersTo d (replicate k Time)) (time-shifts c going) ∙ times-told k (passed c) going clear)
 
 -- with break, whatever leaves
-times-broken : (k : ℕ) (c : Channel) → undivided c ≡ false → bit 6 (c .settings .lcr) ≡ true → answersTo c (replicate k Time) ≡ replicate k Break
+times-broken : (k : ℕ) (c : Channel) → undivided (c .settings) ≡ false → bit 6 (c .settings .lcr) ≡ true → answersTo c (replicate k Time) ≡ replicate k Break
 unfolding answersTo
 times-broken zero c going set = refl
 times-broken (suc k) c going set =
@@ -122,7 +122,7 @@ wire-idle : (lcr k : ℕ) → map (onWire lcr) (replicate k Idle) ≡ replicate 
 wire-idle lcr zero = refl
 wire-idle lcr (suc k) = ap (λ (l : List Answer). Idle ∷ l) (wire-idle lcr k)
 
-module _ (c : Channel) (sound : soundChannel c ≡ true) (at-rest : allSent (c .transmitter) ≡ true) (going : undivided c ≡ false)
+module _ (c : Channel) (sound : soundChannel c ≡ true) (at-rest : allSent (c .transmitter) ≡ true) (going : undivided (c .settings) ≡ false)
     (plain : bit 7 (c .settings .lcr) ≡ false) (bytes : List ℕ) (fits : length bytes ≤ capacity (fifo c)) where
   abbrev filled : Channel
   filled = withTransmitter c (writtenAll (fifo c) (c .transmitter) bytes)
@@ -166,7 +166,7 @@ module _ (c : Channel) (sound : soundChannel c ≡ true) (at-rest : allSent (c .
       ∙ idle-at-last (fifo c) (c .transmitter) (parts c sound .transmitter) at-rest bytes fits
 
 -- the flag is clear until the last of one byte or more has moved in, and set from then on
-pub flag-sent : (c : Channel) (byte : ℕ) (bytes : List ℕ) → soundChannel c ≡ true → allSent (c .transmitter) ≡ true → undivided c ≡ false
+pub flag-sent : (c : Channel) (byte : ℕ) (bytes : List ℕ) → soundChannel c ≡ true → allSent (c .transmitter) ≡ true → undivided (c .settings) ≡ false
     → bit 7 (c .settings .lcr) ≡ false → length (byte ∷ bytes) ≤ capacity (fifo c) → (k : ℕ)
     → afterEvents c (sending (byte ∷ bytes) k) .transmitter .flag ≡ leb (length (byte ∷ bytes)) k
 flag-sent c byte bytes sound at-rest going plain fits k =

@@ -4,8 +4,8 @@ use mathlib.Core.List.{List, [], _∷_, _++_, map}
 use lib.ListN.{replicate}
 use Rattle.base.specs.declared.Answer.{Answer}
 use Rattle.channel.specs.declared.Channel.{Channel}
-use Rattle.channel.specs.declared.SeatEvent.{SeatEvent}
-use Rattle.channel.specs.declared.SeatEvent.the-variants.{Write, Time}
+use Rattle.registers.specs.declared.SeatEvent.{SeatEvent}
+use Rattle.registers.specs.declared.SeatEvent.the-variants.{Write, Time}
 use Rattle.channel.specs.Steps.{stepped}
 
 -- the channel after these events, in order

@@ -14,13 +14,13 @@ use Rattle.registers.specs.declared.Register.the-variants.{Ier}
 use Rattle.registers.specs.Registers.{plainRegister, registerAt, withIer}
 use Rattle.channel.specs.declared.Channel.{Channel}
 use Rattle.channel.specs.declared.Stepped.{Stepped}
-use Rattle.channel.specs.declared.SeatEvent.the-variants.{Write, Time}
+use Rattle.registers.specs.declared.SeatEvent.the-variants.{Write, Time}
 use Rattle.channel.specs.Parts.{withSettings, withTransmitter}
 use Rattle.channel.specs.Effects.{ierWritten, afterWrite}
 use Rattle.channel.specs.StatusLaws.{lsr-empty, lsr-idle}
 use Rattle.channel.specs.IirLaws.{flagged}
 use Rattle.channel.specs.ModeLaws.{ier-sent}
-use Rattle.channel_laws.specs.RefusalLaws.{undivided}
+use Rattle.registers.specs.RefusalLaws.{undivided}
 use Rattle.channel_laws.specs.BackLaws.{write-at}
 use Rattle.channel_laws.specs.SideLaws.{time-shifts}
 use Rattle.channel_laws.specs.AgainLaws.{shows-lsr}
@@ -75,7 +75,7 @@ module _ (t : Transmitter) where
 
 -- "a character in the shift register leaves", "the oldest queued moves in": LSR shows all sent after a character time exactly if it showed an empty
 -- transmit queue before
-pub time-shows : (c : Channel) → undivided c ≡ false → bit 6 (shown (after c Time) 5) ≡ bit 5 (shown c 5)
+pub time-shows : (c : Channel) → undivided (c .settings) ≡ false → bit 6 (shown (after c Time) 5) ≡ bit 5 (shown c 5)
 time-shows c going =
     let t = c .transmitter in
     let x = eqb (t .queue .count) 0 in

@@ -2,8 +2,8 @@
 use Prim.Native.Nat.{ℕ}
 use Rattle.base.specs.Answers.{valueOf}
 use Rattle.channel.specs.declared.Channel.{Channel}
-use Rattle.channel.specs.declared.SeatEvent.{SeatEvent}
-use Rattle.channel.specs.declared.SeatEvent.the-variants.{Read}
+use Rattle.registers.specs.declared.SeatEvent.{SeatEvent}
+use Rattle.registers.specs.declared.SeatEvent.the-variants.{Read}
 use Rattle.channel.specs.Steps.{stepped}
 
 -- the byte that a read of this register shows

@@ -10,17 +10,18 @@ use Rattle.transmitter.specs.Transmitter.{written, shifted}
 use Rattle.registers.specs.declared.Register.the-variants.{RbrThr}
 use Rattle.registers.specs.Registers.{plainRegister, registerAt}
 use Rattle.channel.specs.declared.Channel.{Channel}
-use Rattle.channel.specs.declared.SeatEvent.the-variants.{Read, Write, Arrival, Time}
+use Rattle.registers.specs.declared.SeatEvent.the-variants.{Read, Write, Arrival, Time}
 use Rattle.channel.specs.Parts.{withReceiver, withTransmitter, divisorShown, fifo}
 use Rattle.channel.specs.Effects.{byteAt, afterRead, afterWrite, afterArrival, afterTime}
 use Rattle.channel.specs.Steps.{effect, stepped}
-use Rattle.channel_laws.specs.RefusalLaws.{undivided, accepts, done}
+use Rattle.registers.specs.RefusalLaws.{undivided, accepts}
+use Rattle.channel_laws.specs.RefusalLaws.{done}
 use Rattle.channel_laws.specs.ReadLaws.{read-at}
 use Rattle.channel_laws.specs.BackLaws.{write-at}
 
 module _ (c : Channel) where
   -- "character arrives": "000"
-  pub arrival-received : (marks byte : ℕ) → accepts c (Arrival marks byte) ≡ true
+  pub arrival-received : (marks byte : ℕ) → accepts (c .settings) (Arrival marks byte) ≡ true
       → stepped c (Arrival marks byte)
       ≡ record { channel = withReceiver c (received (fifo c) (c .receiver) (record { «data» = byte; marks = marks })); answer = Done }
   unfolding effect afterArrival
@@ -28,7 +29,7 @@ module _ (c : Channel) where
 
   -- "a character in the shift register leaves, cut to the word length; the oldest queued moves in"; "in FIFO mode with a character in the receive
   -- queue the time-out count rises, up to 4"
-  pub time-shifts : undivided c ≡ false
+  pub time-shifts : undivided (c .settings) ≡ false
       → stepped c Time .channel
       ≡ record { settings = c .settings; receiver = waited (fifo c) (c .receiver); transmitter = shifted (c .transmitter); modem = c .modem }
   unfolding effect afterTime

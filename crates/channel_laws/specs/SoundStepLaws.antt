@@ -22,8 +22,8 @@ use Rattle.channel.specs.declared.Channel.{Channel}
 use Rattle.channel.specs.declared.Stepped.{Stepped}
 use Rattle.registers.specs.declared.Register.{Register}
 use Rattle.registers.specs.declared.Register.the-variants.{RbrThr, Ier, IirFcr, Lcr, Mcr, Lsr, Msr, Scratch, Dll, Dlm}
-use Rattle.channel.specs.declared.SeatEvent.{SeatEvent}
-use Rattle.channel.specs.declared.SeatEvent.the-variants.{Read, Write, Arrival, Levels, Time}
+use Rattle.registers.specs.declared.SeatEvent.{SeatEvent}
+use Rattle.registers.specs.declared.SeatEvent.the-variants.{Read, Write, Arrival, Levels, Time}
 use Rattle.channel.specs.Parts.{divisorShown, fifo}
 use Rattle.registers.specs.Registers.{plainRegister, registerAt, fcrKept}
 use Rattle.channel.specs.Status.{cause}
@@ -33,7 +33,8 @@ use Rattle.channel.specs.Sound.{soundChannel}
 use Rattle.channel.specs.CauseLaws.{late-at-four}
 use Rattle.registers.specs.ModemLaws.{differ-xor, changes-small}
 use Rattle.channel.specs.ModeLaws.{fcr-off, mode-after}
-use Rattle.channel_laws.specs.RefusalLaws.{undivided, accepts, done, refused}
+use Rattle.registers.specs.RefusalLaws.{undivided, accepts}
+use Rattle.channel_laws.specs.RefusalLaws.{done, refused}
 use Rattle.channel_laws.specs.SoundLaws.{Sound, parts, whole, with-receiver, with-transmitter, with-modem, with-settings}
 
 -- ---- reads
@@ -200,13 +201,13 @@ module _ (n byte : ℕ) (served : not (eqb n 4 && bit 4 byte) ≡ true) where
 
 -- ---- every event
 
-effect-sound : (c : Channel) (e : SeatEvent) → accepts c e ≡ true → Sound c → Sound (effect c e .channel)
+effect-sound : (c : Channel) (e : SeatEvent) → accepts (c .settings) e ≡ true → Sound c → Sound (effect c e .channel)
 unfolding effect afterArrival afterLevels afterTime
 effect-sound c (Read n) fine s = read-sound c (registerAt (divisorShown c) n) s
 effect-sound c (Write n byte) fine s =
     write-sound c (registerAt (divisorShown c) n) byte (register-taken n byte (both-hold (ltb n 8) _ fine .1) (divisorShown c)) s
 effect-sound c (Arrival marks byte) fine s =
-    let all = both-hold (not (undivided c)) _ fine .1 in
+    let all = both-hold (not (undivided (c .settings))) _ fine .1 in
     let small : marks < 8 = ltb-true _ _ (both-hold _ _ (both-hold _ _ (both-hold _ _ all .0) .0) .0) in
     with-receiver c _ s (heard.receive-sound (fifo c) (c .receiver) (record { «data» = byte; marks = marks }) (s .receiver) small)
 effect-sound c (Levels levels) fine s = with-modem c _ s (ltb-true levels 16 fine) (changes-small (c .modem .changes) (c .modem .levels) levels)
@@ -225,10 +226,10 @@ effect-sound c Time fine s =
 pub step-sound : (c : Channel) (e : SeatEvent) → soundChannel c ≡ true → soundChannel (stepped c e .channel) ≡ true
 step-sound c e sound =
     ⊎-elim
-    (λ (fine : accepts c e ≡ true).
+    (λ (fine : accepts (c .settings) e ≡ true).
     ap (λ (t : Stepped). soundChannel (t .channel)) (done c e fine) ∙ whole (effect c e .channel) (effect-sound c e fine (parts c sound)))
-    (λ (wrong : accepts c e ≡ false). ap (λ (t : Stepped). soundChannel (t .channel)) (refused c e wrong) ∙ sound)
-    (either-way (accepts c e))
+    (λ (wrong : accepts (c .settings) e ≡ false). ap (λ (t : Stepped). soundChannel (t .channel)) (refused c e wrong) ∙ sound)
+    (either-way (accepts (c .settings) e))
 
 -- of a sound channel, 0C is named only in FIFO mode with a character queued
 pub late-waits : (c : Channel) → soundChannel c ≡ true → cause c ≡ 0x0C → (fifo c ≡ true) × (noneQueued (c .receiver) ≡ false)

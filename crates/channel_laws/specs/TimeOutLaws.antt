@@ -16,11 +16,11 @@ use Rattle.receiver.specs.declared.Receiver.{Receiver}
 use Rattle.receiver.specs.Receiver.{noneQueued, waited}
 use Rattle.receiver.specs.WaitingLaws.{wait-counts, wait-at-most}
 use Rattle.channel.specs.declared.Channel.{Channel}
-use Rattle.channel.specs.declared.SeatEvent.the-variants.{Time}
+use Rattle.registers.specs.declared.SeatEvent.the-variants.{Time}
 use Rattle.channel.specs.Parts.{fifo}
 use Rattle.channel.specs.StatusLaws.{lsr-data}
 use Rattle.channel.specs.CauseLaws.{troubled, ready, cause-named}
-use Rattle.channel_laws.specs.RefusalLaws.{undivided}
+use Rattle.registers.specs.RefusalLaws.{undivided}
 use Rattle.channel_laws.specs.SideLaws.{time-shifts}
 use Rattle.channel_laws.specs.SendingLaws.{passed}
 use Rattle.channel_laws.specs.AgainLaws.{shows-lsr, named, named-is}
@@ -28,7 +28,7 @@ use Rattle.channel_laws.specs.Shown.{shown, after}
 use Rattle.channel_laws.specs.Sends.{afterEvents}
 
 -- "in FIFO mode with a character in the receive queue the time-out count rises": in 16450 mode, and with LSR bit 0 clear, the receive side is equal
-pub no-rise : (c : Channel) → undivided c ≡ false → (fifo c && bit 0 (shown c 5)) ≡ false → after c Time .receiver ≡ c .receiver
+pub no-rise : (c : Channel) → undivided (c .settings) ≡ false → (fifo c && bit 0 (shown c 5)) ≡ false → after c Time .receiver ≡ c .receiver
 unfolding waited noneQueued
 no-rise c going none =
     let r = c .receiver in
@@ -40,7 +40,7 @@ no-rise c going none =
     (pick-false _ (r .timeout + 1) (r .timeout) idle)
 
 -- and no more than the count moves, in any mode: a time-out takes no character, and clears nothing
-pub time-hears : (c : Channel) → undivided c ≡ false
+pub time-hears : (c : Channel) → undivided (c .settings) ≡ false
     → let r = after c Time .receiver in
     (r .queue ≡ c .receiver .queue) × (r .overrun ≡ c .receiver .overrun) × (r .kept ≡ c .receiver .kept) × (r .last ≡ c .receiver .last)
 unfolding waited
@@ -68,7 +68,7 @@ module _ (ch : Character) (l : List Character) where
       (either-way (ltb (r .timeout) 4))
 
   -- so many character times later
-  pub counts : (k : ℕ) (c : Channel) → fifo c ≡ true → c .receiver .queue ≡ holding (ch ∷ l) → c .receiver .timeout ≤ 4 → undivided c ≡ false
+  pub counts : (k : ℕ) (c : Channel) → fifo c ≡ true → c .receiver .queue ≡ holding (ch ∷ l) → c .receiver .timeout ≤ 4 → undivided (c .settings) ≡ false
       → afterEvents c (replicate k Time) .receiver .timeout ≡ min (k + c .receiver .timeout) 4
   unfolding afterEvents waited
   counts zero c mode held most going = omega arith
@@ -93,7 +93,7 @@ module _ (ch : Character) (l : List Character) where
       (either-way (ltb k 4))
 
   -- "0C time-out count 4 (bit 0)": from a count of 0 it is named from the fourth character time on, unless 06 or 04 is
-  pub time-out-named : (k : ℕ) (c : Channel) → fifo c ≡ true → c .receiver .queue ≡ holding (ch ∷ l) → c .receiver .timeout ≡ 0 → undivided c ≡ false
+  pub time-out-named : (k : ℕ) (c : Channel) → fifo c ≡ true → c .receiver .queue ≡ holding (ch ∷ l) → c .receiver .timeout ≡ 0 → undivided (c .settings) ≡ false
       → let d = afterEvents c (replicate k Time) in
       eqb (named d) 0x0C ≡ (not (troubled d) && not (ready d) && (bit 0 (d .settings .ier) && leb 4 k))
   time-out-named k c mode held none going =

@@ -9,16 +9,17 @@ use Rattle.base.specs.Bits.{bit}
 use Rattle.base.specs.declared.Answer.the-variants.{Done, Sent, Idle, Break}
 use Rattle.channel.specs.declared.Channel.{Channel}
 use Rattle.channel.specs.declared.Stepped.{Stepped}
-use Rattle.channel.specs.declared.SeatEvent.the-variants.{Levels, Time}
+use Rattle.registers.specs.declared.SeatEvent.the-variants.{Levels, Time}
 use Rattle.channel.specs.Parts.{withSettings, withModem}
 use Rattle.registers.specs.Words.{cut}
 use Rattle.registers.specs.Registers.{withLcr}
 use Rattle.registers.specs.Modem.{changesAfter}
 use Rattle.channel.specs.Effects.{afterLevels, afterTime, timeAnswer}
 use Rattle.channel.specs.Steps.{effect, stepped}
-use Rattle.channel_laws.specs.RefusalLaws.{undivided, done, refused}
+use Rattle.registers.specs.RefusalLaws.{undivided}
+use Rattle.channel_laws.specs.RefusalLaws.{done, refused}
 
-module _ (c : Channel) (going : undivided c ≡ false) where
+module _ (c : Channel) (going : undivided (c .settings) ≡ false) where
   answered : stepped c Time .answer ≡ timeAnswer c
   unfolding effect
   answered = ap (λ s. s .answer) (done c Time (ap not going))
@@ -51,13 +52,13 @@ time-goes-on c lcr =
     let other = withLcr (c .settings) lcr in
     let d = withSettings c other in
     ⊎-elim
-    (λ (none : undivided c ≡ true).
+    (λ (none : undivided (c .settings) ≡ true).
     ap (λ (s : Stepped). s .channel) (refused d Time (ap not none))
     ∙ sym (ap (λ (s : Stepped). withSettings (s .channel) other) (refused c Time (ap not none))))
-    (λ (going : undivided c ≡ false).
+    (λ (going : undivided (c .settings) ≡ false).
     ap (λ (s : Stepped). s .channel) (done d Time (ap not going)) ∙ goes-on c lcr
     ∙ sym (ap (λ (s : Stepped). withSettings (s .channel) other) (done c Time (ap not going))))
-    (either-way (undivided c))
+    (either-way (undivided (c .settings)))
 
 -- levels below 16 are taken as they are, with the changes from the levels before; nothing else changes
 pub levels-taken : (c : Channel) (levels : ℕ) → levels < 16

@@ -13,8 +13,7 @@ use Rattle.controller.specs.Signals.{acknowledge}
 use Rattle.controller.specs.Turns.{requests, asks, grantable, outputOf, granted, vector, grant, answered, acknowledged}
 use Rattle.controller.specs.GrantLaws.{Finds, foremost, nobody, granted-first, grantable-parts}
 use Rattle.controller.specs.Refusals.{refusal}
-use Rattle.base.specs.Refusals.{firstHeld}
-use Rattle.controller.specs.RefusalLaws.{step-done}
+use Rattle.controller.specs.RefusalLaws.{refusal-by-grounds, step-done}
 use Rattle.controller.specs.Steps.{step}
 use Rattle.controller.specs.declared.Controller.{Controller}
 use Rattle.controller.specs.declared.Setup.{Setup}
@@ -24,8 +23,8 @@ use Rattle.controller.specs.declared.Turn.the-variants.{Nobody}
 module _ (c : Controller) where
   -- an acknowledge of a ready controller is not refused
   pub step-acknowledge : ready (c .setup) ≡ true → step c acknowledge ≡ answered c (granted c)
-  unfolding refusal firstHeld acknowledged
-  step-acknowledge up = step-done c acknowledge (pick-false false 2 _ refl ∙ pick-false (not (ready (c .setup))) 8 _ (ap not up) ∙ pick-false false 9 0 refl)
+  unfolding acknowledged
+  step-acknowledge up = step-done c acknowledge (refusal-by-grounds (c .setup) acknowledge ∙ pick-false false 2 _ refl ∙ pick-false (not (ready (c .setup))) 8 _ (ap not up) ∙ pick-false false 9 0 refl)
 
 -- ---- the output
 

@@ -1,20 +1,45 @@
 -- Each refusal exactly where its condition holds and none before it does; a refused signal changes nothing.
 use Prim.Native.Nat.{ℕ}
 use mathlib.Core.Bool.{Bool, true, false}
-use mathlib.Core.Path.{_≡_, refl}
+use mathlib.Core.List.{[], _∷_}
+use mathlib.Core.Path.{_≡_, refl, sym, subst}
 use native.Mathlib.Omega.{arith}
 use borrow.Author.Tests.{eq-eqb, ne-eqb, eqb-true}
 use lib.Dec.{eqb}
 use Rattle.base.specs.Pick.{pick}
 use Rattle.base.specs.PickLaws.{pick-true, pick-false, pick-cases, not-both}
 use Rattle.base.specs.declared.Answer.the-variants.{Refused}
-use Rattle.controller.specs.Signals.{Signal, levels, read}
-use Rattle.controller.specs.Refusals.{portAbove, notReady, notServed, refusal}
-use Rattle.base.specs.Refusals.{firstHeld}
+use Rattle.controller.specs.Signals.{Signal, levels, read, write, acknowledge}
+use Rattle.controller.specs.Refusals.{lineAbove, portAbove, notReady, notServed, grounds, refusal, placeRefusal}
+use Rattle.base.specs.Refusals.{Ground, refusalOrder}
+use Rattle.base.specs.RefusalLaws.{firstHeld, follows, in-order}
 use Rattle.controller.specs.Steps.{effect, step}
 use Rattle.controller.specs.declared.Controller.{Controller}
 use Rattle.controller.specs.declared.Setup.{Setup}
 use Rattle.controller.specs.declared.Stepped.{Stepped}
+
+-- ---- the number: the first ground of the signal that holds
+
+-- the grounds of every signal are listed in the order
+pub in-turn : (s : Setup) (signal : Signal) → follows refusalOrder (grounds s signal) ≡ true
+unfolding grounds
+in-turn s (levels high) = refl
+in-turn s (read port) = refl
+in-turn s (write port b) = refl
+in-turn s acknowledge = refl
+
+-- so the number is that of the first that holds; a ground that a signal has not is a condition that does not hold
+pub refusal-by-grounds : (s : Setup) (signal : Signal) → refusal s signal ≡ pick (portAbove signal) 2 (pick (notReady s signal) 8 (pick (notServed s signal) 9 0))
+unfolding refusal grounds firstHeld pick
+refusal-by-grounds s (levels high) = in-order (grounds s (levels high)) (in-turn s (levels high))
+refusal-by-grounds s (read port) = in-order (grounds s (read port)) (in-turn s (read port))
+refusal-by-grounds s (write port b) = in-order (grounds s (write port b)) (in-turn s (write port b))
+refusal-by-grounds s acknowledge = in-order (grounds s acknowledge) (in-turn s acknowledge)
+
+-- of a place one ground alone
+pub place-by-ground : (n : ℕ) → placeRefusal n ≡ pick (lineAbove n) 1 0
+unfolding placeRefusal firstHeld
+place-by-ground n = in-order (record { number = 1; holds = lineAbove n } ∷ []) refl
 
 -- ---- the number, told apart: its own condition holds, and no condition before it does
 
@@ -33,8 +58,8 @@ told s signal false false true e f g = unserved e f g
 told s signal false false false e f g = none e f g
 
 pub refuses : (s : Setup) (signal : Signal) → Refuses s signal (refusal s signal)
-unfolding refusal firstHeld
-refuses s signal = told s signal (portAbove signal) (notReady s signal) (notServed s signal) refl refl refl
+refuses s signal =
+    subst (Refuses s signal) (sym (refusal-by-grounds s signal)) (told s signal (portAbove signal) (notReady s signal) (notServed s signal) refl refl refl)
 
 -- ---- what a step is
 
@@ -80,8 +105,8 @@ module _ (c : Controller) (signal : Signal) where
 
 -- levels are never refused, and a read, refused or not, changes nothing
 pub step-levels : (c : Controller) (high : ℕ) → step c (levels high) ≡ effect c (levels high)
-unfolding refusal firstHeld pick
-step-levels c high = step-done c (levels high) refl
+unfolding pick
+step-levels c high = step-done c (levels high) (refusal-by-grounds (c .setup) (levels high))
 
 pub read-keeps : (c : Controller) (p : ℕ) → step c (read p) .controller ≡ c
 read-keeps c p = step-keeps (λ d. d ≡ c) c (read p) refl (λ free. refl)

@@ -1,10 +1,10 @@
--- What a controller refuses: each number with its own condition, and the first of the list that holds.
+-- What a controller refuses: each number with its own condition, and the grounds of each signal.
 use Prim.Native.Nat.{ℕ}
 use mathlib.Core.Bool.{Bool, false, not, _&&_, _||_}
-use mathlib.Core.List.{[], _∷_}
+use mathlib.Core.List.{List, [], _∷_}
 use lib.Dec.{eqb, ltb}
 use Rattle.base.specs.Bits.{bit}
-use Rattle.base.specs.Refusals.{firstHeld}
+use Rattle.base.specs.Refusals.{Ground, refusalBy}
 use Rattle.controller.specs.State.{ready, begun, awaitsIcw4}
 use Rattle.controller.specs.Signals.{Signal, levels, read, write, acknowledge}
 use Rattle.controller.specs.Words.{isIcw1, isOcw3}
@@ -42,15 +42,21 @@ notServed s (write port b) =
     || eqb port 0 && isOcw3 b && bit 2 b
 notServed s acknowledge = false
 
--- "The order is 4, 3, 1, 2, then 5, 6, 7, 8, 9.": of these, those that a controller can give
+-- the grounds of each signal: "register above 7, port above 1" of a read and a write; "controller not ready"; of a write, "not served"
+unfoldable pub grounds : Setup → Signal → List Ground
+grounds s (levels high) = []
+grounds s (read port) = record { number = 2; holds = portAbove (read port) } ∷ record { number = 8; holds = notReady s (read port) } ∷ []
+grounds s (write port b) =
+    record { number = 2; holds = portAbove (write port b) }
+    ∷ record { number = 8; holds = notReady s (write port b) }
+    ∷ record { number = 9; holds = notServed s (write port b) }
+    ∷ []
+grounds s acknowledge = record { number = 8; holds = notReady s acknowledge } ∷ []
+
+-- the number that a controller gives, 0 for none
 unfoldable pub refusal : Setup → Signal → ℕ
-refusal s signal =
-    firstHeld
-    (record { number = 2; holds = portAbove signal }
-    ∷ record { number = 8; holds = notReady s signal }
-    ∷ record { number = 9; holds = notServed s signal }
-    ∷ [])
+refusal s signal = refusalBy (grounds s signal)
 
 -- "line above 7 gives refusal 1"
 unfoldable pub placeRefusal : ℕ → ℕ
-placeRefusal n = firstHeld (record { number = 1; holds = lineAbove n } ∷ [])
+placeRefusal n = refusalBy (record { number = 1; holds = lineAbove n } ∷ [])

@@ -11,8 +11,7 @@ use Rattle.base.specs.declared.Answer.the-variants.{Refused}
 use Rattle.controller.specs.State.{ready, begun}
 use Rattle.controller.specs.Signals.{Signal, read, write, acknowledge}
 use Rattle.controller.specs.Refusals.{portAbove, notReady, notServed, refusal}
-use Rattle.base.specs.Refusals.{firstHeld}
-use Rattle.controller.specs.RefusalLaws.{step-refused}
+use Rattle.controller.specs.RefusalLaws.{refusal-by-grounds, step-refused}
 use Rattle.controller.specs.Steps.{step}
 use Rattle.controller.specs.declared.Controller.{Controller}
 
@@ -21,19 +20,16 @@ module _ (c : Controller) (signal : Signal) where
   by n ne e = step-refused c signal (λ z. ne (sym e ∙ z)) ∙ ap (λ (k : ℕ). record { controller = c; answer = Refused k }) e
 
   by-2 : portAbove signal ≡ true → step c signal ≡ record { controller = c; answer = Refused 2 }
-  unfolding refusal firstHeld
-  by-2 e = by 2 (λ z. omega arith) (pick-true (portAbove signal) 2 _ e)
+  by-2 e = by 2 (λ z. omega arith) (refusal-by-grounds (c .setup) signal ∙ pick-true (portAbove signal) 2 _ e)
 
   by-8 : portAbove signal ≡ false → notReady (c .setup) signal ≡ true → step c signal ≡ record { controller = c; answer = Refused 8 }
-  unfolding refusal firstHeld
-  by-8 e f = by 8 (λ z. omega arith) (pick-false (portAbove signal) 2 _ e ∙ pick-true (notReady (c .setup) signal) 8 _ f)
+  by-8 e f = by 8 (λ z. omega arith) (refusal-by-grounds (c .setup) signal ∙ pick-false (portAbove signal) 2 _ e ∙ pick-true (notReady (c .setup) signal) 8 _ f)
 
   by-9 : portAbove signal ≡ false → notReady (c .setup) signal ≡ false → notServed (c .setup) signal ≡ true
       → step c signal ≡ record { controller = c; answer = Refused 9 }
-  unfolding refusal firstHeld
   by-9 e f g =
       by 9 (λ z. omega arith)
-      (pick-false (portAbove signal) 2 _ e ∙ pick-false (notReady (c .setup) signal) 8 _ f ∙ pick-true (notServed (c .setup) signal) 9 _ g)
+      (refusal-by-grounds (c .setup) signal ∙ pick-false (portAbove signal) 2 _ e ∙ pick-false (notReady (c .setup) signal) 8 _ f ∙ pick-true (notServed (c .setup) signal) 9 _ g)
 
 -- ---- 2: a port above 1, in every state
 

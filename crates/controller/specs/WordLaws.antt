@@ -13,8 +13,7 @@ use Rattle.controller.specs.State.{powerUp, ready, begun, awaitsIcw2, aw
 use Rattle.controller.specs.Signals.{Signal, levels, read, write}
 use Rattle.controller.specs.Words.{icw1, icw2, icw4, ended, madeLast, plainEnd, rotatingEnd, command, ocw2, ocw3, written0, written1, written, shown}
 use Rattle.controller.specs.Refusals.{portAbove, notReady, notServed, refusal}
-use Rattle.base.specs.Refusals.{firstHeld}
-use Rattle.controller.specs.RefusalLaws.{step-done}
+use Rattle.controller.specs.RefusalLaws.{refusal-by-grounds, step-done}
 use Rattle.controller.specs.Steps.{step}
 use Rattle.controller.specs.declared.Controller.{Controller}
 use Rattle.controller.specs.declared.Setup.{Setup}
@@ -23,8 +22,7 @@ use Rattle.controller.specs.declared.Stepped.{Stepped}
 
 -- none of the three conditions holds
 none-holds : (s : Setup) (signal : Signal) → portAbove signal ≡ false → notReady s signal ≡ false → notServed s signal ≡ false → refusal s signal ≡ 0
-unfolding refusal firstHeld
-none-holds s signal a b c = rw (pick-false _ _ _ a, pick-false _ _ _ b, pick-false _ _ _ c)
+none-holds s signal a b c = rw (refusal-by-grounds s signal, pick-false _ _ _ a, pick-false _ _ _ b, pick-false _ _ _ c)
 
 -- ---- initialisation
 

@@ -1,4 +1,5 @@
 // One 8259A. It knows the levels of eight lines, and no seats. A set of lines is a byte: line n is its bit n.
+use base::Answer;
 ghost use mathlib.Core.Path.{_≡_};
 ghost use Rattle.controller.specs.State.{powerUp};
 ghost use Rattle.controller.specs.Signals.{read, write, acknowledge};
@@ -46,7 +47,7 @@ pub struct Controller {
 // The controller after a signal, and what the signal was answered with.
 pub struct Stepped {
     pub controller: Controller,
-    pub answer: base::Answer,
+    pub answer: Answer,
 }
 
 // A line, or nobody.
@@ -107,23 +108,29 @@ impl Controller {
         self
     }
 
+    // Asked after every event: mostly nobody asks, and no search is made. The search takes bytes, not the controller, which need not be stored for it.
     pub fn output(self) -> bool
         ensures { λ r. ⌜ r ≡ outputOf self ⌝ }
     {
-        let place = self.grantable_place();
+        let o = self.operation;
+        let asks = self.asking();
+        if asks == 0 {
+            return false;
+        }
+        let place = rank::first_above(o.first, asks, o.hindering());
         (self.setup.stage == Setup::READY) & (place < rank::LINES)
     }
 
-    pub fn read(self, port: u8) -> base::Answer
+    pub fn read(self, port: u8) -> Answer
         ensures { λ r. ⌜ r ≡ step self (read port) .answer ⌝ }
     {
         if Controller::PORT_1 < port {
-            return base::Answer::Refused(Setup::PORT_ABOVE);
+            return Answer::Refused(Answer::NUMBER_ABOVE);
         }
         if self.setup.stage == Setup::READY {
-            return base::Answer::Byte(self.shown(port));
+            return Answer::Byte(self.shown(port));
         }
-        base::Answer::Refused(Setup::NOT_READY)
+        Answer::Refused(Answer::NOT_READY)
     }
 
     pub fn write(self, port: u8, byte: u8) -> Stepped
@@ -134,12 +141,12 @@ impl Controller {
         if number == 0 {
             return Stepped {
                 controller: self.written(port, byte),
-                answer: base::Answer::Done,
+                answer: Answer::Done,
             };
         }
         Stepped {
             controller: self,
-            answer: base::Answer::Refused(number),
+            answer: Answer::Refused(number),
         }
     }
 
@@ -151,17 +158,17 @@ impl Controller {
         }
         Stepped {
             controller: self,
-            answer: base::Answer::Refused(Setup::NOT_READY),
+            answer: Answer::Refused(Answer::NOT_READY),
         }
     }
 
     // The place in turn of a line.
-    pub fn place(self, line: u8) -> base::Answer
+    pub fn place(self, line: u8) -> Answer
         ensures { λ r. ⌜ r ≡ placed self line ⌝ }
     {
         if 7 < line {
-            return base::Answer::Refused(Setup::LINE_ABOVE);
+            return Answer::Refused(Answer::SEAT_ABOVE);
         }
-        base::Answer::Place(rank::place(self.operation.first, line))
+        Answer::Place(rank::place(self.operation.first, line))
     }
 }

@@ -4,17 +4,9 @@ ghost use Rattle.controller.specs.Signals.{write};
 ghost use Rattle.controller.specs.Refusals.{notReady, notServed, refusal};
 use crate::Controller;
 use crate::Setup;
+use base::Answer;
 
 impl Setup {
-    // The numbers of the refusals.
-    pub(crate) const LINE_ABOVE: u8 = 1;
-
-    pub(crate) const PORT_ABOVE: u8 = 2;
-
-    pub(crate) const NOT_READY: u8 = 8;
-
-    pub(crate) const NOT_SERVED: u8 = 9;
-
     fn not_ready(self, port: u8, byte: u8) -> bool
         ensures { λ r. ⌜ r ≡ notReady self (write port byte) ⌝ }
     {
@@ -42,13 +34,13 @@ impl Setup {
         ensures { λ r. ⌜ r ≡ refusal self (write port byte) ⌝ }
     {
         if Controller::PORT_1 < port {
-            return Setup::PORT_ABOVE;
+            return Answer::NUMBER_ABOVE;
         }
         if self.not_ready(port, byte) {
-            return Setup::NOT_READY;
+            return Answer::NOT_READY;
         }
         if self.not_served(port, byte) {
-            return Setup::NOT_SERVED;
+            return Answer::NOT_SERVED;
         }
         0
     }

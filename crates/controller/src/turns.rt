@@ -1,6 +1,6 @@
 // Who asks, who hinders, who is next; and what a grant does.
 ghost use mathlib.Core.Path.{_≡_};
-ghost use Rattle.controller.specs.Turns.{requests, hindering, grantablePlace, found, grant, acknowledged};
+ghost use Rattle.controller.specs.Turns.{requests, hindering, asking, grantablePlace, found, grant, acknowledged};
 use crate::Controller;
 use crate::Operation;
 use crate::Stepped;
@@ -35,17 +35,22 @@ impl Controller {
         base::pick_byte(self.setup.level, self.lines.levels, self.lines.latches)
     }
 
-    // The place of the first-ranked grantable line, and 8 where there is none: the first-ranked that asks is grantable, or none is.
-    pub(crate) fn grantable_place(self) -> u8
+    pub(crate) fn asking(self) -> u8
+        ensures { λ r. ⌜ r ≡ asking self ⌝ }
+    {
+        rank::without(self.requests(), self.operation.mask)
+    }
+
+    // The place of the first-ranked grantable line, and 8 where there is none.
+    fn grantable_place(self) -> u8
         ensures { λ r. ⌜ r ≡ grantablePlace self ⌝ }
     {
         let o = self.operation;
-        let asks = rank::first_place(o.first, rank::without(self.requests(), o.mask));
-        let hinders = rank::first_place(o.first, o.hindering());
-        if asks < hinders {
-            return asks;
+        let asks = self.asking();
+        if asks == 0 {
+            return rank::LINES;
         }
-        rank::LINES
+        rank::first_above(o.first, asks, o.hindering())
     }
 
     fn grant(mut self, n: u8) -> Controller

@@ -118,6 +118,7 @@ rank-once M =
       rank·place = value _ refl (λ κ a v w. refl);
       rank·line-at = value _ refl (λ κ a v w. refl);
       rank·first-place = value _ refl (λ κ a v w. refl);
+      rank·first-above = value _ refl (λ κ a v w. refl);
     }
 
 pub controller-once : (M : Type 1) → ControllerOnce M

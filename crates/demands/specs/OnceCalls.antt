@@ -122,6 +122,7 @@ pub record RankOnce (M : Type 1) : Type 2 where
   pub rank·place : Once M rank.place.ended rank.place.clauses rank.place.spec
   pub rank·line-at : Once M rank.line_at.ended rank.line_at.clauses rank.line_at.spec
   pub rank·first-place : Once M rank.first_place.ended rank.first_place.clauses rank.first_place.spec
+  pub rank·first-above : Once M rank.first_above.ended rank.first_above.clauses rank.first_above.spec
 
 -- ---- controller: the controller
 

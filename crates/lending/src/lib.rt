@@ -1,8 +1,8 @@
 // A channel lent by `&mut` to one function, which calls the by-value step: the late and thin form.
 use base::Answer;
 use channel::Channel;
-use channel::SeatEvent;
 use channel::Stepped;
+use registers::SeatEvent;
 ghost use mathlib.Core.Path.{_≡_};
 ghost use Rattle.channel.specs.Steps.{stepped};
 

@@ -27,27 +27,18 @@ pub struct Taken {
     pub character: Character,
 }
 
+// A loop, for the code that is made of it: slots named one by one are carried through every event one by one.
 fn moved_down(s: [Character; 16]) -> [Character; 16]
     ensures { λ r. ⌜ r ≡ movedDown s ⌝ }
 {
-    [
-        s[1],
-        s[2],
-        s[3],
-        s[4],
-        s[5],
-        s[6],
-        s[7],
-        s[8],
-        s[9],
-        s[10],
-        s[11],
-        s[12],
-        s[13],
-        s[14],
-        s[15],
-        Character { data: 0, marks: 0 },
-    ]
+    let mut moved = [Character { data: 0, marks: 0 }; 16];
+    let mut i: usize = 0;
+    while i < 15 {
+        let ch = s[i + 1];
+        moved[i] = ch;
+        i = i + 1;
+    }
+    moved
 }
 
 fn marked_among(s: [Character; 16], count: u8) -> bool

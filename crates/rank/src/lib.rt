@@ -1,7 +1,8 @@
 // Sets of the eight lines, and rank among them. A set is a byte: line n is its bit n. A line is read modulo 8.
 ghost use mathlib.Core.Path.{_≡_};
+ghost use mathlib.Core.Bool.{_&&_};
 ghost use Rattle.rank.specs.Sets.{has, only, without};
-ghost use Rattle.rank.specs.Rank.{next, place, lineAt, firstPlace};
+ghost use Rattle.rank.specs.Rank.{next, place, lineAt, aboveEvery, firstPlace};
 
 pub const LINES: u8 = 8;
 
@@ -45,6 +46,9 @@ pub fn line_at(first: u8, k: u8) -> u8
 pub fn first_place(first: u8, s: u8) -> u8
     ensures { λ r. ⌜ r ≡ firstPlace first (has s) ⌝ }
 {
+    if s == 0 {
+        return LINES;
+    }
     let mut k: u8 = 0;
     while k < LINES {
         if has(s, line_at(first, k)) {
@@ -53,4 +57,16 @@ pub fn first_place(first: u8, s: u8) -> u8
         k += 1;
     }
     k
+}
+
+// The place of the first-ranked line of a set that ranks above every line of another, and 8 where none does.
+pub fn first_above(first: u8, s: u8, others: u8) -> u8
+    ensures { λ r. ⌜ r ≡ firstPlace first (λ n. has s n && aboveEvery first (has others) n) ⌝ }
+{
+    let at = first_place(first, s);
+    let bar = first_place(first, others);
+    if at < bar {
+        return at;
+    }
+    LINES
 }

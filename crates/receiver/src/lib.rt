@@ -87,9 +87,11 @@ impl Receiver {
     pub fn any_marked(self, fifo: bool) -> bool
         ensures { λ r. ⌜ r ≡ someMarked fifo self ⌝ }
     {
-        let waiting = self.queue;
-        let marked = waiting.any_marked();
-        fifo & marked
+        if fifo {
+            let waiting = self.queue;
+            return waiting.any_marked();
+        }
+        false
     }
 
     pub fn look(mut self, fifo: bool) -> Self

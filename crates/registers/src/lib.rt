@@ -1,5 +1,6 @@
 // The settings of a channel: its registers by name, the mode, the trigger, the divisor and the word length.
 mod modem;
+mod refusals;
 
 pub use modem::changes_after;
 pub use modem::modem_status;
@@ -33,6 +34,15 @@ pub enum Register {
     Scratch,
     Dll,
     Dlm,
+}
+
+// What can happen to a seat.
+pub enum SeatEvent {
+    Read(u8),
+    Write(u8, u8),
+    Arrival(u8, u8),
+    Levels(u8),
+    Time,
 }
 
 impl Settings {
@@ -182,7 +192,7 @@ impl Settings {
         0
     }
 
-    pub fn no_divisor(self) -> bool
+    fn no_divisor(self) -> bool
         ensures { λ r. ⌜ r ≡ eqb (divisor self) 0 ⌝ }
     {
         self.dll as u16 + 256 * self.dlm as u16 == 0
@@ -212,7 +222,7 @@ impl Settings {
         }
     }
 
-    pub fn is_bad_arrival(self, marks: u8, byte: u8) -> bool
+    fn is_bad_arrival(self, marks: u8, byte: u8) -> bool
         ensures { λ r. ⌜ r ≡ badArrival (self .lcr) marks byte ⌝ }
     {
         let beyond = self.is_beyond_word(byte);

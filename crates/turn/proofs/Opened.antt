@@ -12,7 +12,7 @@ use Rattle.controller.specs.Steps as controller
 use Rattle.turn.specs.Waiting as waiting
 
 unfoldable pub of-base : ℕ
-unfolding picks.pick bits.bit bits.digit bits.bits answers.refusalOf answers.valueOf first.firstHeld
+unfolding picks.pick bits.bit bits.digit bits.bits answers.refusalOf answers.valueOf first.firstOf first.refusalBy
 of-base = 0
 
 unfoldable pub of-rank : ℕ
@@ -30,7 +30,7 @@ unfolding commands.icw1 commands.icw2 commands.icw4 commands.ended commands.made
 of-words = 0
 
 unfoldable pub of-controller : ℕ
-unfolding refusing.refusal refusing.placeRefusal controller.step controller.placed
+unfolding refusing.grounds refusing.refusal refusing.placeRefusal controller.step controller.placed
 of-controller = 0
 
 unfoldable pub of-waiting : ℕ

@@ -40,12 +40,12 @@ use denote.Triple.Clauses.{ensured, lasts}
 use denote.Exit.{yes}
 use Rattle.channel.specs.Steps.{stepped}
 use Rattle.channel.specs.declared.Channel.{Channel}
-use Rattle.channel.specs.declared.SeatEvent.{SeatEvent}
+use Rattle.registers.specs.declared.SeatEvent.{SeatEvent}
 use Rattle.channel.specs.declared.Stepped.{Stepped}
 use Rattle.channel.proofs.Channel as C
 use Rattle.channel.proofs.Channel.Laws as C′
-use Rattle.channel.proofs.SeatEvent as E
-use Rattle.channel.proofs.SeatEvent.Laws as E′
+use Rattle.registers.proofs.SeatEvent as E
+use Rattle.registers.proofs.SeatEvent.Laws as E′
 use Rattle.channel.proofs.Stepped as S
 use Rattle.channel.proofs.Stepped.Laws as S′
 use Rattle.base.proofs.Answer as A′

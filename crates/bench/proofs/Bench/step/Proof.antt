@@ -1,75 +1,60 @@
 use Prim.Native.Nat.{ℕ}
-use mathlib.Core.List.{[], _∷_}
-use mathlib.Core.Path.{_≡_, refl, ap, sym, _∙_}
-use types.Run.{OneOf, miss}
-use denote.Enum.Declared.{tagOf}
-use Rattle.base.specs.declared.Answer.the-variants as answer
-use Rattle.bench.specs.declared.Bench.{Bench}
-use Rattle.bench.specs.declared.Decoded.{Decoded}
-use Rattle.bench.specs.declared.Decoded.the-variants.{Taken, Refused}
-use Rattle.bench.specs.Events.{Record, whole, refusedNumber}
-use Rattle.bench.specs.Steps.{shown, dealt}
-use Rattle.bench.specs.MeetLaws.{outcome-dealt}
-use Rattle.bench.proofs.Decoded.{the-type}
+use mathlib.Core.Path.{refl, ap, sym, _∙_}
+use borrow.Author.Tests.{ne-eqb}
+use Rattle.bench.specs.Events.{whole}
+use Rattle.bench.specs.Steps.{outcome}
+use Rattle.bench.specs.PartLaws.{parts-stored, reset-outcome}
 use borrow.Author.Needs.{needs}
 use Rattle.bench.proofs.Bench.step.Statement.{statement}
 use Rattle.bench.proofs.Bench.step.Tie as tie
 
-decode-requires : tie.Need-decode-requires
-decode-requires c κs = search needs
-
-enum-known-decoded : tie.Need-enum-known-decoded
-enum-known-decoded c = search needs
-
-enum-told : tie.Need-enum-told
-enum-told c = search needs
-
-refusal-requires : tie.Need-refusal-requires
-refusal-requires c κs = search needs
-
-show-requires : tie.Need-show-requires
-show-requires c κs = search needs
-
--- a record that was not taken shows its refusal
-not-taken : (b : Bench) (d : Decoded) → OneOf (1 ∷ []) (tagOf the-type d) → shown b (answer.Refused (refusedNumber d)) ≡ dealt b d
-unfolding dealt refusedNumber
-not-taken b (Taken e) k = absurd (miss (1 ∷ []) 0 tt k)
-not-taken b (Refused n) k = refl
-
--- the bench and the record of a call
-abbrev given : tie.Start → Record
-given c = whole (c .args .kind) (c .args .seat) (c .args .number) (c .args .value)
+reset-requires : tie.Need-reset-requires
+reset-requires c κs = search needs
 
 returns : tie.Need-returns
 returns c =
-    let s = c .before .before .before .before .before in
-    let d = c .before .before .before .before .decode .result in
-    c .show .ensures
-    ∙ ap (λ (n : ℕ). shown (s .args .self) (answer.Refused n)) (c .before .refusal .ensures)
-    ∙ not-taken (s .args .self) d (c .before .before .before .match .keys2)
-    ∙ ap (dealt (s .args .self)) (c .before .before .before .before .decode .ensures)
-    ∙ sym (outcome-dealt (s .args .self) (given s))
+    let a = c .before .before .args in
+    c .reset .ensures
+    ∙ sym (ap (λ (k : ℕ). outcome (a .t1) (whole k (a .seat) (a .number) (a .value))) (c .before .if1 .taken) ∙ reset-outcome (a .t1) (a .seat) (a .number) (a .value))
 
-meet-requires : tie.Need-meet-requires
-meet-requires c κs = search needs
+chair-requires : tie.Need-chair-requires
+chair-requires c κs = search needs
+
+mul-held : tie.Need-mul-held
+mul-held c = search needs
+
+element-copy-out-held : tie.Need-element-copy-out-held
+element-copy-out-held c = search needs
+
+step-parts-requires : tie.Need-step-parts-requires
+step-parts-requires c κs = search needs
+
+mul-next : tie.Need-mul-next
+mul-next c = search needs
+
+element-set-from-next : tie.Need-element-set-from-next
+element-set-from-next c = search needs
+
+output-requires : tie.Need-output-requires
+output-requires c κs = search needs
 
 returns-2 : tie.Need-returns-2
-unfolding dealt
 returns-2 c =
-    let s = c .before .before .before .before .before in
-    c .meet .ensures
-    ∙ ap (dealt (s .args .self)) (sym (c .before .before .decoded .given .1) ∙ c .before .before .before .before .decode .ensures)
-    ∙ sym (outcome-dealt (s .args .self) (given s))
+    let a = c .before .before .before .before .before .before .before .before .before .args in
+    parts-stored (a .t1) (whole (a .kind) (a .seat) (a .number) (a .value)) (a .seat) (c .before .before .before .before .before .before .before .chair .result) (c .before .before .before .before .step-parts .result) (c .output .result) refl (c .before .before .before .before .before .before .before .chair .ensures) (c .before .before .before .before .step-parts .ensures) (c .output .ensures)
+    (ne-eqb _ _ (c .before .before .before .before .before .before .before .before .if1 .left))
 
 pub step-spec : {M : Type 1} → statement M
 step-spec =
     tie.close
     (tie.spec
-    decode-requires
-    enum-known-decoded
-    enum-told
-    refusal-requires
-    show-requires
+    reset-requires
     returns
-    meet-requires
+    chair-requires
+    mul-held
+    element-copy-out-held
+    step-parts-requires
+    mul-next
+    element-set-from-next
+    output-requires
     returns-2)

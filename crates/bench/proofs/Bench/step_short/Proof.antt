@@ -1,6 +1,6 @@
 use mathlib.Core.Path.{_≡_, refl, ap, sym, _∙_}
 use Rattle.base.specs.Pick.{pick}
-use Rattle.base.specs.Refusals.{firstHeld}
+use Rattle.base.specs.Refusals.{firstOf, refusalBy}
 use Rattle.bench.specs.declared.Decoded.the-variants.{Refused}
 use Rattle.bench.specs.Events.{short, early, decoded}
 use Rattle.bench.specs.Steps.{dealt}
@@ -13,7 +13,7 @@ show-requires : tie.Need-show-requires
 show-requires c κs = search needs
 
 decoded-short : decoded short ≡ Refused 4
-unfolding decoded early firstHeld pick
+unfolding decoded early refusalBy firstOf pick
 decoded-short = refl
 
 returns : tie.Need-returns

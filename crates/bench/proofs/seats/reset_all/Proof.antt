@@ -4,17 +4,18 @@ use native.Mathlib.Omega.{arith}
 use mathlib.Core.List.{List}
 use lib.ListN.{length, getD, set}
 use borrow.Author.Needs.{needs}
-use Rattle.bench.specs.declared.Seat.{Seat}
-use Rattle.bench.specs.Seats.{noSeat, seatReset}
+use Rattle.seat.specs.declared.Seat.{Seat}
+use Rattle.seat.specs.Seats.{noSeat, reset}
+use Rattle.bench.specs.Seats.{seatCount}
 use Rattle.bench.proofs.Resets.{resetFirst, reset-one, reset-whole}
 use Rattle.bench.proofs.seats.reset_all.Statement.{statement}
 use Rattle.bench.proofs.seats.reset_all.Tie as tie
 
 abbrev Inv-loop : tie.InvT-loop
-Inv-loop s₀ i₀ s i = (i ≤ 8) × (s ≡ resetFirst i s₀)
+Inv-loop s₀ i₀ s i = (i ≤ seatCount) × (s ≡ resetFirst i s₀)
 
 abbrev μ-loop : tie.MeasureT-loop
-μ-loop s₀ i₀ s i = 8 - i
+μ-loop s₀ i₀ s i = seatCount - i
 
 loop-holds : tie.Need-loop-holds Inv-loop μ-loop
 loop-holds c = (omega arith, refl)
@@ -43,11 +44,11 @@ loop-less c = omega arith
 loop-again : tie.Need-loop-again Inv-loop μ-loop
 loop-again c =
     let a = c .before .before .before in
-    let l : length (a .before .args .t1) ≡ 8 = search needs in
+    let l : length (a .before .args .t1) ≡ seatCount = search needs in
     let one : suc (a .loop .i) ≡ a .loop .i + 1 = omega arith in
     let e : set (a .loop .s) (a .loop .i) (c .reset .result) ≡ resetFirst (a .loop .i + 1) (a .before .args .t1) =
     ap (set (a .loop .s) (a .loop .i)) (c .reset .ensures)
-    ∙ ap (λ (s : List Seat). set s (a .loop .i) (seatReset (getD s (a .loop .i) noSeat))) (a .loop .inv .1)
+    ∙ ap (λ (s : List Seat). set s (a .loop .i) (reset (getD s (a .loop .i) noSeat))) (a .loop .inv .1)
     ∙ reset-one (a .before .args .t1) (a .loop .i) noSeat (omega (arith, l))
     ∙ ap (λ (n : ℕ). resetFirst n (a .before .args .t1)) one in
     (omega arith, e)
@@ -55,7 +56,7 @@ loop-again c =
 returns : tie.Need-returns Inv-loop μ-loop
 returns c =
     let a = c .before in
-    let l : length (a .before .args .t1) ≡ 8 = search needs in
+    let l : length (a .before .args .t1) ≡ seatCount = search needs in
     a .loop .inv .1 ∙ reset-whole (a .before .args .t1) (a .loop .i) (omega (arith, l))
 
 pub reset-all-spec : {M : Type 1} → statement M

@@ -1,5 +1,8 @@
-use Rattle.base.specs.PickLaws.{pick-true, pick-false}
-use Rattle.channel.specs.Effects.{iirRead}
+use Rattle.base.specs.PickLaws.{pick-true, pick-false, pick-le}
+use native.Mathlib.Omega.{arith}
+use Rattle.channel.specs.StatusLaws.{cause-small}
+use Rattle.channel.specs.Status.{iir}
+use Rattle.channel.specs.Effects.{iirRead, byteAt, afterRead}
 use borrow.Author.Needs.{needs}
 use Rattle.channel.proofs.Channel.read_iir.Statement.{statement}
 use Rattle.channel.proofs.Channel.read_iir.Tie as tie
@@ -7,12 +10,34 @@ use Rattle.channel.proofs.Channel.read_iir.Tie as tie
 cause-requires : tie.Need-cause-requires
 cause-requires c κs = search needs
 
+is-fifo-requires : tie.Need-is-fifo-requires
+is-fifo-requires c κs = search needs
+
+pick-byte-requires : tie.Need-pick-byte-requires
+pick-byte-requires c κs = search needs
+
+add-byte : tie.Need-add-byte
+add-byte c =
+    omega (arith, cause-small (c .before .before .before .args .self), c .before .before .cause .ensures, c .pick-byte .ensures, pick-le (c .before .is-fifo .result) 192 0 192 (omega arith) (omega arith))
+
 iir-read-requires : tie.Need-iir-read-requires
 iir-read-requires c κs = search needs
 
+tell-requires : tie.Need-tell-requires
+tell-requires c κs = search needs
+
 returns : tie.Need-returns
-unfolding iirRead
-returns c = simp (← c .iir-read .ensures, ← c .before .cause .ensures, pick-true, pick-false)
+unfolding afterRead byteAt iirRead iir
+returns c = simp (← c .tell .ensures, ← c .before .iir-read .ensures, ← c .before .before .pick-byte .ensures, ← c .before .before .before .is-fifo .ensures, ← c .before .before .before .before .cause .ensures, pick-true, pick-false)
 
 pub read-iir-spec : {M : Type 1} → statement M
-read-iir-spec = tie.close (tie.spec cause-requires iir-read-requires returns)
+read-iir-spec =
+    tie.close
+    (tie.spec
+    cause-requires
+    is-fifo-requires
+    pick-byte-requires
+    add-byte
+    iir-read-requires
+    tell-requires
+    returns)

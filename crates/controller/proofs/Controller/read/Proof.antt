@@ -1,25 +1,26 @@
 use Rattle.base.specs.PickLaws.{pick-true, pick-false}
 use borrow.Author.Tests.{eq-eqb, le-ltb, lt-ltb, ne-eqb}
 use Rattle.controller.specs.Steps.{step}
-use Rattle.controller.specs.Refusals.{refusal}
-use Rattle.base.specs.Refusals.{firstHeld}
+use Rattle.controller.specs.Refusals.{refusal, grounds}
+use Rattle.base.specs.Pick.{pick}
+use Rattle.base.specs.Refusals.{firstOf, refusalBy}
 use borrow.Author.Needs.{needs}
 use Rattle.controller.proofs.Controller.read.Statement.{statement}
 use Rattle.controller.proofs.Controller.read.Tie as tie
 
 returns : tie.Need-returns
-unfolding step refusal firstHeld
+unfolding step refusal grounds refusalBy firstOf pick
 returns c = simp (lt-ltb _ _ (c .if1 .taken), pick-true, pick-false)
 
 shown-requires : tie.Need-shown-requires
 shown-requires c κs = search needs
 
 returns-2 : tie.Need-returns-2
-unfolding step refusal firstHeld
+unfolding step refusal grounds refusalBy firstOf pick
 returns-2 c = simp (← c .shown .ensures, eq-eqb _ _ (c .before .if2 .taken), le-ltb _ _ (c .before .before .before .if1 .left), pick-true, pick-false)
 
 returns-3 : tie.Need-returns-3
-unfolding step refusal firstHeld
+unfolding step refusal grounds refusalBy firstOf pick
 returns-3 c = simp (ne-eqb _ _ (c .if2 .left), le-ltb _ _ (c .before .before .if1 .left), pick-true, pick-false)
 
 pub read-spec : {M : Type 1} → statement M

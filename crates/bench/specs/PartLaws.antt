@@ -1,0 +1,104 @@
+-- A record's outcome is what it makes of its seat and the controller, stored back; but a master reset's.
+use Prim.Native.Nat.{ℕ}
+use mathlib.Core.Bool.{Bool, true, false}
+use mathlib.Core.Path.{_≡_, refl, ap, sym, _∙_}
+use lib.Dec.{eqb}
+use lib.ListN.{getD, set}
+use borrow.Author.Tests.{eqb-true}
+use Rattle.base.specs.Pick.{pick}
+use Rattle.base.specs.PickLaws.{pick-false, pick-either, never}
+use Rattle.base.specs.Refusals.{firstOf, refusalBy}
+use Rattle.base.specs.declared.Answer.{Answer}
+use Rattle.seat.specs.Seats.{noSeat}
+use Rattle.controller.specs.declared.Controller.{Controller}
+use Rattle.controller.specs.declared.Stepped as controller
+use Rattle.controller.specs.Signals.{read, write, acknowledge}
+use Rattle.controller.specs.Steps.{step}
+use Rattle.controller.specs.Turns.{outputOf}
+use Rattle.bench.specs.declared.Bench.{Bench}
+use Rattle.bench.specs.declared.Outcome.{Outcome}
+use Rattle.bench.specs.declared.Touched.{Touched}
+use Rattle.bench.specs.declared.Event.{Event}
+use Rattle.bench.specs.declared.Event.the-variants.{MasterReset, ReadController, WriteController, Acknowledge}
+use Rattle.bench.specs.declared.Decoded.{Decoded}
+use Rattle.bench.specs.declared.Decoded.the-variants.{Taken}
+use Rattle.bench.specs.Events.{Record, whole, short, early, event, eventOf, decoded}
+use Rattle.bench.specs.Seats.{chair, seat, withSeat, withController}
+use Rattle.bench.specs.Steps.{shown, met, outcome, dealt}
+use Rattle.bench.specs.MeetLaws.{seat-back, seat-met, read-met, write-met, acknowledge-met, outcome-dealt}
+use Rattle.bench.specs.Parts.{besides, metParts, dealtParts, parted, seatNamed, stored, partly, resets}
+
+module _ (b : Bench) (n : ℕ) where
+  -- what is stored is what is met, or dealt
+  abbrev Same : Event → Type 0
+  Same e = stored b n (metParts (seat b n) (b .controller) e) ≡ met b e
+
+  abbrev SameDealt : Decoded → Type 0
+  SameDealt d = stored b n (dealtParts (seat b n) (b .controller) d) ≡ dealt b d
+
+  -- where the seat stays, the bench with another controller is shown
+  beside : (c : Controller) (a : Answer) → shown (withController (withSeat b n (seat b n)) c) a ≡ shown (withController b c) a
+  beside c a = ap (λ (d : Bench). shown (withController d c) a) (seat-back b n)
+
+  moved : (t : controller.Stepped) → stored b n (besides (seat b n) t) ≡ shown (withController b (t .controller)) (t .answer)
+  moved t = beside (t .controller) (t .answer)
+
+  read-same : (port : ℕ) → Same (ReadController port)
+  unfolding metParts
+  read-same port = beside (b .controller) (step (b .controller) (read port) .answer) ∙ read-met b port
+
+  write-same : (port byte : ℕ) → Same (WriteController port byte)
+  unfolding metParts
+  write-same port byte = moved (step (b .controller) (write port byte)) ∙ write-met b port byte
+
+  acknowledge-same : Same Acknowledge
+  unfolding metParts
+  acknowledge-same = moved (step (b .controller) acknowledge) ∙ acknowledge-met b
+
+  event-same : (kind number value : ℕ) → eqb kind 5 ≡ false → Same (eventOf kind n number value)
+  unfolding eventOf metParts
+  event-same kind number value other =
+      pick-either Same (eqb kind 0) _ _ (seat-met b n _)
+      (pick-either Same (eqb kind 1) _ _ (seat-met b n _)
+      (pick-either Same (eqb kind 2) _ _ (seat-met b n _)
+      (pick-either Same (eqb kind 3) _ _ (seat-met b n _)
+      (pick-either Same (eqb kind 4) _ _ (seat-met b n _)
+      (rw (pick-false _ _ _ other)
+      (pick-either Same (eqb kind 6) _ _ (read-same number)
+      (pick-either Same (eqb kind 7) _ _ (write-same number value) acknowledge-same)))))))
+
+  taken-same : (r : Record) → Same (event r) → SameDealt (decoded r)
+  unfolding decoded dealtParts dealt
+  taken-same r same = pick-either SameDealt (eqb (early r) 0) _ _ same (beside (b .controller) _)
+
+record-same : (b : Bench) (r : Record) → resets r ≡ false → Same b (seatNamed r) (event r)
+record-same b (whole kind n number value) other = event-same b n kind number value other
+record-same b short other = acknowledge-same b 0
+
+pub parted-outcome : (b : Bench) (r : Record) → resets r ≡ false → partly b r ≡ outcome b r
+parted-outcome b r other = taken-same b (seatNamed r) r (record-same b r other) ∙ sym (outcome-dealt b r)
+
+-- kind 5 is a master reset, whatever the other bytes
+decoded-5 : (s n v : ℕ) → decoded (whole 5 s n v) ≡ Taken MasterReset
+unfolding decoded early eventOf refusalBy firstOf pick
+decoded-5 s n v = refl
+
+pub reset-outcome : (b : Bench) (s n v : ℕ) → outcome b (whole 5 s n v) ≡ met b MasterReset
+unfolding dealt
+reset-outcome b s n v = outcome-dealt b (whole 5 s n v) ∙ ap (dealt b) (decoded-5 s n v)
+
+pub resets-met : (b : Bench) (r : Record) → resets r ≡ true → met b MasterReset ≡ outcome b r
+resets-met b (whole kind n number value) held =
+    sym (ap (λ (k : ℕ). outcome b (whole k n number value)) (eqb-true kind 5 held) ∙ reset-outcome b n number value)
+resets-met b short held = absurd (never held)
+
+-- the same as code has it: the seat's number and its chair, what was touched, and the output, each by what it equals
+pub parts-stored : (b : Bench) (r : Record) (m i : ℕ) (t : Touched) (high : Bool) → m ≡ seatNamed r → i ≡ chair m → t ≡ parted (getD (b .seats) i noSeat) (b .controller) r → high ≡ outputOf (t .controller)
+    → resets r ≡ false → _≡_ {A = Outcome} (record { bench = record { seats = set (b .seats) i (t .seat); controller = t .controller }; answer = t .answer; output = high }) (outcome b r)
+unfolding seat withSeat
+parts-stored b r m i t high named sits is shows other =
+    let at : i ≡ chair (seatNamed r) = sits ∙ ap chair named in
+    ap {B = Outcome} (λ (x : Bool). record { bench = record { seats = set (b .seats) i (t .seat); controller = t .controller }; answer = t .answer; output = x }) shows
+    ∙ ap (λ (k : ℕ). shown (record { seats = set (b .seats) k (t .seat); controller = t .controller }) (t .answer)) at
+    ∙ ap (stored b (seatNamed r)) (is ∙ ap (λ (k : ℕ). parted (getD (b .seats) k noSeat) (b .controller) r) at)
+    ∙ parted-outcome b r other

@@ -1,0 +1,19 @@
+use Rattle.base.specs.PickLaws.{pick-true, pick-false}
+use borrow.Author.Needs.{needs}
+use Rattle.channel.proofs.Channel.tells_data.Statement.{statement}
+use Rattle.channel.proofs.Channel.tells_data.Tie as tie
+
+bit-requires : tie.Need-bit-requires
+bit-requires c κs = search needs
+
+data-stands-requires : tie.Need-data-stands-requires
+data-stands-requires c κs = search needs
+
+returns : tie.Need-returns
+returns c = simp (← c .data-stands .ensures, ← c .before .before .bit .ensures, c .before .if1 .taken, pick-true, pick-false)
+
+returns-2 : tie.Need-returns-2
+returns-2 c = simp (← c .before .bit .ensures, c .if1 .left, pick-true, pick-false)
+
+pub tells-data-spec : {M : Type 1} → statement M
+tells-data-spec = tie.close (tie.spec bit-requires data-stands-requires returns returns-2)

@@ -1,0 +1,41 @@
+-- What a seat refuses of an event: the settings of its channel decide it alone.
+use Prim.Native.Nat.{ℕ}
+use mathlib.Core.Bool.{Bool, _&&_}
+use mathlib.Core.List.{List, [], _∷_}
+use lib.Dec.{ltb, eqb}
+use Rattle.base.specs.Bits.{bit}
+use Rattle.base.specs.Refusals.{Ground, refusalBy}
+use Rattle.registers.specs.declared.Settings.{Settings}
+use Rattle.registers.specs.declared.SeatEvent.{SeatEvent}
+use Rattle.registers.specs.declared.SeatEvent.the-variants.{Read, Write, Arrival, Levels, Time}
+use Rattle.registers.specs.Registers.{divisor}
+use Rattle.registers.specs.Words.{badArrival}
+
+-- "register above 7, port above 1": of a seat, the register
+abbrev pub registerAbove : ℕ → Bool
+registerAbove n = ltb 7 n
+
+-- "while the divisor is 0"
+abbrev pub noDivisor : Settings → Bool
+noDivisor s = eqb (divisor s) 0
+
+-- "modem levels above 15"
+abbrev pub levelsAbove : ℕ → Bool
+levelsAbove levels = ltb 15 levels
+
+-- "MCR write with bit 4 set"
+abbrev pub loopAsked : ℕ → ℕ → Bool
+loopAsked n byte = eqb n 4 && bit 4 byte
+
+-- the grounds of each event: a register's number; "not served"; "arrival or character time while the divisor is 0"; what an arrival may not
+-- be; and the levels
+unfoldable pub grounds : Settings → SeatEvent → List Ground
+grounds s (Read n) = record { number = 2; holds = registerAbove n } ∷ []
+grounds s (Write n byte) = record { number = 2; holds = registerAbove n } ∷ record { number = 9; holds = loopAsked n byte } ∷ []
+grounds s (Arrival marks byte) = record { number = 5; holds = noDivisor s } ∷ record { number = 6; holds = badArrival (s .lcr) marks byte } ∷ []
+grounds s (Levels levels) = record { number = 7; holds = levelsAbove levels } ∷ []
+grounds s Time = record { number = 5; holds = noDivisor s } ∷ []
+
+-- the number that a seat gives, 0 for none
+unfoldable pub refusal : Settings → SeatEvent → ℕ
+refusal s e = refusalBy (grounds s e)

@@ -1,0 +1,73 @@
+// What a seat refuses, event by event, by the settings of its channel: the first number in document 01's order whose condition
+// holds, 0 for none.
+use crate::SeatEvent;
+use crate::Settings;
+use base::Answer;
+ghost use mathlib.Core.Path.{_≡_};
+ghost use Rattle.registers.specs.Refusals.{refusal};
+ghost use Rattle.registers.specs.declared.SeatEvent.the-variants.{Read, Write, Arrival, Levels, Time};
+
+impl Settings {
+    fn refuse_read(self, number: u8) -> u8
+        ensures { λ r. ⌜ r ≡ refusal self (Read number) ⌝ }
+    {
+        if 7 < number {
+            return Answer::NUMBER_ABOVE;
+        }
+        0
+    }
+
+    fn refuse_write(self, number: u8, byte: u8) -> u8
+        ensures { λ r. ⌜ r ≡ refusal self (Write number byte) ⌝ }
+    {
+        if 7 < number {
+            return Answer::NUMBER_ABOVE;
+        }
+        if (number == Settings::MCR) & base::bit(Settings::MCR_LOOP, byte) {
+            return Answer::NOT_SERVED;
+        }
+        0
+    }
+
+    fn refuse_arrival(self, marks: u8, byte: u8) -> u8
+        ensures { λ r. ⌜ r ≡ refusal self (Arrival marks byte) ⌝ }
+    {
+        if self.no_divisor() {
+            return Answer::NO_DIVISOR;
+        }
+        if self.is_bad_arrival(marks, byte) {
+            return Answer::BAD_ARRIVAL;
+        }
+        0
+    }
+
+    fn refuse_levels(self, levels: u8) -> u8
+        ensures { λ r. ⌜ r ≡ refusal self (Levels levels) ⌝ }
+    {
+        if 15 < levels {
+            return Answer::LEVELS_ABOVE;
+        }
+        0
+    }
+
+    fn refuse_time(self) -> u8
+        ensures { λ r. ⌜ r ≡ refusal self Time ⌝ }
+    {
+        if self.no_divisor() {
+            return Answer::NO_DIVISOR;
+        }
+        0
+    }
+
+    pub fn refusal(self, e: SeatEvent) -> u8
+        ensures { λ r. ⌜ r ≡ refusal self e ⌝ }
+    {
+        match e {
+            SeatEvent::Read(number) => return self.refuse_read(number),
+            SeatEvent::Write(number, byte) => return self.refuse_write(number, byte),
+            SeatEvent::Arrival(marks, byte) => return self.refuse_arrival(marks, byte),
+            SeatEvent::Levels(levels) => return self.refuse_levels(levels),
+            SeatEvent::Time => return self.refuse_time(),
+        }
+    }
+}
