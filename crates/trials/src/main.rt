@@ -66,7 +66,7 @@ fn print_line(seed: u64, count: u64, digest: u32) {
     print_digest(digest);
 }
 
-// Each start is an arm: "0: as at power-up".
+// Each start is an arm; 0 is the bench "as at power-up".
 fn run(seed: u64, count: u64, set: u64, start: u64) {
     if seed > LAST_SEED {
         return usage();
