@@ -4,6 +4,9 @@
 #include <stdio.h>
 
 #include "output.h"
+#include "scripts.h"
+#include "sets.h"
+#include "starts.h"
 #include "stream.h"
 #include "tally.h"
 #include "trials.h"
@@ -38,8 +41,8 @@ static void tally_moment(struct tally *tally, const struct moment *moment)
 
 static void tally_trial(struct tally *tally, struct trial trial)
 {
-    struct bench bench = bench_at_power_up();
-    struct stream stream = stream_begin(trial.seed);
+    struct bench bench = starts[trial.start]();
+    struct stream stream = stream_begin(trial.seed, trial.set);
     for (uint64_t i = 0; i < trial.count; i += 1) {
         struct bench before = bench;
         struct event event = stream_next(&stream);
@@ -48,10 +51,40 @@ static void tally_trial(struct tally *tally, struct trial trial)
     }
 }
 
+/* Counts how often each script stands in the set's picks. False where one of
+   them is no script of the set. */
+static bool tally_picks(unsigned picked[SCRIPTS], const struct set *set)
+{
+    for (size_t i = 0; i < MOODS * PICKS; i += 1) {
+        unsigned script = set->picks[i / PICKS][i % PICKS];
+        if (script >= set->scripts)
+            return false;
+        picked[script] += 1;
+    }
+    return true;
+}
+
+/* TRIALS.md: a set picks its own scripts, and each script is picked by some set. */
+static bool sets_as_told(void)
+{
+    unsigned picked[SCRIPTS] = {0};
+    for (size_t i = 0; i < SETS; i += 1)
+        if (sets[i].scripts > SCRIPTS || !tally_picks(picked, &sets[i]))
+            return false;
+    for (size_t i = 0; i < SCRIPTS; i += 1)
+        if (picked[i] == 0)
+            return false;
+    return true;
+}
+
 int coverage_run(void)
 {
     struct tally tally = {0};
     int result = 0;
+    if (!sets_as_told()) {
+        printf("%10u  sets whose picks are as TRIALS.md tells\n", 0U);
+        result = 1;
+    }
     for (size_t i = 0; i < TRIALS; i += 1)
         tally_trial(&tally, trials[i]);
     printf("%10" PRIu64 "  events\n%10" PRIu64 "  accepted\n", tally.events, tally.accepted);

@@ -3,7 +3,6 @@
 #include <inttypes.h>
 #include <stdio.h>
 
-#include "bench.h"
 #include "output.h"
 #include "records.h"
 
@@ -21,9 +20,8 @@ static void print_record(const uint8_t *record, size_t length)
     printf(" ");
 }
 
-int listing_run(bool with_records)
+int listing_run(struct bench bench, bool with_records)
 {
-    struct bench bench = bench_at_power_up();
     struct records records;
     uint8_t record[RECORD_BYTES];
     records_begin(&records, stdin);

@@ -8,7 +8,9 @@
 #include "coverage.h"
 #include "listing.h"
 #include "rates.h"
+#include "sets.h"
 #include "spoons.h"
+#include "starts.h"
 #include "trials.h"
 
 #define RESULT_USAGE 2
@@ -23,13 +25,7 @@ struct command {
 static int run_listing(int count, char **words)
 {
     (void)words;
-    return count == 0 ? listing_run(false) : RESULT_USAGE;
-}
-
-static int run_show(int count, char **words)
-{
-    (void)words;
-    return count == 0 ? listing_run(true) : RESULT_USAGE;
+    return count == 0 ? listing_run(bench_at_power_up(), false) : RESULT_USAGE;
 }
 
 static int run_rates(int count, char **words)
@@ -61,13 +57,35 @@ static bool parse_number(const char *word, uint64_t largest, uint64_t *number)
     return errno == 0 && *end == '\0' && parsed <= largest;
 }
 
-static bool parse_trial(int count, char **words, struct trial *trial)
+/* The number of a set or start, of which there are `total`; 0 if no word is
+   left for it. */
+static bool parse_choice(int count, char **words, unsigned total, unsigned *choice)
+{
+    uint64_t number = 0;
+    if (count > 0 && !parse_number(words[0], total - 1U, &number))
+        return false;
+    *choice = (unsigned)number;
+    return true;
+}
+
+static int run_show(int count, char **words)
+{
+    unsigned start = 0;
+    if (count > 1 || !parse_choice(count, words, STARTS, &start))
+        return RESULT_USAGE;
+    return listing_run(starts[start](), true);
+}
+
+/* Of the words, `most` at most. */
+static bool parse_trial(int count, char **words, int most, struct trial *trial)
 {
     uint64_t seed = 0;
-    if (count != 2 || !parse_number(words[0], UINT32_MAX, &seed))
+    if (count < 2 || count > most || !parse_number(words[0], UINT32_MAX, &seed))
         return false;
     trial->seed = (uint32_t)seed;
-    return parse_number(words[1], UINT64_MAX, &trial->count);
+    return parse_number(words[1], UINT64_MAX, &trial->count) &&
+           parse_choice(count - 2, words + 2, SETS, &trial->set) &&
+           parse_choice(count - 3, words + 3, STARTS, &trial->start);
 }
 
 static int run_trials(int count, char **words)
@@ -75,22 +93,22 @@ static int run_trials(int count, char **words)
     struct trial trial;
     if (count == 0)
         return trials_run_all();
-    return parse_trial(count, words, &trial) ? trials_run_one(trial) : RESULT_USAGE;
+    return parse_trial(count, words, 4, &trial) ? trials_run_one(trial) : RESULT_USAGE;
 }
 
 static int run_generate(int count, char **words)
 {
     struct trial trial;
-    return parse_trial(count, words, &trial) ? trials_generate(trial) : RESULT_USAGE;
+    return parse_trial(count, words, 3, &trial) ? trials_generate(trial) : RESULT_USAGE;
 }
 
 static const struct command commands[] = {
     {"listing", "", run_listing},
-    {"show", "", run_show},
+    {"show", " [START]", run_show},
     {"rates", "", run_rates},
     {"spoons", "", run_spoons},
-    {"trials", " [SEED COUNT]", run_trials},
-    {"generate", " SEED COUNT", run_generate},
+    {"trials", " [SEED COUNT [SET [START]]]", run_trials},
+    {"generate", " SEED COUNT [SET]", run_generate},
     {"coverage", "", run_coverage},
 };
 

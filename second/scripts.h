@@ -3,7 +3,7 @@
 
 #include <stdint.h>
 
-/* The constant tables of TRIALS.md. */
+/* The scripts of TRIALS.md: one list for all sets. */
 
 struct row {
     uint8_t kind; /* 16 more: any seat */
@@ -15,19 +15,9 @@ struct row {
     uint8_t times_most;
 };
 
-struct spoil {
-    uint8_t which; /* byte of the record: 0 kind, 1 seat, 2 number, 3 value */
-    uint8_t base;
-    uint8_t most;
-};
-
-#define MOODS 8U
-#define PICKS 16U
-#define SPOILS 12U
+#define SCRIPTS 61U
 
 extern const struct row rows[];
-extern const uint8_t script_start[];
-extern const uint8_t pick_script[MOODS][PICKS];
-extern const struct spoil spoils[SPOILS];
+extern const uint16_t first_row[SCRIPTS + 1];
 
 #endif

@@ -5,9 +5,9 @@
 #define SEAT_ANY 16U
 #define ONE_IN_SPOILS 96U
 
-struct stream stream_begin(uint32_t seed)
+struct stream stream_begin(uint32_t seed, unsigned set)
 {
-    return (struct stream){.x = seed};
+    return (struct stream){.x = seed, .set = &sets[set]};
 }
 
 /* A number below `below`, which is 1 to 256. */
@@ -29,9 +29,9 @@ static void begin_script(struct stream *stream)
         stream->mood = mood;
     if (seat_wind == 0)
         stream->seat = seat;
-    unsigned script = pick_script[stream->mood][pick];
-    stream->row = script_start[script];
-    stream->stop = script_start[script + 1];
+    unsigned script = stream->set->picks[stream->mood][pick];
+    stream->row = first_row[script];
+    stream->stop = first_row[script + 1];
 }
 
 /* TRIALS.md, step 3: the event of a row. */
@@ -57,7 +57,7 @@ static struct event row_event(struct stream *stream, const struct row *row)
 static void spoil(struct stream *stream, struct event *event)
 {
     unsigned chance = draw(stream, ONE_IN_SPOILS);
-    const struct spoil *with = &spoils[draw(stream, SPOILS)];
+    const struct spoil *with = &stream->set->spoils[draw(stream, SPOILS)];
     unsigned byte = (with->base + draw(stream, with->most + 1U)) % 256U;
     unsigned *bytes[4] = {&event->kind, &event->seat, &event->number, &event->value};
     if (chance == 0)
@@ -78,7 +78,7 @@ struct event stream_next(struct stream *stream)
     struct event event = row_event(stream, row);
     stream->left -= 1;
     if (stream->left == 0)
-        stream->row += 1;
+        stream->row = (uint16_t)(stream->row + 1U);
     spoil(stream, &event);
     return event;
 }

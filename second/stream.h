@@ -4,19 +4,22 @@
 #include <stdint.h>
 
 #include "bench.h"
+#include "sets.h"
 
 /* The event streams of the trials, as TRIALS.md describes them. A stream never
    looks at a bench. */
 struct stream {
     uint64_t x;
+    const struct set *set;
     unsigned mood;
     unsigned seat;
-    unsigned row;
-    unsigned stop;
+    uint16_t row;
+    uint16_t stop;
     unsigned left;
 };
 
-struct stream stream_begin(uint32_t seed);
+/* The set is below SETS. */
+struct stream stream_begin(uint32_t seed, unsigned set);
 struct event stream_next(struct stream *stream);
 
 #endif

@@ -5,13 +5,14 @@
 
 #include "bench.h"
 #include "output.h"
+#include "starts.h"
 #include "stream.h"
 
 const struct trial trials[TRIALS] = {
-    {1, 1000}, {2, 1000}, {3, 1000}, {4, 1000},
-    {5, 200000}, {6, 200000}, {7, 200000}, {8, 200000},
-    {9, 200000}, {10, 200000}, {11, 200000}, {12, 200000},
-    {13, 200000}, {14, 200000}, {15, 200000}, {4294967295, 200000},
+    {1, 1000, 0, 0}, {2, 1000, 0, 0}, {3, 1000, 0, 0}, {4, 1000, 0, 0},
+    {5, 200000, 0, 0}, {6, 200000, 0, 0}, {7, 200000, 0, 0}, {8, 200000, 0, 0},
+    {9, 200000, 0, 0}, {10, 200000, 0, 0}, {11, 200000, 0, 0}, {12, 200000, 0, 0},
+    {13, 200000, 0, 0}, {14, 200000, 0, 0}, {15, 200000, 0, 0}, {4294967295, 200000, 0, 0},
 };
 
 /* TRIALS.md: the largest prime below 2 to the 31. */
@@ -37,8 +38,8 @@ static uint64_t digest_event(uint64_t digest, struct bench *bench, struct event 
 
 int trials_run_one(struct trial trial)
 {
-    struct bench bench = bench_at_power_up();
-    struct stream stream = stream_begin(trial.seed);
+    struct bench bench = starts[trial.start]();
+    struct stream stream = stream_begin(trial.seed, trial.set);
     uint64_t digest = 0;
     for (uint64_t i = 0; i < trial.count; i += 1)
         digest = digest_event(digest, &bench, stream_next(&stream));
@@ -57,7 +58,7 @@ int trials_run_all(void)
 
 int trials_generate(struct trial trial)
 {
-    struct stream stream = stream_begin(trial.seed);
+    struct stream stream = stream_begin(trial.seed, trial.set);
     for (uint64_t i = 0; i < trial.count; i += 1) {
         struct event event = stream_next(&stream);
         putchar((int)event.kind);

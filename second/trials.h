@@ -7,6 +7,8 @@
 struct trial {
     uint32_t seed;
     uint64_t count;
+    unsigned set;   /* below SETS */
+    unsigned start; /* below STARTS */
 };
 
 #define TRIALS 16U

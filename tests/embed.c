@@ -37,7 +37,7 @@ static void power_up(void)
 {
     static const struct hailstoat_bench zero = {0};
     struct hailstoat_bench bench = {0};
-    struct stream stream = stream_begin(7);
+    struct stream stream = stream_begin(7, 0);
     for (unsigned i = 0; i < 1000; i += 1) {
         struct event e = stream_next(&stream);
         hailstoat_event(&bench, (uint8_t)e.kind, (uint8_t)e.seat, (uint8_t)e.number, (uint8_t)e.value);
@@ -97,7 +97,7 @@ static void streams(void)
     for (size_t i = 0; i < SEEDS; i += 1) {
         struct hailstoat_bench lent = {0};
         struct bench second = bench_at_power_up();
-        struct stream stream = stream_begin(seeds[i]);
+        struct stream stream = stream_begin(seeds[i], 0);
         for (unsigned long at = 0; at < EVENTS_EACH; at += 1)
             refused += one_event(&lent, &second, seeds[i], at, stream_next(&stream));
     }

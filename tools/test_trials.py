@@ -8,13 +8,13 @@ from room import Room
 
 TOOLS = Path(__file__).parent
 
-# Writes its line for a stream; from event AT on it counts one more.
+# Writes its line for a stream, another for each set and start; from event AT on it counts one more. What it shows names them too.
 PROGRAM = """\
 #!/bin/sh
 case $1 in
-generate) i=0; while [ $i -lt $3 ]; do echo record $i; i=$((i + 1)); done ;;
-show) cat ;;
-*) [ "$1" = trials ] && shift; echo $1 $2 $(($1 * 1000 + $2 + ($2 > AT))) ;;
+generate) i=0; while [ $i -lt $3 ]; do echo record $i ${4:+of set $4}; i=$((i + 1)); done ;;
+show) sed "s/\$/${2:+from start $2}/" ;;
+*) [ "$1" = trials ] && shift; echo $1 $2 $(($1 * 1000 + $2 + ($2 > AT) + ${3:-0} * 100000 + ${4:-0} * 1000000)) ;;
 esac
 """
 
@@ -53,11 +53,21 @@ class Trials(Room):
             self.assertTrue(said[0].startswith(f"The digests differ from record {at} on"))
             self.assertEqual(said[4:-1], [f"record {i}" for i in range(max(0, at - 19), at + 1)])
 
+    def test_set_and_start_reach_both_programs(self):
+        self.assertEqual(self.run_it("3", "200", "2", "5")[1][0], "3 200 5203200")
+        self.assertEqual(self.run_it("3", "200", "2")[1][0], "3 200 203200")
+        self.programs(41, 1000000)
+        status, said = self.run_it("3", "100", "2", "5")
+        self.assertEqual((status, said[-2]), (1, "record 41 of set 2from start 5"))
+        self.script("target/bin/trials", PROGRAM.replace("AT", "1000000").replace("${4:-0}", "0"))
+        self.assertEqual(self.run_it("3", "100", "2", "5")[0], 1)
+
     def test_faults_are_no_agreement(self):
         self.assertEqual(self.run_it("3", "100", FAULT="1")[0], 2)
         self.script("target/bin/trials", "#!/bin/sh\nexit 0\n")
         self.assertEqual(self.run_it("3", "100")[0], 2)
 
     def test_words_that_are_not_understood(self):
-        for words in ((), ("3",), ("5-3", "100"), ("4294967296", "1"), ("3", "-1"), ("x", "1")):
+        for words in ((), ("3",), ("5-3", "100"), ("4294967296", "1"), ("3", "-1"), ("x", "1"), ("3", "1", "x"),
+                      ("3", "1", "0", "0", "0")):
             self.assertEqual(self.run_it(*words)[0], 2)

@@ -6,12 +6,14 @@ mod looks;
 mod records;
 mod rows;
 mod scripts;
+mod sets;
 mod steps;
 
 pub use digest::add;
 pub use digest::outcome_mark;
 pub use digest::place_mark;
 pub use rows::script_rows;
+pub use sets::SETS;
 ghost use mathlib.Core.Path.{_≡_};
 
 pub struct Record {
@@ -23,10 +25,11 @@ pub struct Record {
 
 pub struct Stream {
     pub x: u32,
+    pub set: u8,
     pub mood: u8,
     pub seat: u8,
-    pub row: u8,
-    pub stop: u8,
+    pub row: u16,
+    pub stop: u16,
     pub left: u8,
 }
 
@@ -36,11 +39,13 @@ pub struct Made {
 }
 
 impl Stream {
-    pub fn start(seed: u32) -> Self
-        ensures { λ r. ⌜ r ≡ record { x = seed; mood = 0; seat = 0; row = 0; stop = 0; left = 0 } ⌝ }
+    // The set is one of the numbers below `SETS`.
+    pub fn start(seed: u32, set: u8) -> Self
+        ensures { λ r. ⌜ r ≡ record { x = seed; set = set; mood = 0; seat = 0; row = 0; stop = 0; left = 0 } ⌝ }
     {
         Stream {
             x: seed,
+            set,
             mood: 0,
             seat: 0,
             row: 0,

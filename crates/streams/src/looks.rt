@@ -11,9 +11,9 @@ pub(crate) struct Row {
     pub times: u8,
 }
 
-// A row of the table lent. "Each row that is looked up is one of the 201", and no times pass 127: the test and the remainder are
+// A row of the table lent. "Each row that is looked up is one of the table", and no times pass 127: the test and the remainder are
 // there so that neither need be shown.
-pub(crate) fn row_at(rows: &[u64], at: u8) -> Row
+pub(crate) fn row_at(rows: &[u64], at: u16) -> Row
     ensures { λ r. ⌜ r .times < 128 ⌝ }
 {
     let place = at as usize;

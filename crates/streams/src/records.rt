@@ -1,4 +1,4 @@
-// From a row to a record, and what spoils a record.
+// From a row to a record, and a record spoiled.
 use crate::Record;
 use crate::looks::Row;
 use std::num::wrapping_add_u8;
@@ -8,28 +8,6 @@ const ANY_SEAT: u8 = 16;
 
 // The kinds up to this one have a seat.
 const LAST_OF_SEAT: u8 = 4;
-
-pub(crate) struct Spoil {
-    pub which: u8,
-    pub base: u8,
-    pub most: u8,
-}
-
-// "Twelve entries, 0 to 11: which byte, base, most." Each is one number, as a row is.
-const SPOILS: [u32; 12] = [
-    1_007_001,
-    1_000_255,
-    2_007_001,
-    2_001_001,
-    2_000_255,
-    3_015_001,
-    3_031_001,
-    3_000_255,
-    0_008_001,
-    0_000_008,
-    0_000_255,
-    3_000_001,
-];
 
 // "If the row's kind is 16 or more, f % 8; else if it is 4 or less, the state's seat; else f."
 fn seat_of(kind: u8, seat: u8, f: u8) -> u8 {
@@ -54,15 +32,6 @@ pub(crate) fn asked(row: Row, seat: u8, f: u8, g: u8, h: u8) -> Record {
         seat: seat_of(row.kind, seat, f),
         number: wrapping_add_u8(row.number, g),
         value: value_of(row.value, row.step, h),
-    }
-}
-
-pub(crate) fn spoil_at(j: u8) -> Spoil {
-    let packed = SPOILS[(j % 12) as usize];
-    Spoil {
-        which: (packed / 1_000_000 % 256) as u8,
-        base: (packed / 1000 % 1000 % 256) as u8,
-        most: (packed % 1000 % 256) as u8,
     }
 }
 

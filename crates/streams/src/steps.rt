@@ -7,7 +7,9 @@ use crate::draws::turn;
 use crate::looks;
 use crate::records;
 use crate::scripts;
+use crate::sets;
 use std::num::wrapping_add_u8;
+use std::num::wrapping_add_u16;
 use std::num::wrapping_sub_u8;
 
 impl Stream {
@@ -23,9 +25,10 @@ impl Stream {
         let e = turn(d);
         let mood = base::pick_byte(pick(a, 11) == 0, pick(b, 7), self.mood);
         let seat = base::pick_byte(pick(c, 3) == 0, pick(d, 7), self.seat);
-        let span = scripts::picked(mood, pick(e, 15));
+        let span = scripts::span_of(sets::script_at(self.set, mood, pick(e, 15)));
         Stream {
             x: e,
+            set: self.set,
             mood,
             seat,
             row: span.row,
@@ -66,12 +69,12 @@ impl Stream {
         }
     }
 
-    // "Count." Left is above 0 here and no row is past 201, so that nothing wraps.
+    // "Count." Left is above 0 here and "neither row nor stop passes the number of rows", so that nothing wraps.
     fn count(mut self) -> Self {
         let left = wrapping_sub_u8(self.left, 1);
         self.left = left;
         if left == 0 {
-            self.row = wrapping_add_u8(self.row, 1);
+            self.row = wrapping_add_u16(self.row, 1);
         }
         self
     }
@@ -81,7 +84,7 @@ impl Stream {
         let i = turn(self.x);
         let j = turn(i);
         let k = turn(j);
-        let spoil = records::spoil_at(pick(j, 11));
+        let spoil = sets::spoil_at(self.set, pick(j, 11));
         let byte = wrapping_add_u8(spoil.base, pick(k, spoil.most));
         self.x = k;
         match pick(i, 95) {

@@ -1,39 +1,17 @@
 // Runs streams of events over the proved bench and prints a line for each: seed and count in decimal, the digest in eight hex
-// capitals. With no argument, the list of second/TRIALS.md; with SEED and COUNT, that stream alone.
+// capitals. With no argument, the list of second/TRIALS.md; with SEED and COUNT, and SET and START where they are not 0, that stream
+// alone.
+use bench::Bench;
 use libc::STDERR_FILENO;
 use libc::STDOUT_FILENO;
 use numbers::Number;
+use streams::SETS;
 
+mod list;
 mod numbers;
 mod runs;
 
-const STREAMS: usize = 16;
-
-const SEEDS: [u32; 16] = [
-    1,
-    2,
-    3,
-    4,
-    5,
-    6,
-    7,
-    8,
-    9,
-    10,
-    11,
-    12,
-    13,
-    14,
-    15,
-    4294967295,
-];
-
-// The first four are short, so that a fault in every event shows at once.
-const SHORT: usize = 4;
-
-const SHORT_COUNT: u64 = 1000;
-
-const LONG_COUNT: u64 = 200000;
+const LAST_SEED: u64 = 4294967295;
 
 const CAPITALS: [u8; 16] = [
     b'0',
@@ -74,48 +52,66 @@ fn print_digest(digest: u32) {
     io::write_all(STDOUT_FILENO, &end);
 }
 
-fn run(seed: u32, count: u64) {
-    let digest = runs::digest(seed, count);
-    io::print_decimal(STDOUT_FILENO, seed as u64);
+fn usage() {
+    io::write_all(
+        STDERR_FILENO,
+        b"usage: trials [SEED COUNT [SET [START]]], with SEED below 4294967296, SET and START of second/TRIALS.md\n",
+    );
+}
+
+fn print_line(seed: u64, count: u64, digest: u32) {
+    io::print_decimal(STDOUT_FILENO, seed);
     io::write_all(STDOUT_FILENO, b" ");
     io::print_decimal(STDOUT_FILENO, count);
     print_digest(digest);
 }
 
-fn run_list() {
-    for i in 0..STREAMS {
-        if i < SHORT {
-            run(SEEDS[i], SHORT_COUNT);
-        } else {
-            run(SEEDS[i], LONG_COUNT);
-        }
+// Each start is an arm; 0 is the bench "as at power-up".
+fn run(seed: u64, count: u64, set: u64, start: u64) {
+    if seed > LAST_SEED {
+        return usage();
+    }
+    if set >= SETS as u64 {
+        return usage();
+    }
+    match start {
+        0 => print_line(
+            seed,
+            count,
+            runs::digest(seed as u32, count, set as u8, Bench::power_up()),
+        ),
+        _ => usage(),
     }
 }
 
-fn usage() {
-    io::write_all(
-        STDERR_FILENO,
-        b"usage: trials [SEED COUNT], with SEED below 4294967296\n",
-    );
+fn run_list() {
+    for i in 0..list::STREAMS {
+        let row = list::LIST[i];
+        run(row[0], row[1], row[2], row[3]);
+    }
 }
 
-fn run_asked() {
+fn run_asked(words: usize) {
     let Number::Whole(seed) = numbers::argument(1) else {
         return usage();
     };
     let Number::Whole(count) = numbers::argument(2) else {
         return usage();
     };
-    if seed > 4294967295 {
+    let Number::Whole(set) = numbers::optional(3, words) else {
         return usage();
-    }
-    run(seed as u32, count);
+    };
+    let Number::Whole(start) = numbers::optional(4, words) else {
+        return usage();
+    };
+    run(seed, count, set, start);
 }
 
 fn main() {
-    match os::arg_count() {
+    let words = os::arg_count();
+    match words {
         1 => run_list(),
-        3 => run_asked(),
+        3 | 4 | 5 => run_asked(words),
         _ => usage(),
     }
 }

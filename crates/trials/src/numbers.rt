@@ -34,3 +34,11 @@ pub(crate) fn argument(i: usize) -> Number {
     let n = os::arg(i, &mut text);
     decimal(&text[..n])
 }
+
+// One that may be left out, and is 0 then. The words are those of the command line, the program's name among them.
+pub(crate) fn optional(i: usize, words: usize) -> Number {
+    if words <= i {
+        return Number::Whole(0);
+    }
+    argument(i)
+}

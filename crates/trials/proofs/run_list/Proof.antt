@@ -12,23 +12,26 @@ abbrev μ-loop : tie.MeasureT-loop
 loop-holds : tie.Need-loop-holds Inv-loop μ-loop
 loop-holds c = search needs
 
-mul-run : tie.Need-mul-run Inv-loop μ-loop
-mul-run c = search needs
+mul-row : tie.Need-mul-row Inv-loop μ-loop
+mul-row c = search needs
+
+array-copy-out-row : tie.Need-array-copy-out-row Inv-loop μ-loop
+array-copy-out-row c = search needs
 
 array-read-run : tie.Need-array-read-run Inv-loop μ-loop
 array-read-run c = search needs
 
-run-requires : tie.Need-run-requires Inv-loop μ-loop
-run-requires c κs = search needs
-
-mul-run-2 : tie.Need-mul-run-2 Inv-loop μ-loop
-mul-run-2 c = search needs
-
 array-read-run-2 : tie.Need-array-read-run-2 Inv-loop μ-loop
 array-read-run-2 c = search needs
 
-run-requires-2 : tie.Need-run-requires-2 Inv-loop μ-loop
-run-requires-2 c κs = search needs
+array-read-run-3 : tie.Need-array-read-run-3 Inv-loop μ-loop
+array-read-run-3 c = search needs
+
+array-read-run-4 : tie.Need-array-read-run-4 Inv-loop μ-loop
+array-read-run-4 c = search needs
+
+run-requires : tie.Need-run-requires Inv-loop μ-loop
+run-requires c κs = search needs
 
 add-i : tie.Need-add-i Inv-loop μ-loop
 add-i c = search needs
@@ -49,12 +52,13 @@ run-list-spec =
     Inv-loop
     μ-loop
     loop-holds
-    mul-run
+    mul-row
+    array-copy-out-row
     array-read-run
-    run-requires
-    mul-run-2
     array-read-run-2
-    run-requires-2
+    array-read-run-3
+    array-read-run-4
+    run-requires
     add-i
     loop-less
     loop-again

@@ -6,19 +6,16 @@ use Rattle.trials.proofs.runs.digest.Tie as tie
 
 -- the count is a number of 64 bits, so that the one after a number below it is
 abbrev Inv-loop : tie.InvT-loop
-Inv-loop seed count rows stream₀ bench₀ sum₀ counter₀ stream bench sum counter = count < 18446744073709551616
+Inv-loop seed count set bench₀ rows stream₀ sum₀ counter₀ bench stream sum counter = count < 18446744073709551616
 
 abbrev μ-loop : tie.MeasureT-loop
-μ-loop seed count rows stream₀ bench₀ sum₀ counter₀ stream bench sum counter = count - counter
+μ-loop seed count set bench₀ rows stream₀ sum₀ counter₀ bench stream sum counter = count - counter
 
 script-rows-requires : tie.Need-script-rows-requires Inv-loop μ-loop
 script-rows-requires c κs = search needs
 
 start-requires : tie.Need-start-requires Inv-loop μ-loop
 start-requires c κs = search needs
-
-power-up-requires : tie.Need-power-up-requires Inv-loop μ-loop
-power-up-requires c κs = search needs
 
 loop-holds : tie.Need-loop-holds Inv-loop μ-loop
 loop-holds c = search needs
@@ -29,17 +26,11 @@ slice-aggregate-next c = search needs
 next-requires : tie.Need-next-requires Inv-loop μ-loop
 next-requires c κs = search needs
 
-step-requires : tie.Need-step-requires Inv-loop μ-loop
-step-requires c κs = search needs
+reset-requires : tie.Need-reset-requires Inv-loop μ-loop
+reset-requires c κs = search needs
 
-outcome-mark-requires : tie.Need-outcome-mark-requires Inv-loop μ-loop
-outcome-mark-requires c κs = search needs
-
-add-requires : tie.Need-add-requires Inv-loop μ-loop
-add-requires c κs = search needs
-
-add-places-requires : tie.Need-add-places-requires Inv-loop μ-loop
-add-places-requires c κs = search needs
+add-seen-requires : tie.Need-add-seen-requires Inv-loop μ-loop
+add-seen-requires c κs = search needs
 
 add-counter : tie.Need-add-counter Inv-loop μ-loop
 add-counter c = omega arith
@@ -49,6 +40,36 @@ loop-less c = search needs
 
 loop-again : tie.Need-loop-again Inv-loop μ-loop
 loop-again c = search needs
+
+chair-requires : tie.Need-chair-requires Inv-loop μ-loop
+chair-requires c κs = search needs
+
+mul-seat : tie.Need-mul-seat Inv-loop μ-loop
+mul-seat c = search needs
+
+element-copy-out-seat : tie.Need-element-copy-out-seat Inv-loop μ-loop
+element-copy-out-seat c = search needs
+
+step-parts-requires : tie.Need-step-parts-requires Inv-loop μ-loop
+step-parts-requires c κs = search needs
+
+mul-stood : tie.Need-mul-stood Inv-loop μ-loop
+mul-stood c = search needs
+
+element-set-from-stood : tie.Need-element-set-from-stood Inv-loop μ-loop
+element-set-from-stood c = search needs
+
+add-seen-requires-2 : tie.Need-add-seen-requires-2 Inv-loop μ-loop
+add-seen-requires-2 c κs = search needs
+
+add-counter-2 : tie.Need-add-counter-2 Inv-loop μ-loop
+add-counter-2 c = omega arith
+
+loop-less-2 : tie.Need-loop-less-2 Inv-loop μ-loop
+loop-less-2 c = search needs
+
+loop-again-2 : tie.Need-loop-again-2 Inv-loop μ-loop
+loop-again-2 c = search needs
 
 returns : tie.Need-returns Inv-loop μ-loop
 returns c = search needs
@@ -61,15 +82,22 @@ digest-spec =
     μ-loop
     script-rows-requires
     start-requires
-    power-up-requires
     loop-holds
     slice-aggregate-next
     next-requires
-    step-requires
-    outcome-mark-requires
-    add-requires
-    add-places-requires
+    reset-requires
+    add-seen-requires
     add-counter
     loop-less
     loop-again
+    chair-requires
+    mul-seat
+    element-copy-out-seat
+    step-parts-requires
+    mul-stood
+    element-set-from-stood
+    add-seen-requires-2
+    add-counter-2
+    loop-less-2
+    loop-again-2
     returns)

@@ -1,13 +1,22 @@
 use Prim.Native.Nat.{_-_}
 use borrow.Author.Needs.{needs}
-use Rattle.trials.proofs.runs.add_places.Statement.{statement}
-use Rattle.trials.proofs.runs.add_places.Tie as tie
+use Rattle.trials.proofs.runs.add_seen.Statement.{statement}
+use Rattle.trials.proofs.runs.add_seen.Tie as tie
 
 abbrev Inv-loop : tie.InvT-loop
-Inv-loop digest bench sum₀ line₀ sum line = Unit
+Inv-loop digest controller sum₀ line₀ sum line = Unit
 
 abbrev μ-loop : tie.MeasureT-loop
-μ-loop digest bench sum₀ line₀ sum line = 9 - line
+μ-loop digest controller sum₀ line₀ sum line = 9 - line
+
+output-requires : tie.Need-output-requires Inv-loop μ-loop
+output-requires c κs = search needs
+
+outcome-mark-requires : tie.Need-outcome-mark-requires Inv-loop μ-loop
+outcome-mark-requires c κs = search needs
+
+add-requires : tie.Need-add-requires Inv-loop μ-loop
+add-requires c κs = search needs
 
 loop-holds : tie.Need-loop-holds Inv-loop μ-loop
 loop-holds c = search needs
@@ -18,8 +27,8 @@ place-requires c κs = search needs
 place-mark-requires : tie.Need-place-mark-requires Inv-loop μ-loop
 place-mark-requires c κs = search needs
 
-add-requires : tie.Need-add-requires Inv-loop μ-loop
-add-requires c κs = search needs
+add-requires-2 : tie.Need-add-requires-2 Inv-loop μ-loop
+add-requires-2 c κs = search needs
 
 add-line : tie.Need-add-line Inv-loop μ-loop
 add-line c = search needs
@@ -33,16 +42,19 @@ loop-again c = search needs
 returns : tie.Need-returns Inv-loop μ-loop
 returns c = search needs
 
-pub add-places-spec : {M : Type 1} → statement M
-add-places-spec =
+pub add-seen-spec : {M : Type 1} → statement M
+add-seen-spec =
     tie.close
     (tie.spec
     Inv-loop
     μ-loop
+    output-requires
+    outcome-mark-requires
+    add-requires
     loop-holds
     place-requires
     place-mark-requires
-    add-requires
+    add-requires-2
     add-line
     loop-less
     loop-again
