@@ -1,4 +1,4 @@
--- The last statements of `hailstoat_event`, over any types and values of its locals: kept apart from the walk, since a bench spelled out in
+-- The last statements of `reset_event`, over any types and values of its locals: kept apart from the walk, since a bench spelled out in
 -- every step of it is too much to check at once.
 use mathlib.Core.Path.{refl}
 use Prim.Native.Nat.{ℕ, _<_, _^_}
@@ -18,7 +18,7 @@ use types.Run.{look, init, store-raw, forget, stop, hop, fld, from, load, of-opd
 use types.Part.{whole, sub, look-in}
 
 module _ {M : Type 1} {𝓤 : URA M} {H : Heap 𝓤} {A : Atoms 𝓤} (W : Given 𝓤 H A) (Cs : Calls 𝓤 H) (Λ : Loops 𝓤 H) (Kf : Val → SProp 𝓤)
-    (τ τ₁ τ₂ τ₃ τ₄ τ₅ : Ty) (ν : Sym) (l₀ l₁ l₂ l₃ l₄ l₅ l₆ l₇ b o : ℕ) (v₂ v₃ v₄ v₅ old new : Val) (word : ℕ) (P₁ P₂ P₃ : Fml) where
+    (τ τ₁ : Ty) (ν : Sym) (l₀ l₁ l₂ l₃ b o : ℕ) (old new : Val) (word : ℕ) (P₁ P₂ P₃ : Fml) where
   abbrev pair : Ty
   pair = tyStruct ν (tcons τ (tcons (tyInt w32) tnil))
 
@@ -26,31 +26,28 @@ module _ {M : Type 1} {𝓤 : URA M} {H : Heap 𝓤} {A : Atoms 𝓤} (W : Given
   both = vstruct (vcons new (vcons (vint w32 word) vnil))
 
   abbrev E : Env 𝓤 H
-  E = (tyInt w32, l₀) ∷ (τ₁, l₁) ∷ (τ₂, l₂) ∷ (τ₃, l₃) ∷ (τ₄, l₄) ∷ (τ₅, l₅) ∷ (pair, l₆) ∷ (τ, l₇) ∷ []
+  E = (tyInt w32, l₀) ∷ (τ₁, l₁) ∷ (pair, l₂) ∷ (τ, l₃) ∷ []
 
   -- the first field is stored through the reference, the second in the result
   pub stores : T (hasTy τ new) × WT new → word < 2 ^ 32
       → Step Go W
-      (‵ (fat fullShare (rawTy τ) b o new) ∷ ‵ P₁ ∷ ‵ P₂ ∷ ‵ P₃ ∷ ‵ (fat fullShare τ l₇ 0 old) ∷ ‵ (fdies τ l₇) ∷ ‵ (fat fullShare pair l₆ 0 both) ∷ ‵ (fdies pair l₆)
-      ∷ ‵ (fat fullShare τ₅ l₅ 0 v₅) ∷ ‵ (fdies τ₅ l₅) ∷ ‵ (fat fullShare τ₄ l₄ 0 v₄) ∷ ‵ (fdies τ₄ l₄) ∷ ‵ (fat fullShare τ₃ l₃ 0 v₃) ∷ ‵ (fdies τ₃ l₃)
-      ∷ ‵ (fat fullShare τ₂ l₂ 0 v₂) ∷ ‵ (fdies τ₂ l₂) ∷ ‵ (fat fullShare τ₁ l₁ 0 (vptr b o)) ∷ ‵ (fdies τ₁ l₁) ∷ ‵ (fat fullShare (tyInt w32) l₀ 0 (vint w32 word)) ∷ ‵ (fdies (tyInt w32) l₀) ∷ [])
+      (‵ (fat fullShare (rawTy τ) b o new) ∷ ‵ P₁ ∷ ‵ P₂ ∷ ‵ P₃ ∷ ‵ (fat fullShare τ l₃ 0 old) ∷ ‵ (fdies τ l₃) ∷ ‵ (fat fullShare pair l₂ 0 both) ∷ ‵ (fdies pair l₂)
+      ∷ ‵ (fat fullShare τ₁ l₁ 0 (vptr b o)) ∷ ‵ (fdies τ₁ l₁) ∷ ‵ (fat fullShare (tyInt w32) l₀ 0 (vint w32 word)) ∷ ‵ (fdies (tyInt w32) l₀) ∷ [])
       (runs Cs Λ E return (atRet E Kf))
-      (‵ (fat fullShare (rawTy τ) b o old) ∷ ‵ P₁ ∷ ‵ P₂ ∷ ‵ P₃ ∷ ‵ (fat fullShare τ l₇ 0 old) ∷ ‵ (fdies τ l₇) ∷ ‵ (fat fullShare pair l₆ 0 both) ∷ ‵ (fdies pair l₆)
-      ∷ ‵ (fat fullShare τ₅ l₅ 0 v₅) ∷ ‵ (fdies τ₅ l₅) ∷ ‵ (fat fullShare τ₄ l₄ 0 v₄) ∷ ‵ (fdies τ₄ l₄) ∷ ‵ (fat fullShare τ₃ l₃ 0 v₃) ∷ ‵ (fdies τ₃ l₃)
-      ∷ ‵ (fat fullShare τ₂ l₂ 0 v₂) ∷ ‵ (fdies τ₂ l₂) ∷ ‵ (fat fullShare τ₁ l₁ 0 (vptr b o)) ∷ ‵ (fdies τ₁ l₁) ∷ ‵ (froom (tyInt w32) l₀ 0) ∷ ‵ (fdies (tyInt w32) l₀) ∷ [])
-      (runs Cs Λ E (seq (assign (place 1 (deref τ ∷ [])) (rvOpd (copy (place 6 (field 0 ∷ []))))) (seq (assign (place 0 []) (rvOpd (copy (place 6 (field 1 ∷ []))))) return)) (atRet E Kf))
+      (‵ (fat fullShare (rawTy τ) b o old) ∷ ‵ P₁ ∷ ‵ P₂ ∷ ‵ P₃ ∷ ‵ (fat fullShare τ l₃ 0 old) ∷ ‵ (fdies τ l₃) ∷ ‵ (fat fullShare pair l₂ 0 both) ∷ ‵ (fdies pair l₂)
+      ∷ ‵ (fat fullShare τ₁ l₁ 0 (vptr b o)) ∷ ‵ (fdies τ₁ l₁) ∷ ‵ (froom (tyInt w32) l₀ 0) ∷ ‵ (fdies (tyInt w32) l₀) ∷ [])
+      (runs Cs Λ E (seq (assign (place 1 (deref τ ∷ [])) (rvOpd (copy (place 2 (field 0 ∷ []))))) (seq (assign (place 0 []) (rvOpd (copy (place 2 (field 1 ∷ []))))) return)) (atRet E Kf))
   stores typed fits = step (λ s.
-      assigns ! (of-opd ! (load ! (from ! (fld ! refl (stop !))) (look-in ! 6 (sub ! 0 refl (whole !))))) (from ! (hop ! (look ! 16 refl) (stop !))) (store-raw ! 0 refl typed) $
-      assigns ! (of-opd ! (load ! (from ! (fld ! refl (stop !))) (look-in ! 6 (sub ! 1 refl (whole !))))) (from ! (stop !)) (init ! 18 refl (tt, record { fits = fits })) $ s)
+      assigns ! (of-opd ! (load ! (from ! (fld ! refl (stop !))) (look-in ! 6 (sub ! 0 refl (whole !))))) (from ! (hop ! (look ! 8 refl) (stop !))) (store-raw ! 0 refl typed) $
+      assigns ! (of-opd ! (load ! (from ! (fld ! refl (stop !))) (look-in ! 6 (sub ! 1 refl (whole !))))) (from ! (stop !)) (init ! 10 refl (tt, record { fits = fits })) $ s)
 
   -- the result is returned, and every local freed
   pub leaves : ent 𝓤 (sep 𝓤 (sem 𝓤 H A P₁) (sep 𝓤 (sem 𝓤 H A P₂) (sem 𝓤 H A P₃))) (Kf (vint w32 word))
       → Seq Go W
-      (‵ P₁ ∷ ‵ P₂ ∷ ‵ P₃ ∷ ‵ (fat fullShare τ l₇ 0 old) ∷ ‵ (fdies τ l₇) ∷ ‵ (fat fullShare pair l₆ 0 both) ∷ ‵ (fdies pair l₆)
-      ∷ ‵ (fat fullShare τ₅ l₅ 0 v₅) ∷ ‵ (fdies τ₅ l₅) ∷ ‵ (fat fullShare τ₄ l₄ 0 v₄) ∷ ‵ (fdies τ₄ l₄) ∷ ‵ (fat fullShare τ₃ l₃ 0 v₃) ∷ ‵ (fdies τ₃ l₃)
-      ∷ ‵ (fat fullShare τ₂ l₂ 0 v₂) ∷ ‵ (fdies τ₂ l₂) ∷ ‵ (fat fullShare τ₁ l₁ 0 (vptr b o)) ∷ ‵ (fdies τ₁ l₁) ∷ ‵ (fat fullShare (tyInt w32) l₀ 0 (vint w32 word)) ∷ ‵ (fdies (tyInt w32) l₀) ∷ [])
+      (‵ P₁ ∷ ‵ P₂ ∷ ‵ P₃ ∷ ‵ (fat fullShare τ l₃ 0 old) ∷ ‵ (fdies τ l₃) ∷ ‵ (fat fullShare pair l₂ 0 both) ∷ ‵ (fdies pair l₂)
+      ∷ ‵ (fat fullShare τ₁ l₁ 0 (vptr b o)) ∷ ‵ (fdies τ₁ l₁) ∷ ‵ (fat fullShare (tyInt w32) l₀ 0 (vint w32 word)) ∷ ‵ (fdies (tyInt w32) l₀) ∷ [])
       (runs Cs Λ E return (atRet E Kf))
   leaves leave =
-      returns ! (look ! 17 refl) $ forget ! 3 refl $ forget ! 5 refl $ forget ! 7 refl $ forget ! 9 refl $ forget ! 11 refl $ forget ! 13 refl $ forget ! 15 refl $ forget ! 17 refl $
-      move ! (17 ∷ 18 ∷ []) $ free1 ! $ move ! (15 ∷ 16 ∷ []) $ free1 ! $ move ! (13 ∷ 14 ∷ []) $ free1 ! $ move ! (11 ∷ 12 ∷ []) $ free1 ! $ move ! (9 ∷ 10 ∷ []) $ free1 ! $ move ! (7 ∷ 8 ∷ []) $ free1 ! $ move ! (5 ∷ 6 ∷ []) $ free1 ! $ move ! (3 ∷ 4 ∷ []) $ free1 ! $ free0 ! $
+      returns ! (look ! 9 refl) $ forget ! 3 refl $ forget ! 5 refl $ forget ! 7 refl $ forget ! 9 refl $
+      move ! (9 ∷ 10 ∷ []) $ free1 ! $ move ! (7 ∷ 8 ∷ []) $ free1 ! $ move ! (5 ∷ 6 ∷ []) $ free1 ! $ move ! (3 ∷ 4 ∷ []) $ free1 ! $ free0 ! $
       keep ! (0 ∷ 1 ∷ 2 ∷ []) $ by ! leave

@@ -1,7 +1,10 @@
 -- What the walks share.
 mod InMemory
+mod InPlace
 mod Leaving
+mod Looking
+mod Places
+mod Storing
 pub mod Slips
-pub mod PlayLaws
 pub mod DivisorLaws
 pub mod LentLaws

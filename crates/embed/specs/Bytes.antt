@@ -14,5 +14,9 @@ seatBytes = 7 + (queueBytes + 4) + (queueBytes + 3) + 2
 abbrev pub controllerBytes : ℕ
 controllerBytes = 2 + 4 + 6
 
+-- all the seats, behind which the controller lies
+abbrev pub seatsBytes : ℕ
+seatsBytes = seatCount * seatBytes
+
 abbrev pub benchBytes : ℕ
-benchBytes = seatCount * seatBytes + controllerBytes
+benchBytes = seatsBytes + controllerBytes

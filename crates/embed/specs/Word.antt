@@ -5,7 +5,10 @@ use mathlib.Core.Path.{_≡_}
 use Rattle.base.specs.Bits.{bit, digit}
 use Rattle.base.specs.Answers.{refusalOf, valueOf}
 use Rattle.base.specs.declared.Answer.{Answer}
+use Rattle.controller.specs.Turns.{outputOf}
 use Rattle.bench.specs.declared.Outcome.{Outcome}
+use Rattle.bench.specs.declared.Touched.{Touched}
+use Rattle.embed.specs.declared.PartsPlayed.{PartsPlayed}
 
 -- "refusal number (0 for none), answer in three hex capitals, output after the event", as one number
 unfoldable pub wordOf : Answer → Bool → ℕ
@@ -34,3 +37,9 @@ Tells w a high = (w ≡ wordOf a high) × Reads w a high
 -- the same of what a record came to
 abbrev pub Told : ℕ → Outcome → Type 0
 Told w o = Tells w (o .answer) (o .output)
+
+-- what came back is what a record made of its seat and the controller, and the word tells its answer and the output after it
+pub record Parted (r : PartsPlayed) (t : Touched) : Type 0 where
+  pub seat : r .seat ≡ t .seat
+  pub controller : r .controller ≡ t .controller
+  pub told : Tells (r .word) (t .answer) (outputOf (t .controller))

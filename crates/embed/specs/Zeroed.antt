@@ -15,8 +15,9 @@ use Rattle.controller.specs.declared.Lines.{Lines}
 use Rattle.controller.specs.declared.Setup.{Setup}
 use Rattle.controller.specs.declared.Operation.{Operation}
 use Rattle.controller.specs.declared.Controller.{Controller}
-use Rattle.bench.specs.declared.Seat.{Seat}
+use Rattle.seat.specs.declared.Seat.{Seat}
 use Rattle.bench.specs.declared.Bench.{Bench}
+use Rattle.bench.specs.Seats.{seatCount}
 
 -- all of these tests hold
 abbrev pub allHold : List Bool → Bool
@@ -103,7 +104,7 @@ abbrev pub zeroSeat : Seat → Bool
 zeroSeat s = allHold (seatTests s)
 
 abbrev pub benchTests : Bench → List Bool
-benchTests b = eachOf 8 zeroSeat (b .seats) ∷ zeroController (b .controller) ∷ []
+benchTests b = eachOf seatCount zeroSeat (b .seats) ∷ zeroController (b .controller) ∷ []
 
 abbrev pub zeroed : Bench → Bool
 zeroed b = allHold (benchTests b)

@@ -24,9 +24,10 @@ use Rattle.controller.specs.declared.Lines.{Lines}
 use Rattle.controller.specs.declared.Setup.{Setup}
 use Rattle.controller.specs.declared.Operation.{Operation}
 use Rattle.controller.specs.declared.Controller.{Controller}
-use Rattle.bench.specs.declared.Seat.{Seat}
+use Rattle.seat.specs.declared.Seat.{Seat}
+use Rattle.seat.specs.Seats as seat
 use Rattle.bench.specs.declared.Bench.{Bench}
-use Rattle.bench.specs.Seats.{powerUp}
+use Rattle.bench.specs.Seats.{seatCount, powerUp}
 use Rattle.embed.specs.Zeroed.{allHold, nought, eachOf}
 use Rattle.embed.specs.Zeroed.{characterTests, queueTests, settingsTests, receiverTests, transmitterTests, modemTests, channelTests}
 use Rattle.embed.specs.Zeroed.{linesTests, setupTests, operationTests, controllerTests, seatTests, benchTests}
@@ -66,9 +67,6 @@ each-is : {A : Type 0} (n : ℕ) (test : A → Bool) (x : A) → ((y : A) → te
 each-is n test x is l e =
     let p : (eqb (length l) n ≡ true) × (allHold (map test l) ≡ true) = both-hold (eqb (length l) n) (allHold (map test l)) e in
     all-are test x is n l (eqb-true (length l) n (p .0)) (held (map test l) (p .1))
-
-abbrev seatUp : Seat
-seatUp = record { channel = channel.powerUp }
 
 character-is : (c : Character) → zeroCharacter c ≡ true → c ≡ noCharacter
 character-is c e =
@@ -177,7 +175,7 @@ controller-is c e =
       operation = operation-is (c .operation) (h .1 .1 .0) i;
     }
 
-seat-is : (s : Seat) → zeroSeat s ≡ true → s ≡ seatUp
+seat-is : (s : Seat) → zeroSeat s ≡ true → s ≡ seat.powerUp
 seat-is s e =
     let h : AllHold (seatTests s) = held (seatTests s) e in
     λ i. record {
@@ -189,6 +187,6 @@ pub zeroed-is : (b : Bench) → zeroed b ≡ true → b ≡ powerUp
 zeroed-is b e =
     let h : AllHold (benchTests b) = held (benchTests b) e in
     λ i. record {
-      seats = each-is 8 zeroSeat seatUp seat-is (b .seats) (h .0) i;
+      seats = each-is seatCount zeroSeat seat.powerUp seat-is (b .seats) (h .0) i;
       controller = controller-is (b .controller) (h .1 .0) i;
     }

@@ -1,7 +1,10 @@
 // The bench for the control software, which is written in C: the caller holds a bench and lends it for a call.
-// A function over a lent bench copies it out, calls a function by value, stores what came back, and does nothing else.
+// A function over a lent bench copies out what its call touches, calls a function by value, stores what came back, and does nothing else.
 use base::Answer;
 use bench::Bench;
+use bench::Decoded;
+use controller::Controller;
+use seat::Seat;
 ghost use mathlib.Core.Path.{_≡_};
 ghost use mathlib.Core.Bool.{false};
 ghost use Rattle.base.specs.Bits.{digit};
@@ -10,15 +13,24 @@ ghost use Rattle.controller.specs.Steps.{placed};
 ghost use Rattle.controller.specs.Turns.{outputOf};
 ghost use Rattle.bench.specs.Events.{whole};
 ghost use Rattle.bench.specs.Seats.{powerUp};
-ghost use Rattle.bench.specs.Steps.{outcome};
-ghost use Rattle.embed.specs.Word.{Tells, Told};
+ghost use Rattle.bench.specs.Parts.{parted, partly};
+ghost use Rattle.bench.specs.Steps.{met, outcome};
+ghost use Rattle.bench.specs.declared.Event.the-variants.{MasterReset};
+ghost use Rattle.embed.specs.Word.{Tells, Told, Parted};
 ghost use Rattle.embed.specs.Bytes.{benchBytes};
 
 const BENCH_BYTES: u32 = 668;
 
-// A bench after a record, and the word that tells of it.
+// A bench after a master reset, and the word that tells of it.
 pub struct Played {
     pub bench: Bench,
+    pub word: u32,
+}
+
+// A seat and the controller after a record, and the word that tells of it.
+pub struct PartsPlayed {
+    pub seat: Seat,
+    pub controller: Controller,
     pub word: u32,
 }
 
@@ -31,10 +43,11 @@ fn word(answer: Answer, output: bool) -> u32
     value as u32 + 0x10000 * refusal as u32 + 0x1000000 * high as u32
 }
 
-fn play(b: Bench, kind: u8, seat: u8, number: u8, value: u8) -> Played
-    ensures { λ r. ⌜ (r .bench ≡ outcome b (whole kind seat number value) .bench) × Told (r .word) (outcome b (whole kind seat number value)) ⌝ }
+// The one record that touches every seat.
+fn play_reset(b: Bench) -> Played
+    ensures { λ r. ⌜ (r .bench ≡ met b MasterReset .bench) × Told (r .word) (met b MasterReset) ⌝ }
 {
-    let o = b.step(kind, seat, number, value);
+    let o = b.reset();
     let next = o.bench;
     let answer = o.answer;
     let told = word(answer, o.output);
@@ -44,17 +57,40 @@ fn play(b: Bench, kind: u8, seat: u8, number: u8, value: u8) -> Played
     }
 }
 
-fn place_word(b: Bench, line: u8) -> u32
-    ensures { λ r. ⌜ Tells r (placed (b .controller) line) false ⌝ }
+// Any other record, on the two parts that it can touch.
+fn play_parts(
+    seat: Seat,
+    controller: Controller,
+    kind: u8,
+    n: u8,
+    number: u8,
+    value: u8,
+) -> PartsPlayed
+    ensures { λ r. ⌜ Parted r (parted seat controller (whole kind n number value)) ⌝ }
 {
-    let answer = b.place(line);
+    let t = bench::step_parts(seat, controller, kind, n, number, value);
+    let next = t.seat;
+    let moved = t.controller;
+    let answer = t.answer;
+    let told = word(answer, moved.output());
+    PartsPlayed {
+        seat: next,
+        controller: moved,
+        word: told,
+    }
+}
+
+fn place_word(controller: Controller, line: u8) -> u32
+    ensures { λ r. ⌜ Tells r (placed controller line) false ⌝ }
+{
+    let answer = controller.place(line);
     word(answer, false)
 }
 
-fn output_byte(b: Bench) -> u8
-    ensures { λ r. ⌜ r ≡ digit (outputOf (b .controller)) ⌝ }
+fn output_byte(controller: Controller) -> u8
+    ensures { λ r. ⌜ r ≡ digit (outputOf controller) ⌝ }
 {
-    let high = b.output();
+    let high = controller.output();
     base::pick_byte(high, 1, 0)
 }
 
@@ -82,6 +118,29 @@ pub extern "C" fn hailstoat_power_up(bench: &mut Bench)
     *bench = Bench::power_up();
 }
 
+// A master reset takes the bench out whole, and stores it whole.
+fn reset_event(bench: &mut Bench) -> u32
+    ensures { λ r. ⌜ (now (bench .exit) ≡ met (now (bench .entry)) MasterReset .bench) × Told r (met (now (bench .entry)) MasterReset) ⌝ }
+{
+    let p = play_reset(*bench);
+    *bench = p.bench;
+    p.word
+}
+
+// The seat that the record names and the controller are taken out, and stored where they lie: the rest of the bench is not moved.
+// The chair is worked out here, which is less to walk by hand than a call.
+fn seat_event(bench: &mut Bench, kind: u8, seat: u8, number: u8, value: u8) -> u32
+    ensures { λ r. ⌜ (now (bench .exit) ≡ partly (now (bench .entry)) (whole kind seat number value) .bench)
+        × Told r (partly (now (bench .entry)) (whole kind seat number value)) ⌝ }
+{
+    let at = seat as usize % bench::SEATS;
+    let held = &mut bench.seats[at];
+    let p = play_parts(*held, bench.controller, kind, seat, number, value);
+    *held = p.seat;
+    bench.controller = p.controller;
+    p.word
+}
+
 // One record; the word has its refusal, its answer, and the output after it.
 #[no_mangle]
 pub extern "C" fn hailstoat_event(
@@ -94,9 +153,10 @@ pub extern "C" fn hailstoat_event(
     ensures { λ r. ⌜ (now (bench .exit) ≡ outcome (now (bench .entry)) (whole kind seat number value) .bench)
         × Told r (outcome (now (bench .entry)) (whole kind seat number value)) ⌝ }
 {
-    let p = play(*bench, kind, seat, number, value);
-    *bench = p.bench;
-    p.word
+    if kind == Decoded::MASTER_RESET {
+        return reset_event(bench);
+    }
+    seat_event(bench, kind, seat, number, value)
 }
 
 // The place in turn of a line.
@@ -104,7 +164,7 @@ pub extern "C" fn hailstoat_event(
 pub extern "C" fn hailstoat_place(bench: &Bench, line: u8) -> u32
     ensures { λ r. ⌜ Tells r (placed (now (bench .entry) .controller) line) false ⌝ }
 {
-    place_word(*bench, line)
+    place_word(bench.controller, line)
 }
 
 // 1 where the controller's output is high, else 0.
@@ -112,5 +172,5 @@ pub extern "C" fn hailstoat_place(bench: &Bench, line: u8) -> u32
 pub extern "C" fn hailstoat_output(bench: &Bench) -> u8
     ensures { λ r. ⌜ r ≡ digit (outputOf (now (bench .entry) .controller)) ⌝ }
 {
-    output_byte(*bench)
+    output_byte(bench.controller)
 }

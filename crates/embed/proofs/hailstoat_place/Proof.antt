@@ -1,4 +1,4 @@
--- `hailstoat_place`, walked by hand. The shared loan is looked into, the bench copied out and the loan shut; what `place_word` returns is returned.
+-- `hailstoat_place`, walked by hand. The shared loan is looked into, the controller copied out and the loan shut; what `place_word` returns is returned.
 use mathlib.Core.Path.{refl}
 use mathlib.Core.Bool.{false}
 use Prim.Native.Nat.{ℕ, _<_, _^_}
@@ -15,7 +15,7 @@ use ghost.Atoms.{Atoms, sem}
 use contract.Monad.{Fun, fact}
 use contract.Running.{givenOf, tables, tablesOf}
 use types.Kit.{Given, ‵, raw, some, later, _⊛_, _$_, _∵_, !, qed, by, move, keep, drop, use0, use1, split, join, pick, fsplit, fsplit3, fjoin, fjoin3, feqI, suffices, frame, await, done}
-use types.Run.{look, look-raw, init, forget, stop, hop, from, load, of-opd, and-then, no-more, assigns, land, returns, enter, alloc1, alloc0, params1, pass1, pass0, free1, free0}
+use types.Run.{look, look-raw, init, forget, stop, hop, fld, from, load, of-opd, and-then, no-more, assigns, land, returns, enter, alloc1, alloc0, params1, pass1, pass0, free1, free0}
 use sound.WpLaws.{FmC, fmOf, WpFn-mono}
 use denote.RattleType.{owns}
 use denote.Laws.{Is, shows}
@@ -24,8 +24,7 @@ use denote.Plain.{uint-vals, uint-tells, uint-makes, uint-lawful}
 use denote.Builtin.{u8, u32}
 use denote.Ref.{RefT, ShrRef, ptr-vals, shr-tells}
 use denote.Signature.{plain}
-use denote.Steps.{looks, shuts, owned, peeks, facts, heard, nothing}
-use denote.Struct.Steps.{spelt}
+use denote.Steps.{owned, facts, heard, nothing}
 use denote.Struct.Laws as LL
 use denote.Triple.Statement.{Contract, Triple}
 use denote.Triple.Call.{calls-at}
@@ -36,10 +35,14 @@ use denote.Triple.Walked.{says, Stays, stay-none, stay-none-ref, walkOf, AllGo, 
 use denote.Triple.Clauses.{ensured, lasts}
 use denote.Exit.{yes}
 use Rattle.controller.specs.Steps.{placed}
+use Rattle.controller.specs.declared.Controller.{Controller}
+use Rattle.controller.proofs.Controller as K
+use Rattle.controller.proofs.Controller.Laws as K′
 use Rattle.bench.specs.declared.Bench.{Bench}
 use Rattle.bench.proofs.Bench as B
-use Rattle.bench.proofs.Bench.Laws as B′
 use Rattle.embed.specs.Word.{Tells}
+use Rattle.embed.proofs.InPlace.{rest-val}
+use Rattle.embed.proofs.Looking.{Known, looks-at, looks-away}
 use Rattle.embed.proofs.place_word as asked
 use Rattle.embed.proofs.place_word.Symbol as asked-def
 use Rattle.embed.proofs.place_word.Symbol.{name as #embed·asked}
@@ -51,10 +54,6 @@ use Rattle.embed.proofs.hailstoat_place.Code as code
 
 abbrev stayed : Stays (f.ended .signature .params) (f.ended .kept)
 stayed = (stay-none-ref (0 ∷ []) tt (plain (λ _. B.the-row)) yes, (stay-none (λ _. u8) yes, tt))
-
--- the machine value of a bench
-abbrev bench : Bench → Val
-bench h = LL.val B.the-type B′.the-laws h
 
 -- the contract that the proof cites
 abbrev Asked : {M : Type 1} (𝓤 : URA M) (H : Heap 𝓤) (A : Atoms 𝓤) (mem : Memory → SProp 𝓤) (run : Routine → Fun 𝓤) → Contract 𝓤
@@ -81,19 +80,19 @@ module _ {M : Type 1} (𝓤 : URA M) (H : Heap 𝓤) (A : Atoms 𝓤) (W : Given
       owned ! u8 (Is u8) (uint-makes 𝓤 H A W w8) n _ (refl, fn) $ fjoin ! $ move ! (1 ∷ 0 ∷ []) $ fjoin ! $ frame ! $
       owned ! u32 (Is u32) (uint-makes 𝓤 H A W w32) r _ is $ done !
 
-  abbrev args : Bench × (ℕ × Unit {0})
-  args = (h, (n, tt))
+  abbrev args : Controller × (ℕ × Unit {0})
+  args = (h .controller, (n, tt))
 
   abbrev to-asked : Asked 𝓤 H A at-mem run .Ghost
-  to-asked = ((tt, tt, tt, args, (bench h ∷ [], (vint w8 n ∷ [], tt))), tt)
+  to-asked = ((tt, tt, tt, args, (rest-val (h .controller) ∷ [], (vint w8 n ∷ [], tt))), tt)
 
   told : (r : ℕ) → ent 𝓤 (ensured 𝓤 H A asked.ended (asked.clauses 𝓤 H A at-mem run) tt args tt r) (fact 𝓤 (Ensured r))
   told r = exE 𝓤 _ (λ ws. snd∗ 𝓤 (sem 𝓤 H A (lasts asked.ended tt args ws)) (fact 𝓤 (Ensured r)))
 
-  goes-asked : Is B.the-row h (bench h ∷ []) → ent 𝓤 (emp 𝓤) (Asked 𝓤 H A at-mem run .pre to-asked)
+  goes-asked : Known (h .controller) → ent 𝓤 (emp 𝓤) (Asked 𝓤 H A at-mem run .pre to-asked)
   goes-asked was =
       qed W [] ∵ nothing ! $ owned ! u8 (Is u8) (uint-makes 𝓤 H A W w8) n _ (refl, fn) $ fjoin ! $
-      owned ! B.the-row (Is B.the-row) ((LL.makes B.the-type B′.the-plain) 𝓤 H A) h (bench h ∷ []) was $ fjoin ! $ nothing ! $ join ! $ frame ! $ done !
+      owned ! K.the-row (Is K.the-row) ((LL.makes K.the-type K′.the-plain) 𝓤 H A) (h .controller) (rest-val (h .controller) ∷ []) was $ fjoin ! $ nothing ! $ join ! $ frame ! $ done !
 
   module _ (Cs : Calls 𝓤 H) (Λ : Loops 𝓤 H) (fm : FmC 𝓤 H (W .laws) Cs) (known : Triple 𝓤 (Cs #embed·asked) (Asked 𝓤 H A at-mem run)) where
     walk : ent 𝓤 (onEntry 𝓤 H A f.signature (κ, tt) (q, tt) x at) (WpFn 𝓤 H Cs Λ code.function (vptr b o ∷ vint w8 n ∷ []) Post)
@@ -101,11 +100,10 @@ module _ {M : Type 1} (𝓤 : URA M) (H : Heap 𝓤) (A : Atoms 𝓤) (W : Given
         qed W ((‵ (flft κ q) ⊛ ‵ ftrue) ∷ ‵ (owns (ShrRef (named 0) κ B.the-row ∷ u8 ∷ []) x at) ∷ []) ∵ enter ! Cs Λ code.function (vptr b o ∷ vint w8 n ∷ []) _ $
         alloc1 ! (λ l₀. alloc1 ! (λ l₁. alloc1 ! (λ l₂. alloc1 ! (λ l₃. alloc0 ! $ params1 ! $ pass1 ! (init ! 4 refl (tt, tt)) $ pass1 ! (init ! 2 refl (tt, record { fits = fn })) $ pass0 ! $
         move ! (9 ∷ []) $ fsplit ! $ fsplit3 ! $ drop ! $ move ! (11 ∷ []) $ split ! $ move ! (3 ∷ 0 ∷ []) $
-        looks ! tt B.the-row (Is B.the-row) (shows 𝓤 H A B.the-row) (LL.vals B.the-type B′.the-laws) (LL.tells B.the-type B′.the-laws) ((LL.copy B.the-type B′.the-copy) 𝓤 H A W) h b o (λ q′ vs.
-        spelt ! B.the-row (Is B.the-row) (shows 𝓤 H A B.the-row) (LL.vals B.the-type B′.the-laws) (LL.tells B.the-type B′.the-laws) q′ h vs b o $ move ! (1 ∷ []) $ peeks ! B.the-row (Is B.the-row) (shows 𝓤 H A B.the-row) h (bench h ∷ []) (λ was. move ! (1 ∷ 0 ∷ []) $
-        -- [a share of the bench's cell; what a Bench owns; what shuts it; the fractured borrow; true; res; what the line owns; room for _3; …; _2; …; _1; …; room for _0; …]
-        assigns ! (of-opd ! (load ! (from ! (hop ! (look ! 11 refl) (stop !))) (look-raw ! 0 refl))) (from ! (stop !)) (init ! 7 refl (LL.lawful B.the-type B′.the-laws 𝓤 H A W .typed h _ was .0)) $
-        shuts ! tt B.the-row q′ h (bench h ∷ []) b o $
+        looks-at W h b o tt (λ s was.
+        -- [a share of the controller's cell; what stays behind; what shuts it; the fractured borrow; true; res; what the line owns; room for _3; …; _2; …; _1; …; room for _0; …]
+        assigns ! (of-opd ! (load ! (from ! (hop ! (look ! 11 refl) (fld ! refl (stop !)))) (look-raw ! 0 refl))) (from ! (stop !)) (init ! 7 refl (LL.lawful K.the-type K′.the-laws 𝓤 H A W .typed (h .controller) _ was .0)) $
+        looks-away W h b o tt s was $
         -- [the token; the fractured borrow; true; res; what the line owns; _3; …; _2; …; _1; …; room for _0; …]
         use0 W (raw (Asked 𝓤 H A at-mem run .pre to-asked)) (goes-asked was) $
         calls-at ! fm (Asked 𝓤 H A at-mem run) known to-asked (and-then ! (load ! (from ! (stop !)) (look ! 6 refl)) (and-then ! (load ! (from ! (stop !)) (look ! 8 refl)) (no-more !))) (λ w.
@@ -113,7 +111,7 @@ module _ {M : Type 1} (𝓤 : URA M) (H : Heap 𝓤) (A : Atoms 𝓤) (W : Given
         split ! $ move ! (1 ∷ []) $ use1 W (raw (fact 𝓤 (Ensured r))) (told r) $ heard ! (Ensured r) (λ eq. split ! $ drop ! $ facts ! u32 (Is u32) (shows 𝓤 H A u32) r (w ∷ []) (λ is.
         land ! (from ! (stop !)) (init ! 11 refl (uint-lawful 𝓤 H A W w32 .typed r _ is .0)) $
         returns ! (look ! 11 refl) $ forget ! 5 refl $ forget ! 7 refl $ forget ! 9 refl $ forget ! 11 refl $
-        move ! (11 ∷ 12 ∷ []) $ free1 ! $ move ! (9 ∷ 10 ∷ []) $ free1 ! $ move ! (7 ∷ 8 ∷ []) $ free1 ! $ move ! (5 ∷ 6 ∷ []) $ free1 ! $ free0 ! $ keep ! (0 ∷ 3 ∷ 1 ∷ []) $ by ! (exits r w is eq)))))))))))
+        move ! (11 ∷ 12 ∷ []) $ free1 ! $ move ! (9 ∷ 10 ∷ []) $ free1 ! $ move ! (7 ∷ 8 ∷ []) $ free1 ! $ move ! (5 ∷ 6 ∷ []) $ free1 ! $ free0 ! $ keep ! (0 ∷ 3 ∷ 1 ∷ []) $ by ! (exits r w is eq))))))))))
 
 module _ {M : Type 1} (𝓤 : URA M) (H : Heap 𝓤) (A : Atoms 𝓤) (W : Given 𝓤 H A) (at-mem : Memory → SProp 𝓤) (run : Routine → Fun 𝓤) where
   walks : (Cs : Calls 𝓤 H) (Λ : Loops 𝓤 H) → FmC 𝓤 H (W .laws) Cs → Triple 𝓤 (Cs #embed·asked) (Asked 𝓤 H A at-mem run) → Walks 𝓤 H A f.ended stayed (WpFn 𝓤 H Cs Λ code.function) (f.clauses 𝓤 H A at-mem run)
