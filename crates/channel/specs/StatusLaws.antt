@@ -1,6 +1,6 @@
 -- LSR, MSR and IIR, bit by bit.
 use Prim.Native.Nat.{ℕ, zero, suc, _+_, _<_, _≤_, _/_, _%_}
-use mathlib.Core.Bool.{Bool, true, false, not, _&&_}
+use mathlib.Core.Bool.{Bool, true, false, not, _&&_, _||_}
 use mathlib.Core.Path.{_≡_, ap, _∙_}
 use native.Mathlib.Nat.{le-of-suc-le-suc, not-suc-le-zero}
 use native.Mathlib.Omega.{arith}
@@ -11,12 +11,13 @@ use Rattle.base.specs.PickLaws.{pick-true, pick-false, pick-le}
 use Rattle.base.specs.Bits.{bit}
 use Rattle.base.specs.BitLaws.{bit-bits, bits-small}
 use Rattle.queue.specs.Queue.{oldest, marked}
-use Rattle.receiver.specs.Receiver.{noneQueued, shownMarks, someMarked}
+use Rattle.receiver.specs.Receiver.{noneQueued, shownMarks, someMarked, troubled}
 use Rattle.transmitter.specs.Transmitter.{noneWaiting, allSent}
 use Rattle.channel.specs.declared.Channel.{Channel}
 use Rattle.channel.specs.Parts.{fifo}
+use Rattle.registers.specs.Modem.{someChange}
 use Rattle.registers.specs.ModemLaws.{shows-changes, shows-inputs, msr-small}
-use Rattle.channel.specs.Status.{lsr, msr, causes, firstCause, cause, iir}
+use Rattle.channel.specs.Status.{lsr, msr, lineTrouble, modemChanged, causes, firstCause, cause, iir}
 
 module _ (c : Channel) where
   -- 0: the receive queue is not empty
@@ -81,6 +82,18 @@ module _ (c : Channel) where
   pub msr-byte : msr c < 0x100
   unfolding msr
   msr-byte = msr-small (c .modem .changes) (c .modem .levels)
+
+-- "any of LSR 1-4", asked of the receive side
+pub line-trouble : (c : Channel) → lineTrouble c ≡ troubled (fifo c) (c .receiver)
+unfolding lineTrouble troubled
+line-trouble c =
+    (λ i. lsr-overrun c i || lsr-marks c 0 (omega arith) i || lsr-marks c 1 (omega arith) i || lsr-marks c 2 (omega arith) i)
+
+-- "any of MSR 0-3", asked of the changes
+pub modem-changed : (c : Channel) → modemChanged c ≡ someChange (c .modem .changes)
+unfolding modemChanged someChange
+modem-changed c =
+    (λ i. msr-changes c 0 (omega arith) i || msr-changes c 1 (omega arith) i || msr-changes c 2 (omega arith) i || msr-changes c 3 (omega arith) i)
 
 -- no code is above 0C
 pub cause-small : (c : Channel) → cause c ≤ 12

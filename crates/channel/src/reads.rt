@@ -60,7 +60,7 @@ impl Channel {
             Register::Mcr => return self.tell(self.settings.mcr),
             Register::Lsr => return self.read_lsr(),
             Register::Msr => {
-                let byte = self.modem_status();
+                let byte = registers::modem_status(self.modem.changes, self.modem.levels);
                 self.modem.changes = 0;
                 return self.tell(byte);
             }

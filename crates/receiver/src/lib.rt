@@ -3,7 +3,7 @@
 use queue::Character;
 use queue::Queue;
 ghost use mathlib.Core.Path.{_≡_};
-ghost use Rattle.receiver.specs.Receiver.{quiet, noneQueued, received, got, shownMarks, someMarked, looked, waited, cleared, turned, fcrHeard, restarted, dataStands, timeoutStands};
+ghost use Rattle.receiver.specs.Receiver.{quiet, noneQueued, received, got, shownMarks, someMarked, troubled, looked, waited, cleared, turned, fcrHeard, restarted, dataStands, timeoutStands};
 
 #[repr(C)]
 pub struct Receiver {
@@ -82,6 +82,13 @@ impl Receiver {
         let waiting = self.queue;
         let oldest = waiting.first();
         base::pick_byte(fifo, oldest.marks, self.kept)
+    }
+
+    pub fn trouble(self, fifo: bool) -> bool
+        ensures { λ r. ⌜ r ≡ troubled fifo self ⌝ }
+    {
+        let marks = self.marks(fifo);
+        self.overrun | base::bit(0, marks) | base::bit(1, marks) | base::bit(2, marks)
     }
 
     pub fn any_marked(self, fifo: bool) -> bool

@@ -32,3 +32,7 @@ msrOf changes inputs =
     ∷ bit 2 inputs
     ∷ bit 3 inputs
     ∷ [])
+
+-- "any of MSR 0-3"
+unfoldable pub someChange : ℕ → Bool
+someChange changes = bit 0 changes || bit 1 changes || bit 2 changes || bit 3 changes

@@ -2,6 +2,7 @@
 mod modem;
 mod refusals;
 
+pub use modem::any_change;
 pub use modem::changes_after;
 pub use modem::modem_status;
 ghost use mathlib.Core.Path.{_≡_};

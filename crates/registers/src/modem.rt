@@ -1,6 +1,6 @@
 // The MSR: the changes that stand, and the inputs as the channel sees them.
 ghost use mathlib.Core.Path.{_≡_};
-ghost use Rattle.registers.specs.Modem.{changesAfter, msrOf};
+ghost use Rattle.registers.specs.Modem.{changesAfter, msrOf, someChange};
 ghost use Rattle.registers.specs.Modem.{differ as Modem·differ};
 
 pub(crate) fn differ(a: bool, b: bool) -> bool
@@ -33,4 +33,10 @@ pub fn modem_status(changes: u8, inputs: u8) -> u8
         base::bit(2, inputs),
         base::bit(3, inputs),
     )
+}
+
+pub fn any_change(changes: u8) -> bool
+    ensures { λ r. ⌜ r ≡ someChange changes ⌝ }
+{
+    base::bit(0, changes) | base::bit(1, changes) | base::bit(2, changes) | base::bit(3, changes)
 }

@@ -1,60 +1,81 @@
 use Rattle.base.specs.PickLaws.{pick-true, pick-false}
 use Rattle.channel.specs.Status.{cause, causes, firstCause}
+use Rattle.channel.specs.StatusLaws.{line-trouble, modem-changed}
 use borrow.Author.Needs.{needs}
 use Rattle.channel.proofs.Channel.cause.Statement.{statement}
 use Rattle.channel.proofs.Channel.cause.Tie as tie
 
-tells-line-requires : tie.Need-tells-line-requires
-tells-line-requires c κs = search needs
+is-fifo-requires : tie.Need-is-fifo-requires
+is-fifo-requires c κs = search needs
+
+bit-requires : tie.Need-bit-requires
+bit-requires c κs = search needs
+
+trouble-requires : tie.Need-trouble-requires
+trouble-requires c κs = search needs
 
 returns : tie.Need-returns
 unfolding cause causes firstCause
-returns c = simp (← c .before .tells-line .ensures, c .if1 .taken, pick-true, pick-false)
+returns c = simp (line-trouble (c .before .before .before .before .args .self), ← c .before .trouble .ensures, ← c .before .before .bit .ensures, ← c .before .before .before .is-fifo .ensures, c .if1 .taken, pick-true, pick-false)
 
-tells-data-requires : tie.Need-tells-data-requires
-tells-data-requires c κs = search needs
+bit-requires-2 : tie.Need-bit-requires-2
+bit-requires-2 c κs = search needs
+
+timed-out-requires : tie.Need-timed-out-requires
+timed-out-requires c κs = search needs
+
+trigger-requires : tie.Need-trigger-requires
+trigger-requires c κs = search needs
+
+data-requires : tie.Need-data-requires
+data-requires c κs = search needs
 
 returns-2 : tie.Need-returns-2
 unfolding cause causes firstCause
-returns-2 c = simp (← c .before .tells-data .ensures, ← c .before .before .before .tells-line .ensures, c .if2 .taken, c .before .before .if1 .left, pick-true, pick-false)
-
-tells-time-out-requires : tie.Need-tells-time-out-requires
-tells-time-out-requires c κs = search needs
+returns-2 c = simp (line-trouble (c .before .before .before .before .before .before .before .before .before .args .self), ← c .before .data .ensures, ← c .before .before .trigger .ensures, ← c .before .before .before .timed-out .ensures, ← c .before .before .before .before .bit2 .ensures, ← c .before .before .before .before .before .before .trouble .ensures, ← c .before .before .before .before .before .before .before .bit .ensures, ← c .before .before .before .before .before .before .before .before .is-fifo .ensures, c .if2 .taken, c .before .before .before .before .before .if1 .left, pick-true, pick-false)
 
 returns-3 : tie.Need-returns-3
 unfolding cause causes firstCause
-returns-3 c = simp (← c .before .tells-time-out .ensures, ← c .before .before .before .tells-data .ensures, ← c .before .before .before .before .before .tells-line .ensures, c .if3 .taken, c .before .before .if2 .left, c .before .before .before .before .if1 .left, pick-true, pick-false)
+returns-3 c = simp (line-trouble (c .before .before .before .before .before .before .before .before .before .before .args .self), ← c .before .before .data .ensures, ← c .before .before .before .trigger .ensures, ← c .before .before .before .before .timed-out .ensures, ← c .before .before .before .before .before .bit2 .ensures, ← c .before .before .before .before .before .before .before .trouble .ensures, ← c .before .before .before .before .before .before .before .before .bit .ensures, ← c .before .before .before .before .before .before .before .before .before .is-fifo .ensures, c .if3 .taken, c .before .if2 .left, c .before .before .before .before .before .before .if1 .left, pick-true, pick-false)
 
-tells-holding-requires : tie.Need-tells-holding-requires
-tells-holding-requires c κs = search needs
+bit-requires-3 : tie.Need-bit-requires-3
+bit-requires-3 c κs = search needs
 
 returns-4 : tie.Need-returns-4
 unfolding cause causes firstCause
-returns-4 c = simp (← c .before .tells-holding .ensures, ← c .before .before .before .tells-time-out .ensures, ← c .before .before .before .before .before .tells-data .ensures, ← c .before .before .before .before .before .before .before .tells-line .ensures, c .if4 .taken, c .before .before .if3 .left, c .before .before .before .before .if2 .left, c .before .before .before .before .before .before .if1 .left, pick-true, pick-false)
+returns-4 c = simp (line-trouble (c .before .before .before .before .before .before .before .before .before .before .before .before .before .args .self), ← c .before .before .bit3 .ensures, ← c .before .before .before .before .before .data .ensures, ← c .before .before .before .before .before .before .trigger .ensures, ← c .before .before .before .before .before .before .before .timed-out .ensures, ← c .before .before .before .before .before .before .before .before .bit2 .ensures, ← c .before .before .before .before .before .before .before .before .before .before .trouble .ensures, ← c .before .before .before .before .before .before .before .before .before .before .before .bit .ensures, ← c .before .before .before .before .before .before .before .before .before .before .before .before .is-fifo .ensures, c .if4 .taken, c .before .before .before .if3 .left, c .before .before .before .before .if2 .left, c .before .before .before .before .before .before .before .before .before .if1 .left, pick-true, pick-false)
 
-tells-modem-requires : tie.Need-tells-modem-requires
-tells-modem-requires c κs = search needs
+bit-requires-4 : tie.Need-bit-requires-4
+bit-requires-4 c κs = search needs
+
+any-change-requires : tie.Need-any-change-requires
+any-change-requires c κs = search needs
 
 returns-5 : tie.Need-returns-5
 unfolding cause causes firstCause
-returns-5 c = simp (← c .before .tells-modem .ensures, ← c .before .before .before .tells-holding .ensures, ← c .before .before .before .before .before .tells-time-out .ensures, ← c .before .before .before .before .before .before .before .tells-data .ensures, ← c .before .before .before .before .before .before .before .before .before .tells-line .ensures, c .if5 .taken, c .before .before .if4 .left, c .before .before .before .before .if3 .left, c .before .before .before .before .before .before .if2 .left, c .before .before .before .before .before .before .before .before .if1 .left, pick-true, pick-false)
+returns-5 c = simp (line-trouble (c .before .before .before .before .before .before .before .before .before .before .before .before .before .before .before .before .args .self), modem-changed (c .before .before .before .before .before .before .before .before .before .before .before .before .before .before .before .before .args .self), ← c .before .any-change .ensures, ← c .before .before .bit4 .ensures, ← c .before .before .before .before .before .bit3 .ensures, ← c .before .before .before .before .before .before .before .before .data .ensures, ← c .before .before .before .before .before .before .before .before .before .trigger .ensures, ← c .before .before .before .before .before .before .before .before .before .before .timed-out .ensures, ← c .before .before .before .before .before .before .before .before .before .before .before .bit2 .ensures, ← c .before .before .before .before .before .before .before .before .before .before .before .before .before .trouble .ensures, ← c .before .before .before .before .before .before .before .before .before .before .before .before .before .before .bit .ensures, ← c .before .before .before .before .before .before .before .before .before .before .before .before .before .before .before .is-fifo .ensures, c .if5 .taken, c .before .before .before .if4 .left, c .before .before .before .before .before .before .if3 .left, c .before .before .before .before .before .before .before .if2 .left, c .before .before .before .before .before .before .before .before .before .before .before .before .if1 .left, pick-true, pick-false)
 
 returns-6 : tie.Need-returns-6
 unfolding cause causes firstCause
-returns-6 c = simp (← c .before .tells-modem .ensures, ← c .before .before .before .tells-holding .ensures, ← c .before .before .before .before .before .tells-time-out .ensures, ← c .before .before .before .before .before .before .before .tells-data .ensures, ← c .before .before .before .before .before .before .before .before .before .tells-line .ensures, c .if5 .left, c .before .before .if4 .left, c .before .before .before .before .if3 .left, c .before .before .before .before .before .before .if2 .left, c .before .before .before .before .before .before .before .before .if1 .left, pick-true, pick-false)
+returns-6 c = simp (line-trouble (c .before .before .before .before .before .before .before .before .before .before .before .before .before .before .before .before .args .self), modem-changed (c .before .before .before .before .before .before .before .before .before .before .before .before .before .before .before .before .args .self), ← c .before .any-change .ensures, ← c .before .before .bit4 .ensures, ← c .before .before .before .before .before .bit3 .ensures, ← c .before .before .before .before .before .before .before .before .data .ensures, ← c .before .before .before .before .before .before .before .before .before .trigger .ensures, ← c .before .before .before .before .before .before .before .before .before .before .timed-out .ensures, ← c .before .before .before .before .before .before .before .before .before .before .before .bit2 .ensures, ← c .before .before .before .before .before .before .before .before .before .before .before .before .before .trouble .ensures, ← c .before .before .before .before .before .before .before .before .before .before .before .before .before .before .bit .ensures, ← c .before .before .before .before .before .before .before .before .before .before .before .before .before .before .before .is-fifo .ensures, c .if5 .left, c .before .before .before .if4 .left, c .before .before .before .before .before .before .if3 .left, c .before .before .before .before .before .before .before .if2 .left, c .before .before .before .before .before .before .before .before .before .before .before .before .if1 .left, pick-true, pick-false)
 
 pub cause-spec : {M : Type 1} → statement M
 cause-spec =
     tie.close
     (tie.spec
-    tells-line-requires
+    is-fifo-requires
+    bit-requires
+    trouble-requires
     returns
-    tells-data-requires
+    bit-requires-2
+    timed-out-requires
+    trigger-requires
+    data-requires
     returns-2
-    tells-time-out-requires
     returns-3
-    tells-holding-requires
+    bit-requires-3
     returns-4
-    tells-modem-requires
+    bit-requires-4
+    any-change-requires
     returns-5
     returns-6)

@@ -1,3 +1,4 @@
+use Rattle.channel.specs.Status.{msr}
 use Prim.Native.Nat.{ℕ}
 use mathlib.Core.Path.{ap, sym, _∙_}
 use Rattle.channel.specs.Effects.{msrRead, byteAt, afterRead, told, readOf}
@@ -16,7 +17,7 @@ read-rbr-requires : tie.Need-read-rbr-requires
 read-rbr-requires c κs = search needs
 
 returns : tie.Need-returns
-unfolding effect afterRead byteAt msrRead
+unfolding effect afterRead byteAt msrRead msr
 returns c =
     c .read-rbr .ensures ∙ ap (readOf (c .before .before .before .before .args .self)) (sym (c .before .enum-told .given .1) ∙ c .before .before .before .register .ensures)
 
@@ -27,7 +28,7 @@ tell-requires : tie.Need-tell-requires
 tell-requires c κs = search needs
 
 returns-2 : tie.Need-returns-2
-unfolding effect afterRead byteAt msrRead
+unfolding effect afterRead byteAt msrRead msr
 returns-2 c =
     c .tell .ensures ∙ ap (readOf (c .before .before .before .before .args .self)) (sym (c .before .enum-told2 .given .1) ∙ c .before .before .before .register .ensures)
 
@@ -38,7 +39,7 @@ read-iir-requires : tie.Need-read-iir-requires
 read-iir-requires c κs = search needs
 
 returns-3 : tie.Need-returns-3
-unfolding effect afterRead byteAt msrRead
+unfolding effect afterRead byteAt msrRead msr
 returns-3 c =
     c .read-iir .ensures ∙ ap (readOf (c .before .before .before .before .args .self)) (sym (c .before .enum-told3 .given .1) ∙ c .before .before .before .register .ensures)
 
@@ -49,7 +50,7 @@ tell-requires-2 : tie.Need-tell-requires-2
 tell-requires-2 c κs = search needs
 
 returns-4 : tie.Need-returns-4
-unfolding effect afterRead byteAt msrRead
+unfolding effect afterRead byteAt msrRead msr
 returns-4 c =
     c .tell2 .ensures ∙ ap (readOf (c .before .before .before .before .args .self)) (sym (c .before .enum-told4 .given .1) ∙ c .before .before .before .register .ensures)
 
@@ -60,7 +61,7 @@ tell-requires-3 : tie.Need-tell-requires-3
 tell-requires-3 c κs = search needs
 
 returns-5 : tie.Need-returns-5
-unfolding effect afterRead byteAt msrRead
+unfolding effect afterRead byteAt msrRead msr
 returns-5 c =
     c .tell3 .ensures ∙ ap (readOf (c .before .before .before .before .args .self)) (sym (c .before .enum-told5 .given .1) ∙ c .before .before .before .register .ensures)
 
@@ -71,7 +72,7 @@ read-lsr-requires : tie.Need-read-lsr-requires
 read-lsr-requires c κs = search needs
 
 returns-6 : tie.Need-returns-6
-unfolding effect afterRead byteAt msrRead
+unfolding effect afterRead byteAt msrRead msr
 returns-6 c =
     c .read-lsr .ensures ∙ ap (readOf (c .before .before .before .before .args .self)) (sym (c .before .enum-told6 .given .1) ∙ c .before .before .before .register .ensures)
 
@@ -85,7 +86,7 @@ tell-requires-4 : tie.Need-tell-requires-4
 tell-requires-4 c κs = search needs
 
 returns-7 : tie.Need-returns-7
-unfolding effect afterRead byteAt msrRead
+unfolding effect afterRead byteAt msrRead msr
 returns-7 c =
     c .tell4 .ensures
     ∙ ap (λ (byte : ℕ). told (msrRead (c .before .before .before .before .before .before .args .self)) byte) (c .before .before .modem-status .ensures)
@@ -98,7 +99,7 @@ tell-requires-5 : tie.Need-tell-requires-5
 tell-requires-5 c κs = search needs
 
 returns-8 : tie.Need-returns-8
-unfolding effect afterRead byteAt msrRead
+unfolding effect afterRead byteAt msrRead msr
 returns-8 c =
     c .tell5 .ensures ∙ ap (readOf (c .before .before .before .before .args .self)) (sym (c .before .enum-told8 .given .1) ∙ c .before .before .before .register .ensures)
 
@@ -109,7 +110,7 @@ tell-requires-6 : tie.Need-tell-requires-6
 tell-requires-6 c κs = search needs
 
 returns-9 : tie.Need-returns-9
-unfolding effect afterRead byteAt msrRead
+unfolding effect afterRead byteAt msrRead msr
 returns-9 c =
     c .tell6 .ensures ∙ ap (readOf (c .before .before .before .before .args .self)) (sym (c .before .enum-told9 .given .1) ∙ c .before .before .before .register .ensures)
 
@@ -120,7 +121,7 @@ tell-requires-7 : tie.Need-tell-requires-7
 tell-requires-7 c κs = search needs
 
 returns-10 : tie.Need-returns-10
-unfolding effect afterRead byteAt msrRead
+unfolding effect afterRead byteAt msrRead msr
 returns-10 c =
     c .tell7 .ensures ∙ ap (readOf (c .before .before .before .before .args .self)) (sym (c .before .enum-told10 .given .1) ∙ c .before .before .before .register .ensures)
 
