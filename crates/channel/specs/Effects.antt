@@ -2,10 +2,9 @@
 use Prim.Native.Nat.{ℕ}
 use mathlib.Core.Bool.{Bool, not, _&&_, _||_}
 use lib.Dec.{eqb}
-use Rattle.base.specs.Pick.{pick}
 use Rattle.base.specs.Bits.{bit}
 use Rattle.base.specs.declared.Answer.{Answer}
-use Rattle.base.specs.declared.Answer.the-variants.{Byte, Sent, Idle, Break}
+use Rattle.base.specs.declared.Answer.the-variants.{Byte}
 use Rattle.receiver.specs.declared.Receiver.{Receiver}
 use Rattle.receiver.specs.Receiver.{received, got, looked, waited, fcrHeard}
 use Rattle.transmitter.specs.declared.Transmitter.{Transmitter}
@@ -15,7 +14,7 @@ use Rattle.channel.specs.declared.Stepped.{Stepped}
 use Rattle.registers.specs.declared.Register.{Register}
 use Rattle.registers.specs.declared.Register.the-variants.{RbrThr, Ier, IirFcr, Lcr, Mcr, Lsr, Msr, Scratch, Dll, Dlm}
 use Rattle.channel.specs.Parts.{withSettings, withReceiver, withTransmitter, withModem, fifo}
-use Rattle.registers.specs.Words.{cut}
+use Rattle.registers.specs.Words.{wireAnswer}
 use Rattle.registers.specs.Registers.{kept}
 use Rattle.registers.specs.Modem.{differ, changesAfter}
 use Rattle.channel.specs.Status.{lsr, msr, inputs, cause, iir}
@@ -136,8 +135,6 @@ afterTime c =
       modem = c .modem;
     }
 
--- "the byte sent; 100 idle; 200 break". "With LCR bit 6 set the answer is 200, and all else goes on."
+-- and what is answered: by what was in the shift register
 unfoldable pub timeAnswer : Channel → Answer
-timeAnswer c =
-    pick (bit 6 (c .settings .lcr)) Break
-    (pick (c .transmitter .busy) (Sent (cut (c .settings .lcr) (c .transmitter .shift))) Idle)
+timeAnswer c = wireAnswer (c .settings .lcr) (c .transmitter .busy) (c .transmitter .shift)

@@ -12,7 +12,7 @@ mod writes;
 
 ghost use mathlib.Core.Path.{_≡_};
 ghost use Rattle.channel.specs.Parts.{powerUp, masterReset};
-ghost use Rattle.channel.specs.Steps.{effect, stepped};
+ghost use Rattle.channel.specs.Steps.{stepped};
 
 // `levels` are the inputs last given, `changes` the bits 0 to 3 of the MSR.
 #[repr(C)]
@@ -70,24 +70,18 @@ impl Channel {
         self
     }
 
-    fn act(self, e: SeatEvent) -> Stepped
-        ensures { λ r. ⌜ r ≡ effect self e ⌝ }
-    {
-        match e {
-            SeatEvent::Read(number) => return self.read(number),
-            SeatEvent::Write(number, byte) => return self.write(number, byte),
-            SeatEvent::Arrival(marks, byte) => return self.arrive(marks, byte),
-            SeatEvent::Levels(levels) => return self.modem_inputs(levels),
-            SeatEvent::Time => return self.character_time(),
-        }
-    }
-
     pub fn step(self, e: SeatEvent) -> Stepped
         ensures { λ r. ⌜ r ≡ stepped self e ⌝ }
     {
         let refused = self.settings.refusal(e);
         if refused == 0 {
-            return self.act(e);
+            match e {
+                SeatEvent::Read(number) => return self.read(number),
+                SeatEvent::Write(number, byte) => return self.write(number, byte),
+                SeatEvent::Arrival(marks, byte) => return self.arrive(marks, byte),
+                SeatEvent::Levels(levels) => return self.modem_inputs(levels),
+                SeatEvent::Time => return self.character_time(),
+            }
         }
         Stepped {
             channel: self,

@@ -1,8 +1,8 @@
-// What a channel shows: LSR, MSR, the cause, IIR and the line.
+// What a channel shows of itself: the cause, and the line.
 use crate::Channel;
 use registers::Settings;
 ghost use mathlib.Core.Path.{_≡_};
-ghost use Rattle.channel.specs.Status.{lsr, cause, line};
+ghost use Rattle.channel.specs.Status.{cause, line};
 
 impl Channel {
     pub const LINE_TROUBLE: u8 = 0x06;
@@ -18,23 +18,6 @@ impl Channel {
     pub const NO_CAUSE: u8 = 0x01;
 
     pub const FIFO_MARK: u8 = 0xC0;
-
-    pub(crate) fn line_status(self) -> u8
-        ensures { λ r. ⌜ r ≡ lsr self ⌝ }
-    {
-        let fifo = self.settings.is_fifo();
-        let marks = self.receiver.marks(fifo);
-        base::byte_of(
-            !self.receiver.is_empty(),
-            self.receiver.overrun,
-            base::bit(0, marks),
-            base::bit(1, marks),
-            base::bit(2, marks),
-            self.transmitter.is_empty(),
-            self.transmitter.is_idle(),
-            self.receiver.any_marked(fifo),
-        )
-    }
 
     pub(crate) fn cause(self) -> u8
         ensures { λ r. ⌜ r ≡ cause self ⌝ }

@@ -3,9 +3,7 @@ use crate::Channel;
 use crate::Stepped;
 use base::Answer;
 use queue::Character;
-use registers::Settings;
 ghost use mathlib.Core.Path.{_≡_};
-ghost use Rattle.channel.specs.Effects.{timeAnswer};
 ghost use Rattle.channel.specs.Steps.{effect};
 ghost use Rattle.registers.specs.declared.SeatEvent.the-variants.{Arrival, Levels, Time};
 
@@ -33,22 +31,11 @@ impl Channel {
         }
     }
 
-    fn time_answer(self) -> Answer
-        ensures { λ r. ⌜ r ≡ timeAnswer self ⌝ }
-    {
-        if base::bit(Settings::LCR_BREAK, self.settings.lcr) {
-            return Answer::Break;
-        }
-        if self.transmitter.busy {
-            return Answer::Sent(self.settings.cut(self.transmitter.shift));
-        }
-        Answer::Idle
-    }
-
     pub(crate) fn character_time(mut self) -> Stepped
         ensures { λ r. ⌜ r ≡ effect self Time ⌝ }
     {
-        let answer = self.time_answer();
+        let answer = self.settings
+            .wire_answer(self.transmitter.busy, self.transmitter.shift);
         self.transmitter = self.transmitter.shift();
         self.receiver = self.receiver.wait(self.settings.is_fifo());
         Stepped {

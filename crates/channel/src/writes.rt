@@ -8,16 +8,8 @@ ghost use mathlib.Core.Path.{_≡_};
 ghost use Rattle.channel.specs.Effects.{ierWritten, fcrWritten, afterWrite};
 ghost use Rattle.channel.specs.Steps.{effect};
 ghost use Rattle.registers.specs.declared.SeatEvent.the-variants.{Write};
-ghost use Rattle.registers.specs.declared.Register.the-variants.{RbrThr};
 
 impl Channel {
-    fn write_thr(mut self, byte: u8) -> Self
-        ensures { λ r. ⌜ r ≡ afterWrite self RbrThr byte ⌝ }
-    {
-        self.transmitter = self.transmitter.write(self.settings.is_fifo(), byte);
-        self
-    }
-
     fn write_ier(mut self, byte: u8) -> Self
         ensures { λ r. ⌜ r ≡ ierWritten self byte ⌝ }
     {
@@ -45,7 +37,10 @@ impl Channel {
         ensures { λ r. ⌜ r ≡ afterWrite self register byte ⌝ }
     {
         match register {
-            Register::RbrThr => return self.write_thr(byte),
+            Register::RbrThr => {
+                self.transmitter = self.transmitter.write(self.settings.is_fifo(), byte);
+                return self;
+            }
             Register::Ier => return self.write_ier(byte),
             Register::IirFcr => return self.write_fcr(byte),
             _ => {

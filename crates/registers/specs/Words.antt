@@ -4,6 +4,8 @@ use mathlib.Core.Bool.{Bool, not, _&&_, _||_}
 use lib.Dec.{ltb, leb, eqb}
 use Rattle.base.specs.Pick.{pick}
 use Rattle.base.specs.Bits.{bit}
+use Rattle.base.specs.declared.Answer.{Answer}
+use Rattle.base.specs.declared.Answer.the-variants.{Sent, Idle, Break}
 
 -- "bits 7-6 choose trigger 1, 4, 8 or 14"
 unfoldable pub trigger : ℕ → ℕ
@@ -16,6 +18,10 @@ wordBits lcr = 5 + lcr % 4
 -- "cut to the word length"
 unfoldable pub cut : ℕ → ℕ → ℕ
 cut lcr byte = byte % 2 ^ wordBits lcr
+
+-- "the byte sent; 100 idle; 200 break". "With LCR bit 6 set the answer is 200, and all else goes on."
+abbrev pub wireAnswer : ℕ → Bool → ℕ → Answer
+wireAnswer lcr busy shift = pick (bit 6 lcr) Break (pick busy (Sent (cut lcr shift)) Idle)
 
 -- parity is off where LCR bit 3 is clear
 abbrev pub parityOff : ℕ → Bool

@@ -1,4 +1,6 @@
 // The settings of a channel: its registers by name, the mode, the trigger, the divisor and the word length.
+use base::Answer;
+
 mod modem;
 mod refusals;
 
@@ -8,8 +10,8 @@ pub use modem::modem_status;
 ghost use mathlib.Core.Path.{_≡_};
 ghost use lib.Dec.{eqb};
 ghost use Rattle.base.specs.Bits.{bit};
-ghost use Rattle.registers.specs.Words.{trigger, cut};
-ghost use Rattle.registers.specs.Registers.{plainRegister, registerAt, fcrKept, kept, divisor};
+ghost use Rattle.registers.specs.Words.{trigger, cut, wireAnswer};
+ghost use Rattle.registers.specs.Registers.{plainRegister, registerAt, fcrKept, kept, shownBy, divisor};
 ghost use Rattle.registers.specs.Modem.{differ};
 ghost use Rattle.registers.specs.Words.{beyondWord, badArrival};
 
@@ -180,6 +182,24 @@ impl Settings {
         }
     }
 
+    // A register is read that is a setting; of the others it shows 0, and the channel has what they show.
+    pub fn shown(self, register: Register) -> u8
+        ensures { λ r. ⌜ r ≡ shownBy self register ⌝ }
+    {
+        match register {
+            Register::RbrThr => 0,
+            Register::Ier => self.ier,
+            Register::IirFcr => 0,
+            Register::Lcr => self.lcr,
+            Register::Mcr => self.mcr,
+            Register::Lsr => 0,
+            Register::Msr => 0,
+            Register::Scratch => self.scratch,
+            Register::Dll => self.dll,
+            Register::Dlm => self.dlm,
+        }
+    }
+
     fn fcr_kept(byte: u8) -> u8
         ensures { λ r. ⌜ r ≡ fcrKept byte ⌝ }
     {
@@ -209,6 +229,19 @@ impl Settings {
             2 => byte % 128,
             _ => byte,
         }
+    }
+
+    // What a character time is answered with, given what is in the shift register.
+    pub fn wire_answer(self, busy: bool, shift: u8) -> Answer
+        ensures { λ r. ⌜ r ≡ wireAnswer (self .lcr) busy shift ⌝ }
+    {
+        if base::bit(Settings::LCR_BREAK, self.lcr) {
+            return Answer::Break;
+        }
+        if busy {
+            return Answer::Sent(self.cut(shift));
+        }
+        Answer::Idle
     }
 
     fn is_beyond_word(self, byte: u8) -> bool

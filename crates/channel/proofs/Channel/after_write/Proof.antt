@@ -18,8 +18,11 @@ use Rattle.channel.proofs.Channel.after_write.Tie as tie
 enum-told : tie.Need-enum-told
 enum-told c = search needs
 
-write-thr-requires : tie.Need-write-thr-requires
-write-thr-requires c κs = search needs
+is-fifo-requires : tie.Need-is-fifo-requires
+is-fifo-requires c κs = search needs
+
+write-requires : tie.Need-write-requires
+write-requires c κs = search needs
 
 enum-told-2 : tie.Need-enum-told-2
 enum-told-2 c = search needs
@@ -33,12 +36,12 @@ enum-told-3 c = search needs
 write-fcr-requires : tie.Need-write-fcr-requires
 write-fcr-requires c κs = search needs
 
-write-requires : tie.Need-write-requires
-write-requires c κs = search needs
+write-requires-2 : tie.Need-write-requires-2
+write-requires-2 c κs = search needs
 
 returns : tie.Need-returns
 unfolding afterWrite
-returns c = simp (c .before .enum-told .given .1, ← c .write-thr .ensures, pick-true, pick-false)
+returns c = simp (c .before .before .enum-told .given .1, ← c .write .ensures, ← c .before .is-fifo .ensures, pick-true, pick-false)
 
 returns-2 : tie.Need-returns-2
 unfolding afterWrite
@@ -68,7 +71,7 @@ others c Dlm byte k = refl
 returns-4 : tie.Need-returns-4
 returns-4 c =
     let s : tie.Start = c .before .before in
-    ap (withSettings (s .args .self)) (c .write .ensures)
+    ap (withSettings (s .args .self)) (c .write2 .ensures)
     ∙ others (s .args .self) (s .args .register) (s .args .byte) (c .before .match .keys4)
 
 pub after-write-spec : {M : Type 1} → statement M
@@ -76,7 +79,8 @@ after-write-spec =
     tie.close
     (tie.spec
     enum-told
-    write-thr-requires
+    is-fifo-requires
+    write-requires
     returns
     enum-told-2
     write-ier-requires
@@ -84,5 +88,5 @@ after-write-spec =
     enum-told-3
     write-fcr-requires
     returns-3
-    write-requires
+    write-requires-2
     returns-4)

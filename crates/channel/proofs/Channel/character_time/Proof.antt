@@ -1,12 +1,12 @@
-use Rattle.base.specs.PickLaws.{pick-true, pick-false}
-use Rattle.channel.specs.Effects.{afterTime}
+use Rattle.channel.specs.Effects.{afterTime, timeAnswer}
 use Rattle.channel.specs.Steps.{effect}
+use Rattle.base.specs.PickLaws.{pick-true, pick-false}
 use borrow.Author.Needs.{needs}
 use Rattle.channel.proofs.Channel.character_time.Statement.{statement}
 use Rattle.channel.proofs.Channel.character_time.Tie as tie
 
-time-answer-requires : tie.Need-time-answer-requires
-time-answer-requires c κs = search needs
+wire-answer-requires : tie.Need-wire-answer-requires
+wire-answer-requires c κs = search needs
 
 shift-requires : tie.Need-shift-requires
 shift-requires c κs = search needs
@@ -18,9 +18,9 @@ wait-requires : tie.Need-wait-requires
 wait-requires c κs = search needs
 
 returns : tie.Need-returns
-unfolding effect afterTime
-returns c = simp (← c .wait .ensures, ← c .before .is-fifo .ensures, ← c .before .before .shift .ensures, ← c .before .before .before .time-answer .ensures, pick-true, pick-false)
+unfolding effect afterTime timeAnswer
+returns c = simp (← c .wait .ensures, ← c .before .is-fifo .ensures, ← c .before .before .shift .ensures, ← c .before .before .before .wire-answer .ensures, pick-true, pick-false)
 
 pub character-time-spec : {M : Type 1} → statement M
 character-time-spec =
-    tie.close (tie.spec time-answer-requires shift-requires is-fifo-requires wait-requires returns)
+    tie.close (tie.spec wire-answer-requires shift-requires is-fifo-requires wait-requires returns)

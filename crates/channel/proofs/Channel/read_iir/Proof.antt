@@ -23,12 +23,9 @@ add-byte c =
 iir-read-requires : tie.Need-iir-read-requires
 iir-read-requires c κs = search needs
 
-tell-requires : tie.Need-tell-requires
-tell-requires c κs = search needs
-
 returns : tie.Need-returns
 unfolding afterRead byteAt iirRead iir
-returns c = simp (← c .tell .ensures, ← c .before .iir-read .ensures, ← c .before .before .pick-byte .ensures, ← c .before .before .before .is-fifo .ensures, ← c .before .before .before .before .cause .ensures, pick-true, pick-false)
+returns c = simp (← c .iir-read .ensures, ← c .before .pick-byte .ensures, ← c .before .before .is-fifo .ensures, ← c .before .before .before .cause .ensures, pick-true, pick-false)
 
 pub read-iir-spec : {M : Type 1} → statement M
 read-iir-spec =
@@ -39,5 +36,4 @@ read-iir-spec =
     pick-byte-requires
     add-byte
     iir-read-requires
-    tell-requires
     returns)

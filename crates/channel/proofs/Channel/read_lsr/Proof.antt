@@ -1,25 +1,60 @@
-use Rattle.base.specs.PickLaws.{pick-true, pick-false}
 use Rattle.channel.specs.Effects.{lsrRead, byteAt, afterRead}
+use Rattle.channel.specs.Status.{lsr}
+use Rattle.base.specs.PickLaws.{pick-true, pick-false}
 use borrow.Author.Needs.{needs}
 use Rattle.channel.proofs.Channel.read_lsr.Statement.{statement}
 use Rattle.channel.proofs.Channel.read_lsr.Tie as tie
 
-line-status-requires : tie.Need-line-status-requires
-line-status-requires c κs = search needs
-
 is-fifo-requires : tie.Need-is-fifo-requires
 is-fifo-requires c κs = search needs
+
+marks-requires : tie.Need-marks-requires
+marks-requires c κs = search needs
+
+is-empty-requires : tie.Need-is-empty-requires
+is-empty-requires c κs = search needs
+
+bit-requires : tie.Need-bit-requires
+bit-requires c κs = search needs
+
+bit-requires-2 : tie.Need-bit-requires-2
+bit-requires-2 c κs = search needs
+
+bit-requires-3 : tie.Need-bit-requires-3
+bit-requires-3 c κs = search needs
+
+is-empty-requires-2 : tie.Need-is-empty-requires-2
+is-empty-requires-2 c κs = search needs
+
+is-idle-requires : tie.Need-is-idle-requires
+is-idle-requires c κs = search needs
+
+any-marked-requires : tie.Need-any-marked-requires
+any-marked-requires c κs = search needs
+
+byte-of-requires : tie.Need-byte-of-requires
+byte-of-requires c κs = search needs
 
 look-requires : tie.Need-look-requires
 look-requires c κs = search needs
 
-tell-requires : tie.Need-tell-requires
-tell-requires c κs = search needs
-
 returns : tie.Need-returns
-unfolding afterRead byteAt lsrRead
-returns c = simp (← c .tell .ensures, ← c .before .look .ensures, ← c .before .before .is-fifo .ensures, ← c .before .before .before .line-status .ensures, pick-true, pick-false)
+unfolding afterRead byteAt lsrRead lsr
+returns c = simp (← c .look .ensures, ← c .before .byte-of .ensures, ← c .before .before .any-marked .ensures, ← c .before .before .before .is-idle .ensures, ← c .before .before .before .before .is-empty2 .ensures, ← c .before .before .before .before .before .bit3 .ensures, ← c .before .before .before .before .before .before .bit2 .ensures, ← c .before .before .before .before .before .before .before .bit .ensures, ← c .before .before .before .before .before .before .before .before .is-empty .ensures, ← c .before .before .before .before .before .before .before .before .before .marks .ensures, ← c .before .before .before .before .before .before .before .before .before .before .is-fifo .ensures, pick-true, pick-false)
 
 pub read-lsr-spec : {M : Type 1} → statement M
 read-lsr-spec =
-    tie.close (tie.spec line-status-requires is-fifo-requires look-requires tell-requires returns)
+    tie.close
+    (tie.spec
+    is-fifo-requires
+    marks-requires
+    is-empty-requires
+    bit-requires
+    bit-requires-2
+    bit-requires-3
+    is-empty-requires-2
+    is-idle-requires
+    any-marked-requires
+    byte-of-requires
+    look-requires
+    returns)
