@@ -1,6 +1,5 @@
 use mathlib.Core.Path.{ap, sym, _∙_}
 use Rattle.base.specs.declared.Answer.{Answer}
-use Rattle.controller.specs.declared.Stepped.{Stepped}
 use Rattle.records.specs.declared.Touched.{Touched}
 use Rattle.records.specs.Parts.{metParts, besides}
 use borrow.Author.Needs.{needs}
