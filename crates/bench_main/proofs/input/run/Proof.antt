@@ -7,8 +7,8 @@ use mathlib.Core.Path.{refl, sym}
 use native.Mathlib.Omega.{arith}
 use borrow.Author.Needs.{needs}
 use Rattle.bench_main.proofs.Blocks.{Between}
-use Rattle.bench_main.proofs.records.run.Statement.{statement}
-use Rattle.bench_main.proofs.records.run.Tie as tie
+use Rattle.bench_main.proofs.input.run.Statement.{statement}
+use Rattle.bench_main.proofs.input.run.Tie as tie
 
 abbrev Inv-loop : tie.InvT-loop
 Inv-loop input₀ out₀ bench₀ number₀ start₀ end₀ reads₀ input out bench number start end reads = Between input out number start end reads
