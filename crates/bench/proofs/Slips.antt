@@ -2,60 +2,31 @@
 use Prim.Native.Nat.{ℕ}
 use mathlib.Core.List.{List, [], _∷_, _++_, map}
 use mathlib.Core.Path.{_≡_, refl}
-use Rattle.base.specs.Pick as base-pick
 use Rattle.base.specs.Bits as base-bits
-use Rattle.base.specs.Answers as base-answers
-use Rattle.base.specs.Refusals as base-refusals
-use Rattle.queue.specs.Queue as queue
+use Rattle.base.specs.Bits.{digit}
+use Rattle.base.specs.Answers.{valueOf}
 use Rattle.receiver.specs.Receiver as receiver
-use Rattle.transmitter.specs.Transmitter as transmitter
-use Rattle.registers.specs.Registers as registers
-use Rattle.registers.specs.Words as settings
-use Rattle.registers.specs.Refusals as settled-by
 use Rattle.channel.specs.Parts as parts
-use Rattle.channel.specs.Status as status
-use Rattle.channel.specs.Effects as effects
-use Rattle.channel.specs.Steps as channel
-use Rattle.seat.specs.Steps as seat
-use Rattle.rank.specs.Rank as rank
-use Rattle.controller.specs.Turns as turns
-use Rattle.controller.specs.Words as words
-use Rattle.controller.specs.Refusals as refusing
-use Rattle.controller.specs.Steps as controller
-use Rattle.bench.specs.Events as events
+use Rattle.records.specs.Events.{Record, whole}
+use Rattle.records.proofs.Slips as records
+use Rattle.records.proofs.Slips.{rising}
 use Rattle.bench.specs.Seats as seats
 use Rattle.bench.specs.Refusals as refusals
 use Rattle.bench.specs.Steps as steps
 use Rattle.bench.specs.declared.Outcome.{Outcome}
-use Rattle.bench.specs.Events.{Record, whole}
 use Rattle.bench.specs.Runs.{outcomes}
-use Rattle.base.specs.Bits.{digit}
-use Rattle.base.specs.Answers.{refusalOf, valueOf}
 
 -- the outcomes of some records from power-up; it opens what a run computes with
 unfoldable pub run : List Record → List Outcome
-unfolding base-pick.pick base-bits.bit base-bits.digit base-bits.bits base-answers.refusalOf base-answers.valueOf base-refusals.firstOf base-refusals.refusalBy queue.oldest queue.anyMarked queue.marked receiver.noneQueued receiver.shownMarks receiver.someMarked receiver.restarted receiver.dataStands receiver.timeoutStands transmitter.noneWaiting transmitter.allSent transmitter.flagSetIf transmitter.enabled parts.masterReset settings.trigger registers.plainRegister registers.registerAt status.lsr status.msr status.lineTrouble status.modemChanged status.causes status.firstCause status.cause status.iir status.line effects.iirRead effects.byteAt effects.afterRead effects.ierWritten effects.afterWrite settled-by.grounds channel.effect seat.refusal seat.effect seat.stepped rank.before rank.aboveEvery rank.find rank.firstPlace turns.settled turns.requests turns.asks turns.hinders turns.grantable turns.outputOf turns.found turns.granted turns.taken turns.grant turns.acknowledged words.icw1 words.icw2 words.icw4 words.ended words.served words.plainEnd words.command words.ocw2 words.written0 words.written1 words.written words.shown refusing.grounds refusing.refusal controller.step events.early events.eventOf events.decoded seats.seat seats.withSeat seats.lines seats.withLine refusals.roomGrounds refusals.grounds refusals.refusal steps.after steps.answerTo steps.outcome
+unfolding records.run base-bits.bits receiver.restarted parts.masterReset seats.seat seats.withSeat seats.lines refusals.roomGrounds refusals.grounds refusals.refusal steps.after steps.answerTo steps.outcome
 run rs = outcomes seats.powerUp rs
 
--- what each of them shows: its refusal number, its answer, the output after it
-abbrev numbers : List Record → List ℕ
-numbers rs = map (λ o. refusalOf (o .answer)) (run rs)
-
+-- what each of them shows: its answer, and the output after it
 abbrev answers : List Record → List ℕ
 answers rs = map (λ o. valueOf (o .answer)) (run rs)
 
 abbrev outputs : List Record → List ℕ
 outputs rs = map (λ o. digit (o .output)) (run rs)
-
--- "seat (or line) above 7": `seat-refused`
-seat-8-is-refused : numbers (whole 0 7 0 0 ∷ whole 0 8 0 0 ∷ []) ≡ 0 ∷ 1 ∷ []
-unfolding run
-seat-8-is-refused = refl
-
--- "The order is 4, 3, 1, 2": `seat-refused`, whatever the register
-seat-before-register : numbers (whole 0 8 8 0 ∷ []) ≡ 1 ∷ []
-unfolding run
-seat-before-register = refl
 
 -- "Eight seats, 0 to 7.": `chair-own`, `seat-runs`
 seat-4-is-not-seat-0 : answers (whole 1 4 7 0x5A ∷ whole 0 4 7 0 ∷ whole 0 0 7 0 ∷ []) ≡ 0x000 ∷ 0x05A ∷ 0x000 ∷ []
@@ -66,20 +37,6 @@ seat-4-is-not-seat-0 = refl
 master-reset-is-000 : answers (whole 5 0 0 0 ∷ []) ≡ 0x000 ∷ []
 unfolding run
 master-reset-is-000 = refl
-
--- base 40, edge mode; seat 2 may raise its line, and its holding-empty flag is a cause
-abbrev rising : List Record
-rising = whole 7 0 0 0x13 ∷ whole 7 0 1 0x40 ∷ whole 7 0 1 0x01 ∷ whole 1 2 4 0x08 ∷ whole 1 2 1 0x02 ∷ []
-
--- "Line changes reach the controller's latches in the same event.": `hears`
-line-is-heard-at-once : outputs rising ≡ 0 ∷ 0 ∷ 0 ∷ 0 ∷ 1 ∷ []
-unfolding run
-line-is-heard-at-once = refl
-
--- `hears`: the lines are shown once, so a granted line that stays high does not rise again by an event of another seat
-lines-are-shown-once : outputs (rising ++ (whole 8 0 0 0 ∷ whole 1 5 7 0x00 ∷ whole 7 0 0 0x20 ∷ [])) ≡ 0 ∷ 0 ∷ 0 ∷ 0 ∷ 1 ∷ 0 ∷ 0 ∷ 0 ∷ []
-unfolding run
-lines-are-shown-once = refl
 
 -- `hears`: the lines that fall by a master reset fall for the controller too
 master-reset-is-heard : outputs (rising ++ (whole 5 0 0 0 ∷ [])) ≡ 0 ∷ 0 ∷ 0 ∷ 0 ∷ 1 ∷ 0 ∷ []

@@ -9,10 +9,10 @@ use Rattle.controller.specs.declared.Stepped as controller
 use Rattle.controller.specs.State.{ready}
 use Rattle.controller.specs.Turns.{outputOf, grant, vector}
 use Rattle.controller.specs.OutputLaws.{output-high, output-low}
+use Rattle.records.specs.declared.Decoded.the-variants.{Taken}
+use Rattle.records.specs.declared.Event.the-variants.{Acknowledge}
+use Rattle.records.specs.Events.{whole, early, eventOf, decoded}
 use Rattle.bench.specs.declared.Bench.{Bench}
-use Rattle.bench.specs.declared.Decoded.the-variants.{Taken}
-use Rattle.bench.specs.declared.Event.the-variants.{Acknowledge}
-use Rattle.bench.specs.Events.{whole, early, eventOf, decoded}
 use Rattle.bench.specs.Seats.{withController}
 use Rattle.bench.specs.Steps.{shown, met, outcome, dealt}
 use Rattle.bench.specs.MeetLaws.{acknowledge-met, outcome-dealt}

@@ -17,16 +17,16 @@ use Rattle.controller.specs.declared.Controller.{Controller}
 use Rattle.controller.specs.Signals.{Signal, read, write, acknowledge}
 use Rattle.controller.specs.Steps.{step}
 use Rattle.controller.specs.RefusalLaws.{read-keeps}
+use Rattle.records.specs.declared.Event.the-variants.{OfSeat}
+use Rattle.records.specs.Events.{Record, whole, early, eventOf, event, decoded, seatCount}
+use Rattle.records.specs.EarlyLaws.{taken-seat, taken-other}
 use Rattle.bench.specs.declared.Bench.{Bench}
 use Rattle.bench.specs.declared.Outcome.{Outcome}
-use Rattle.bench.specs.declared.Event.the-variants.{OfSeat}
-use Rattle.bench.specs.Events.{Record, whole, early, eventOf, event, decoded}
 use Rattle.bench.specs.Refusals.{roomGrounds}
-use Rattle.bench.specs.Seats.{seatCount, seat, withController}
+use Rattle.bench.specs.Seats.{seat, withController}
 use Rattle.bench.specs.Steps.{roomRefusal, answerTo, shown, met, outcome, dealt}
 use Rattle.bench.specs.MeetLaws.{read-met, write-met, acknowledge-met, outcome-dealt}
 use Rattle.bench.specs.FrameLaws.{own-seat, reset-seat}
-use Rattle.bench.specs.EdgeLaws.{taken-seat, taken-other}
 
 -- ---- the kinds, in the order of document 01's table
 
@@ -67,7 +67,7 @@ module _ (b : Bench) where
       (seat (outcome b (whole k s n v) .bench) s ≡ t .seat) × (outcome b (whole k s n v) .answer ≡ t .answer))
   seat-done all k s n v kind within =
       let is : outcome b (whole k s n v) ≡ met b (OfSeat s (getD (seatEvents n v) k Time)) =
-      is-met b (whole k s n v) (taken-seat b k s n v kind within) ∙ ap (met b) (seat-kind k s n v kind) in (
+      is-met b (whole k s n v) (taken-seat k s n v kind within) ∙ ap (met b) (seat-kind k s n v kind) in (
         ap (λ (o : Outcome). seat (o .bench) s) is ∙ own-seat b all s _,
         ap (λ (o : Outcome). o .answer) is ∙ seat-answer s _,
       )
@@ -76,7 +76,7 @@ module _ (b : Bench) where
   pub reset-done : length (b .seats) ≡ seatCount → (m s n v : ℕ) → seat (outcome b (whole 5 s n v) .bench) m ≡ reset (seat b m)
   unfolding eventOf pick
   reset-done all m s n v =
-      ap (λ (o : Outcome). seat (o .bench) m) (is-met b (whole 5 s n v) (taken-other b 5 s n v (omega arith) (omega arith)))
+      ap (λ (o : Outcome). seat (o .bench) m) (is-met b (whole 5 s n v) (taken-other 5 s n v (omega arith) (omega arith)))
       ∙ reset-seat b all m
 
   -- a controller event is one signal to the controller and the answer to it, and touches no seat
@@ -86,10 +86,10 @@ module _ (b : Bench) where
   pub controller-done : (k s n v : ℕ) → k < 3 → outcome b (whole (6 + k) s n v) ≡ signalled (getD (signals n v) k acknowledge)
   unfolding eventOf pick
   controller-done zero s n v h =
-      is-met b (whole 6 s n v) (taken-other b 6 s n v (omega arith) (omega arith)) ∙ sym (read-met b n)
+      is-met b (whole 6 s n v) (taken-other 6 s n v (omega arith) (omega arith)) ∙ sym (read-met b n)
       ∙ ap (λ (c : Controller). shown (withController b c) (step (b .controller) (read n) .answer)) (sym (read-keeps (b .controller) n))
   controller-done (suc zero) s n v h =
-      is-met b (whole 7 s n v) (taken-other b 7 s n v (omega arith) (omega arith)) ∙ sym (write-met b n v)
+      is-met b (whole 7 s n v) (taken-other 7 s n v (omega arith) (omega arith)) ∙ sym (write-met b n v)
   controller-done (suc (suc zero)) s n v h =
-      is-met b (whole 8 s n v) (taken-other b 8 s n v (omega arith) (omega arith)) ∙ sym (acknowledge-met b)
+      is-met b (whole 8 s n v) (taken-other 8 s n v (omega arith) (omega arith)) ∙ sym (acknowledge-met b)
   controller-done (suc (suc (suc k))) s n v h = absurd (omega arith)

@@ -1,20 +1,18 @@
 -- The edges of a record: kind 8 and 9, the last seat and the next number, and what a master reset leaves.
 use Prim.Native.Nat.{ℕ, _<_, _≤_}
 use mathlib.Core.Path.{_≡_, refl, ap, _∙_}
-use native.Mathlib.Omega.{arith}
 use lib.Dec.{eqb}
-use borrow.Author.Tests.{lt-ltb, le-ltb, le-leb, lt-leb}
 use Rattle.base.specs.Pick.{pick}
 use Rattle.base.specs.PickLaws.{pick-true}
 use Rattle.base.specs.Refusals.{firstOf, refusalBy}
 use Rattle.base.specs.Answers.{valueOf}
 use Rattle.controller.specs.Turns.{settled}
+use Rattle.records.specs.declared.Event.the-variants.{MasterReset}
+use Rattle.records.specs.Events.{whole, short, eventOf, seatCount}
+use Rattle.records.specs.EarlyLaws.{early-kind, early-seat, taken-seat, taken-other}
 use Rattle.bench.specs.declared.Bench.{Bench}
 use Rattle.bench.specs.declared.Outcome.{Outcome}
-use Rattle.bench.specs.declared.Event.the-variants.{MasterReset}
-use Rattle.bench.specs.Events.{whole, short, early, eventOf}
 use Rattle.bench.specs.Refusals.{roomGrounds, grounds, refusal}
-use Rattle.bench.specs.Seats.{seatCount}
 use Rattle.bench.specs.Steps.{roomRefusal, after, answerTo, outcome}
 use Rattle.bench.specs.RefusalLaws.{refused-early, refused-late}
 
@@ -25,32 +23,16 @@ module _ (b : Bench) where
   short-refused = refl
 
   -- kinds above 8 are 3, whatever the other bytes
-  early-kind : (k s n v : ℕ) → 8 < k → early (whole k s n v) ≡ 3
-  unfolding early refusalBy firstOf pick
-  early-kind k s n v above = rw (lt-ltb 8 k above)
-
   pub kind-refused : (k s n v : ℕ) → 8 < k → refusal b (whole k s n v) ≡ 3
   kind-refused k s n v above =
       refused-early b (whole k s n v) (ap (λ (x : ℕ). eqb x 0) (early-kind k s n v above)) ∙ early-kind k s n v above
 
   -- numbers that no seat has are 1 for each of the five kinds that use the seat, whatever the register
-  early-seat : (k s n v : ℕ) → k < 5 → seatCount ≤ s → early (whole k s n v) ≡ 1
-  unfolding early refusalBy firstOf pick
-  early-seat k s n v uses above = rw (le-ltb 8 k (omega arith), lt-ltb k 5 uses, le-leb seatCount s above)
-
   pub seat-refused : (k s n v : ℕ) → k < 5 → seatCount ≤ s → refusal b (whole k s n v) ≡ 1
   seat-refused k s n v uses above =
       refused-early b (whole k s n v) (ap (λ (x : ℕ). eqb x 0) (early-seat k s n v uses above)) ∙ early-seat k s n v uses above
 
   -- what is left is the room's: kinds to 8 with a seat that is there, and the four kinds that use no seat
-  pub taken-seat : (k s n v : ℕ) → k < 5 → s < seatCount → early (whole k s n v) ≡ 0
-  unfolding early refusalBy firstOf pick
-  taken-seat k s n v uses within = rw (le-ltb 8 k (omega arith), lt-ltb k 5 uses, lt-leb seatCount s within)
-
-  pub taken-other : (k s n v : ℕ) → 5 ≤ k → k < 9 → early (whole k s n v) ≡ 0
-  unfolding early refusalBy firstOf pick
-  taken-other k s n v other within = rw (le-ltb 8 k (omega arith), le-ltb k 5 other)
-
   pub seat-taken : (k s n v : ℕ) → k < 5 → s < seatCount → refusal b (whole k s n v) ≡ roomRefusal b (eventOf k s n v)
   seat-taken k s n v uses within = refused-late b (whole k s n v) (ap (λ (x : ℕ). eqb x 0) (taken-seat k s n v uses within))
 

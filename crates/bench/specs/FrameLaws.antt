@@ -15,21 +15,19 @@ use Rattle.base.specs.Refusals.{firstOf, refusalBy}
 use Rattle.base.specs.PickLaws.{pick-true, pick-false, pick-through, pick-same, either-way}
 use Rattle.registers.specs.declared.SeatEvent.{SeatEvent}
 use Rattle.seat.specs.declared.Seat.{Seat}
-use Rattle.seat.specs.declared.Stepped.{Stepped}
 use Rattle.seat.specs.Seats.{noSeat, reset}
-use Rattle.seat.specs.Steps.{refusal, stepped}
+use Rattle.seat.specs.Steps.{stepped}
 use Rattle.seat.specs.Acts.{actedAll}
-use Rattle.controller.specs.declared.Controller.{Controller}
+use Rattle.records.specs.declared.Event.the-variants.{OfSeat, MasterReset, ReadController, WriteController, Acknowledge}
+use Rattle.records.specs.declared.Decoded.{Decoded}
+use Rattle.records.specs.declared.Decoded.the-variants.{Taken, Refused}
+use Rattle.records.specs.Events.{seatCount}
+use Rattle.records.specs.TouchLaws.{touched-seat}
 use Rattle.bench.specs.declared.Bench.{Bench}
-use Rattle.bench.specs.declared.Touched.{Touched}
 use Rattle.bench.specs.declared.Outcome.{Outcome}
-use Rattle.bench.specs.declared.Event.the-variants.{OfSeat, MasterReset, ReadController, WriteController, Acknowledge}
-use Rattle.bench.specs.declared.Decoded.{Decoded}
-use Rattle.bench.specs.declared.Decoded.the-variants.{Taken, Refused}
 use Rattle.bench.specs.Refusals.{roomGrounds}
-use Rattle.bench.specs.Seats.{seatCount, chair, seat, withSeat}
+use Rattle.bench.specs.Seats.{chair, seat, withSeat}
 use Rattle.bench.specs.Steps.{roomRefusal, after, met, dealt}
-use Rattle.bench.specs.Parts.{touched}
 use Rattle.bench.specs.Runs.{own}
 use Rattle.bench.specs.MeetLaws.{seat-met}
 
@@ -52,13 +50,6 @@ pub chair-own : (n : ℕ) → n < seatCount → chair n ≡ n
 chair-own n seat = omega arith
 
 -- ---- an event on a seat
-
--- the seat that is touched is the seat's own step, refused or not
-touched-seat : (s : Seat) (c : Controller) (n : ℕ) (e : SeatEvent) → touched s c n e .seat ≡ stepped s e .seat
-unfolding touched stepped
-touched-seat s c n e =
-    pick-through (λ (t : Touched). t .seat) (eqb (refusal s e) 0) _ _
-    ∙ sym (pick-through (λ (t : Stepped). t .seat) (eqb (refusal s e) 0) _ _)
 
 -- the seats after it: one place is new
 pub seats-after : (b : Bench) (n : ℕ) (e : SeatEvent)

@@ -21,11 +21,11 @@ use Rattle.controller.specs.Signals.{Signal, levels, acknowledge}
 use Rattle.controller.specs.Turns.{settled}
 use Rattle.controller.specs.Steps.{step}
 use Rattle.controller.specs.RefusalLaws.{step-levels}
+use Rattle.records.specs.Events.{Record, whole, short, eventOf, event, seatCount}
 use Rattle.bench.specs.declared.Bench.{Bench}
 use Rattle.bench.specs.declared.Outcome.{Outcome}
-use Rattle.bench.specs.Events.{Record, whole, short, eventOf, event}
 use Rattle.bench.specs.Refusals.{refusal}
-use Rattle.bench.specs.Seats.{seatCount, seat, lines}
+use Rattle.bench.specs.Seats.{seat, lines}
 use Rattle.bench.specs.Steps.{after, outcome}
 use Rattle.bench.specs.FrameLaws.{mapped-at}
 use Rattle.bench.specs.EdgeLaws.{short-refused, kind-refused}

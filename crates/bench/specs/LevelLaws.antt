@@ -13,9 +13,9 @@ use Rattle.base.specs.BitLaws.{digit-le}
 use Rattle.seat.specs.declared.Seat.{Seat}
 use Rattle.seat.specs.Seats.{line, reset}
 use Rattle.seat.specs.ActLaws as one
-use Rattle.rank.specs.Sets.{join, without}
+use Rattle.rank.specs.Sets.{join, without, withLine}
 use Rattle.rank.specs.Sets as sets
-use Rattle.bench.specs.Seats.{lines, withLine}
+use Rattle.bench.specs.Seats.{lines}
 use Rattle.bench.specs.FrameLaws.{mapped-length}
 
 -- a number and its last bit

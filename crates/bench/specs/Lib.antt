@@ -1,4 +1,3 @@
-pub mod Events
 pub mod Seats
 pub mod Refusals
 pub mod Steps
@@ -7,7 +6,6 @@ pub mod RefusalLaws
 pub mod MeetLaws
 pub mod Valid
 pub mod Wired
-pub mod Uses
 pub mod Runs
 pub mod UsesLaws
 pub mod PartLaws

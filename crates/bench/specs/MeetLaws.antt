@@ -1,40 +1,31 @@
 -- The outcome of a record, by the parts that its event touches.
 use Prim.Native.Nat.{ℕ, zero, suc}
-use mathlib.Core.Bool.{Bool, true, false}
+use mathlib.Core.Bool.{true, false}
 use mathlib.Core.List.{List, [], _∷_}
 use mathlib.Core.Path.{_≡_, refl, ap, sym, _∙_}
 use mathlib.Core.Logic.{⊎-elim}
 use lib.Dec.{eqb}
 use lib.ListN.{getD, set}
-use borrow.Author.Tests.{eq-eqb, ne-eqb}
 use Rattle.base.specs.Pick.{pick}
-use Rattle.base.specs.PickLaws.{pick-true, pick-false, pick-through, either-way, never}
-use Rattle.base.specs.Answers.{refusalOf}
+use Rattle.base.specs.PickLaws.{pick-true, pick-false, pick-through, either-way}
 use Rattle.base.specs.declared.Answer.the-variants as answer
 use Rattle.registers.specs.declared.SeatEvent.{SeatEvent}
-use Rattle.seat.specs.declared.Seat.{Seat}
-use Rattle.seat.specs.declared.Stepped.{Stepped}
-use Rattle.seat.specs.Seats.{noSeat, line}
-use Rattle.seat.specs.Steps.{stepped}
+use Rattle.seat.specs.Seats.{noSeat}
 use Rattle.seat.specs.Steps as seat-step
-use Rattle.seat.specs.StepLaws.{step-taken, step-refused, step-number}
-use Rattle.controller.specs.declared.Controller.{Controller}
 use Rattle.controller.specs.declared.Stepped as controller
 use Rattle.controller.specs.Signals.{read, write, acknowledge}
-use Rattle.controller.specs.Turns.{settled}
 use Rattle.controller.specs.Refusals as refusing
 use Rattle.controller.specs.Steps.{step}
+use Rattle.records.specs.declared.Event.{Event}
+use Rattle.records.specs.declared.Event.the-variants.{OfSeat, ReadController, WriteController, Acknowledge}
+use Rattle.records.specs.Events.{Record, early, event, decoded}
+use Rattle.records.specs.Parts.{touched}
 use Rattle.bench.specs.declared.Bench.{Bench}
 use Rattle.bench.specs.declared.Outcome.{Outcome}
-use Rattle.bench.specs.declared.Touched.{Touched}
-use Rattle.bench.specs.declared.Event.{Event}
-use Rattle.bench.specs.declared.Event.the-variants.{OfSeat, MasterReset, ReadController, WriteController, Acknowledge}
-use Rattle.bench.specs.declared.Decoded.the-variants.{Refused}
-use Rattle.bench.specs.Events.{Record, early, event, decoded}
 use Rattle.bench.specs.Refusals.{roomGrounds}
-use Rattle.bench.specs.Seats.{chair, seat, withSeat, withController, withLine}
+use Rattle.bench.specs.Seats.{chair, seat, withSeat, withController}
 use Rattle.bench.specs.Steps.{roomRefusal, after, answerTo, shown, met, outcome, dealt}
-use Rattle.bench.specs.Parts.{touched, stored}
+use Rattle.bench.specs.Parts.{stored}
 use Rattle.bench.specs.RefusalLaws.{refused-early, refused-late}
 
 -- ---- an event on a seat
@@ -55,28 +46,6 @@ seat-met b n e =
     pick-through (stored b n) (eqb (seat-step.refusal (seat b n) e) 0) _ _
     ∙ ap (pick (eqb (seat-step.refusal (seat b n) e) 0) _)
     (ap (λ (d : Bench). shown (withController d (b .controller)) (answer.Refused (seat-step.refusal (seat b n) e))) (seat-back b n))
-
--- what the seat's step gave, with its refusal read off the answer
-module _ (s : Seat) (c : Controller) (n : ℕ) (e : SeatEvent) (r : Stepped) (is : r ≡ stepped s e) where
-  number : refusalOf (r .answer) ≡ seat-step.refusal s e
-  number = ap (λ (x : Stepped). refusalOf (x .answer)) is ∙ step-number s e
-
-  pub touched-taken : refusalOf (r .answer) ≡ 0
-      → touched s c n e ≡ record { seat = r .seat; controller = settled c (withLine (c .lines .levels) n (line (r .seat))); answer = r .answer }
-  unfolding touched
-  touched-taken none =
-      let zero-number : eqb (seat-step.refusal s e) 0 ≡ true = eq-eqb _ _ (sym number ∙ none) in
-      pick-true _ _ _ zero-number
-      ∙ ap {B = Touched}
-      (λ (x : Stepped). record { seat = x .seat; controller = settled c (withLine (c .lines .levels) n (line (x .seat))); answer = x .answer })
-      (sym (is ∙ step-taken s e zero-number))
-
-  pub touched-refused : (refusalOf (r .answer) ≡ 0 → ⊥) → touched s c n e ≡ record { seat = r .seat; controller = c; answer = r .answer }
-  unfolding touched
-  touched-refused some =
-      let number-held : eqb (seat-step.refusal s e) 0 ≡ false = ne-eqb _ _ (λ z. some (number ∙ z)) in
-      pick-false _ _ _ number-held
-      ∙ ap {B = Touched} (λ (x : Stepped). record { seat = x .seat; controller = c; answer = x .answer }) (sym (is ∙ step-refused s e number-held))
 
 -- ---- an event on the controller
 

@@ -12,11 +12,11 @@ use Rattle.controller.specs.declared.Controller.{Controller}
 use Rattle.controller.specs.declared.Turn.{Turn}
 use Rattle.controller.specs.declared.Turn.the-variants.{Line, Nobody}
 use Rattle.controller.specs.Turns.{answered, acknowledged, granted, outputOf}
+use Rattle.records.specs.declared.Event.{Event}
+use Rattle.records.specs.declared.Event.the-variants.{OfSeat, MasterReset, ReadController, WriteController, Acknowledge}
+use Rattle.records.specs.Events.{Record, event}
 use Rattle.bench.specs.declared.Bench.{Bench}
 use Rattle.bench.specs.declared.Outcome.{Outcome}
-use Rattle.bench.specs.declared.Event.{Event}
-use Rattle.bench.specs.declared.Event.the-variants.{OfSeat, MasterReset, ReadController, WriteController, Acknowledge}
-use Rattle.bench.specs.Events.{Record, event}
 use Rattle.bench.specs.Refusals.{refusal}
 use Rattle.bench.specs.Seats.{seat}
 use Rattle.bench.specs.Steps.{after, answerTo, shown, outcome}

@@ -15,18 +15,19 @@ use Rattle.controller.specs.declared.Stepped as controller
 use Rattle.controller.specs.Signals.{read, write, acknowledge}
 use Rattle.controller.specs.Steps.{step}
 use Rattle.controller.specs.Turns.{outputOf}
+use Rattle.records.specs.declared.Touched.{Touched}
+use Rattle.records.specs.declared.Event.{Event}
+use Rattle.records.specs.declared.Event.the-variants.{MasterReset, ReadController, WriteController, Acknowledge}
+use Rattle.records.specs.declared.Decoded.{Decoded}
+use Rattle.records.specs.declared.Decoded.the-variants.{Taken}
+use Rattle.records.specs.Events.{Record, whole, short, early, event, eventOf, decoded, seatNamed, resets}
+use Rattle.records.specs.Parts.{besides, metParts, dealtParts, parted}
 use Rattle.bench.specs.declared.Bench.{Bench}
 use Rattle.bench.specs.declared.Outcome.{Outcome}
-use Rattle.bench.specs.declared.Touched.{Touched}
-use Rattle.bench.specs.declared.Event.{Event}
-use Rattle.bench.specs.declared.Event.the-variants.{MasterReset, ReadController, WriteController, Acknowledge}
-use Rattle.bench.specs.declared.Decoded.{Decoded}
-use Rattle.bench.specs.declared.Decoded.the-variants.{Taken}
-use Rattle.bench.specs.Events.{Record, whole, short, early, event, eventOf, decoded}
 use Rattle.bench.specs.Seats.{chair, seat, withSeat, withController}
 use Rattle.bench.specs.Steps.{shown, met, outcome, dealt}
 use Rattle.bench.specs.MeetLaws.{seat-back, seat-met, read-met, write-met, acknowledge-met, outcome-dealt}
-use Rattle.bench.specs.Parts.{besides, metParts, dealtParts, parted, seatNamed, stored, partly, resets}
+use Rattle.bench.specs.Parts.{stored, partly}
 
 module _ (b : Bench) (n : ℕ) where
   -- what is stored is what is met, or dealt

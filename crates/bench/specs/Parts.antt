@@ -1,65 +1,12 @@
--- One record on the seat that it names and the controller beside it, which is how the code has it: a master reset alone touches more.
+-- One record on the bench by its parts, which is how the code has it: the seat that it names and the controller beside it, stored back.
 use Prim.Native.Nat.{ℕ}
-use mathlib.Core.Bool.{Bool, false}
-use lib.Dec.{eqb}
-use Rattle.base.specs.Pick.{pick}
-use Rattle.base.specs.declared.Answer.the-variants.{Done}
-use Rattle.base.specs.declared.Answer.the-variants as answer
-use Rattle.registers.specs.declared.SeatEvent.{SeatEvent}
-use Rattle.seat.specs.declared.Seat.{Seat}
-use Rattle.seat.specs.Seats.{line}
-use Rattle.seat.specs.Steps as seat-step
-use Rattle.controller.specs.declared.Controller.{Controller}
-use Rattle.controller.specs.declared.Stepped as controller
-use Rattle.controller.specs.Signals.{read, write, acknowledge}
-use Rattle.controller.specs.Turns.{settled}
-use Rattle.controller.specs.Steps.{step}
+use Rattle.records.specs.declared.Touched.{Touched}
+use Rattle.records.specs.Events.{Record, seatNamed}
+use Rattle.records.specs.Parts.{parted}
 use Rattle.bench.specs.declared.Bench.{Bench}
 use Rattle.bench.specs.declared.Outcome.{Outcome}
-use Rattle.bench.specs.declared.Touched.{Touched}
-use Rattle.bench.specs.declared.Event.{Event}
-use Rattle.bench.specs.declared.Event.the-variants.{OfSeat, MasterReset, ReadController, WriteController, Acknowledge}
-use Rattle.bench.specs.declared.Decoded.{Decoded}
-use Rattle.bench.specs.declared.Decoded.the-variants.{Taken, Refused}
-use Rattle.bench.specs.Events.{Record, whole, short, decoded}
-use Rattle.bench.specs.Seats.{seat, withSeat, withController, withLine}
+use Rattle.bench.specs.Seats.{seat, withSeat, withController}
 use Rattle.bench.specs.Steps.{shown}
-
--- an event on the seat whose line is n
-unfoldable pub touched : Seat → Controller → ℕ → SeatEvent → Touched
-touched s c n e =
-    pick (eqb (seat-step.refusal s e) 0)
-    (record {
-      seat = seat-step.effect s e .seat;
-      controller = settled c (withLine (c .lines .levels) n (line (seat-step.effect s e .seat)));
-      answer = seat-step.effect s e .answer;
-    })
-    (record { seat = s; controller = c; answer = answer.Refused (seat-step.refusal s e) })
-
--- the controller is asked, and the seat is not
-abbrev pub besides : Seat → controller.Stepped → Touched
-besides s t = record { seat = s; controller = t .controller; answer = t .answer }
-
--- an event on its two parts; a master reset is not met here, and leaves both
-unfoldable pub metParts : Seat → Controller → Event → Touched
-metParts s c (OfSeat n e) = touched s c n e
-metParts s c MasterReset = record { seat = s; controller = c; answer = Done }
-metParts s c (ReadController port) = record { seat = s; controller = c; answer = step c (read port) .answer }
-metParts s c (WriteController port byte) = besides s (step c (write port byte))
-metParts s c Acknowledge = besides s (step c acknowledge)
-
-unfoldable pub dealtParts : Seat → Controller → Decoded → Touched
-dealtParts s c (Taken e) = metParts s c e
-dealtParts s c (Refused n) = record { seat = s; controller = c; answer = answer.Refused n }
-
--- a record on its two parts
-abbrev pub parted : Seat → Controller → Record → Touched
-parted s c r = dealtParts s c (decoded r)
-
--- the seat that a record names; a short one names none, and the one given here stays as it is
-abbrev pub seatNamed : Record → ℕ
-seatNamed (whole kind seat number value) = seat
-seatNamed short = 0
 
 -- the bench with touched parts stored back
 abbrev pub stored : Bench → ℕ → Touched → Outcome
@@ -68,8 +15,3 @@ stored b n t = shown (withController (withSeat b n (t .seat)) (t .controller)) (
 -- a record met so
 abbrev pub partly : Bench → Record → Outcome
 partly b r = stored b (seatNamed r) (parted (seat b (seatNamed r)) (b .controller) r)
-
--- a record that is a master reset
-abbrev pub resets : Record → Bool
-resets (whole kind seat number value) = eqb kind 5
-resets short = false

@@ -12,19 +12,15 @@ use Rattle.base.specs.RefusalLaws.{follows, follows-parts, firstHeld, in-order,
 use Rattle.registers.specs.declared.SeatEvent.the-variants.{Read, Write, Arrival, Levels, Time}
 use Rattle.registers.specs.Refusals as registers
 use Rattle.controller.specs.Refusals as controller
+use Rattle.records.specs.declared.Event.{Event}
+use Rattle.records.specs.declared.Event.the-variants.{OfSeat, MasterReset, ReadController, WriteController, Acknowledge}
+use Rattle.records.specs.Events.{Record, whole, short, earlyGrounds, early, eventOf, event}
+use Rattle.records.specs.EarlyLaws.{early-in-turn, early-held}
 use Rattle.bench.specs.declared.Bench.{Bench}
-use Rattle.bench.specs.declared.Event.{Event}
-use Rattle.bench.specs.declared.Event.the-variants.{OfSeat, MasterReset, ReadController, WriteController, Acknowledge}
-use Rattle.bench.specs.Events.{Record, whole, short, earlyGrounds, early, eventOf, event}
 use Rattle.bench.specs.Refusals.{roomGrounds, grounds, refusal}
 use Rattle.bench.specs.Steps.{roomRefusal}
 
--- "The order is 4, 3, 1, 2": the first three are decoding's
-early-in-turn : (r : Record) → follows (take 3 refusalOrder) (earlyGrounds r) ≡ true
-early-in-turn (whole kind seat number value) = refl
-early-in-turn short = refl
-
--- and the rest are the rooms'
+-- "The order is 4, 3, 1, 2": the first three are decoding's, and the rest are the rooms'
 room-in-turn : (b : Bench) (e : Event) → follows (drop 3 refusalOrder) (roomGrounds b e) ≡ true
 unfolding roomGrounds registers.grounds controller.grounds
 room-in-turn b (OfSeat n (Read number)) = refl
@@ -37,11 +33,7 @@ room-in-turn b (ReadController port) = refl
 room-in-turn b (WriteController port byte) = refl
 room-in-turn b Acknowledge = refl
 
--- a list that follows the one part or the other follows the order
-early-ordered : (r : Record) → follows refusalOrder (earlyGrounds r) ≡ true
-early-ordered (whole kind seat number value) = refl
-early-ordered short = refl
-
+-- a list that follows the rooms' part follows the order
 room-ordered : (b : Bench) (e : Event) → follows refusalOrder (roomGrounds b e) ≡ true
 room-ordered b e = follows-parts (take 3 refusalOrder) (drop 3 refusalOrder) [] (roomGrounds b e) refl (room-in-turn b e)
 
@@ -57,10 +49,6 @@ in-turn b short = refl
 pub first-held : (b : Bench) (r : Record) → refusal b r ≡ firstHeld (grounds b r)
 unfolding refusal
 first-held b r = in-order (grounds b r) (in-turn b r)
-
-early-held : (r : Record) → early r ≡ firstHeld (earlyGrounds r)
-unfolding early
-early-held r = in-order (earlyGrounds r) (early-ordered r)
 
 room-held : (b : Bench) (e : Event) → roomRefusal b e ≡ firstHeld (roomGrounds b e)
 unfolding roomRefusal

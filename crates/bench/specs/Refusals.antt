@@ -5,10 +5,10 @@ use Rattle.base.specs.Refusals.{Ground, refusalBy}
 use Rattle.seat.specs.Steps as seat-step
 use Rattle.controller.specs.Signals.{read, write, acknowledge}
 use Rattle.controller.specs.Refusals as controller
+use Rattle.records.specs.declared.Event.{Event}
+use Rattle.records.specs.declared.Event.the-variants.{OfSeat, MasterReset, ReadController, WriteController, Acknowledge}
+use Rattle.records.specs.Events.{Record, whole, short, earlyGrounds, eventOf}
 use Rattle.bench.specs.declared.Bench.{Bench}
-use Rattle.bench.specs.declared.Event.{Event}
-use Rattle.bench.specs.declared.Event.the-variants.{OfSeat, MasterReset, ReadController, WriteController, Acknowledge}
-use Rattle.bench.specs.Events.{Record, whole, short, earlyGrounds, eventOf}
 use Rattle.bench.specs.Seats.{seat}
 
 -- "Each call touches the one seat it names, or the controller": and is refused by that alone; a master reset by nobody

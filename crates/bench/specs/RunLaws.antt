@@ -6,10 +6,10 @@ use lib.ListN.{length}
 use Rattle.seat.specs.declared.Seat.{Seat}
 use Rattle.seat.specs.Acts.{actedAll}
 use Rattle.seat.specs.ActLaws.{acted-parts}
+use Rattle.records.specs.Events.{Record, decoded, seatCount}
 use Rattle.bench.specs.declared.Bench.{Bench}
 use Rattle.bench.specs.declared.Outcome.{Outcome}
-use Rattle.bench.specs.Events.{Record, decoded}
-use Rattle.bench.specs.Seats.{seatCount, chair, seat}
+use Rattle.bench.specs.Seats.{chair, seat}
 use Rattle.bench.specs.Steps.{outcome}
 use Rattle.bench.specs.Runs.{afterAll, outcomes, own, ownAll}
 use Rattle.bench.specs.MeetLaws.{outcome-dealt}

@@ -1,21 +1,15 @@
 -- Eight seats and the controller: power-up, the doors to a seat, and the lines.
 use Prim.Native.Nat.{ℕ, _%_}
-use mathlib.Core.Bool.{Bool}
 use mathlib.Core.List.{List, map}
 use lib.ListN.{getD, set, replicate}
-use Rattle.base.specs.Pick.{pick}
 use Rattle.base.specs.Bits.{bits}
-use Rattle.rank.specs.Sets.{join, without, only}
 use Rattle.seat.specs.declared.Seat.{Seat}
 use Rattle.seat.specs.Seats.{noSeat, line}
 use Rattle.seat.specs.Seats as one
 use Rattle.controller.specs.declared.Controller.{Controller}
 use Rattle.controller.specs.State as controller
+use Rattle.records.specs.Events.{seatCount}
 use Rattle.bench.specs.declared.Bench.{Bench}
-
--- "Eight seats, 0 to 7."
-abbrev pub seatCount : ℕ
-seatCount = 8
 
 -- "Power-up": every seat at power-up, and the controller
 abbrev pub powerUp : Bench
@@ -40,7 +34,3 @@ withController b c = record { seats = b .seats; controller = c }
 -- "Seat n is one serial channel; its interrupt output is line n of one 8259A.": the lines of some seats as a set
 unfoldable pub lines : List Seat → ℕ
 lines seats = bits (map line seats)
-
--- a set of levels in which line n is at the level given, and the others are as they were
-unfoldable pub withLine : ℕ → ℕ → Bool → ℕ
-withLine levels n high = pick high (join levels (only n)) (without levels (only n))

@@ -12,15 +12,16 @@ use Rattle.seat.specs.Steps as seat-step
 use Rattle.controller.specs.Signals.{read, write, acknowledge}
 use Rattle.controller.specs.Turns.{settled, outputOf}
 use Rattle.controller.specs.Steps as controller
+use Rattle.rank.specs.Sets.{withLine}
+use Rattle.records.specs.declared.Event.{Event}
+use Rattle.records.specs.declared.Event.the-variants.{OfSeat, MasterReset, ReadController, WriteController, Acknowledge}
+use Rattle.records.specs.declared.Decoded.{Decoded}
+use Rattle.records.specs.declared.Decoded.the-variants.{Taken, Refused}
+use Rattle.records.specs.Events.{Record, event}
 use Rattle.bench.specs.declared.Bench.{Bench}
 use Rattle.bench.specs.declared.Outcome.{Outcome}
-use Rattle.bench.specs.declared.Event.{Event}
-use Rattle.bench.specs.declared.Event.the-variants.{OfSeat, MasterReset, ReadController, WriteController, Acknowledge}
-use Rattle.bench.specs.declared.Decoded.{Decoded}
-use Rattle.bench.specs.declared.Decoded.the-variants.{Taken, Refused}
-use Rattle.bench.specs.Events.{Record, event}
 use Rattle.bench.specs.Refusals.{roomGrounds, refusal}
-use Rattle.bench.specs.Seats.{seat, withSeat, withController, lines, withLine}
+use Rattle.bench.specs.Seats.{seat, withSeat, withController, lines}
 
 -- "Each call touches the one seat it names, or the controller; a master reset touches all eight seats. Line changes reach the controller's
 -- latches in the same event."

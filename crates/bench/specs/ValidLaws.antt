@@ -21,15 +21,15 @@ use Rattle.controller.specs.Valid as controller-valid
 use Rattle.controller.specs.ValidLaws.{power-up-valid, valid-kept, valid-settled}
 use Rattle.controller.specs.Refusals as controller-refusal
 use Rattle.controller.specs.RefusalLaws.{step-done}
+use Rattle.records.specs.declared.Event.{Event}
+use Rattle.records.specs.declared.Event.the-variants.{OfSeat, MasterReset, ReadController, WriteController, Acknowledge}
+use Rattle.records.specs.declared.Decoded.{Decoded}
+use Rattle.records.specs.declared.Decoded.the-variants.{Taken, Refused}
+use Rattle.records.specs.Events.{Record, decoded, seatCount}
 use Rattle.bench.specs.declared.Bench.{Bench}
 use Rattle.bench.specs.declared.Outcome.{Outcome}
-use Rattle.bench.specs.declared.Event.{Event}
-use Rattle.bench.specs.declared.Event.the-variants.{OfSeat, MasterReset, ReadController, WriteController, Acknowledge}
-use Rattle.bench.specs.declared.Decoded.{Decoded}
-use Rattle.bench.specs.declared.Decoded.the-variants.{Taken, Refused}
-use Rattle.bench.specs.Events.{Record, decoded}
 use Rattle.bench.specs.Refusals.{roomGrounds}
-use Rattle.bench.specs.Seats.{seatCount, chair, seat, lines, powerUp}
+use Rattle.bench.specs.Seats.{chair, seat, lines, powerUp}
 use Rattle.bench.specs.Steps.{roomRefusal, after, met, outcome, dealt}
 use Rattle.bench.specs.Runs.{afterAll}
 use Rattle.bench.specs.MeetLaws.{outcome-dealt}

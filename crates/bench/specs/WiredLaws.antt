@@ -9,7 +9,7 @@ use borrow.Author.Tests.{eqb-true}
 use Rattle.base.specs.Pick.{pick}
 use Rattle.base.specs.PickLaws.{pick-cases}
 use Rattle.base.specs.Bits.{bit, digit, bits}
-use Rattle.rank.specs.Sets.{join, without}
+use Rattle.rank.specs.Sets.{join, without, withLine}
 use Rattle.registers.specs.declared.SeatEvent.{SeatEvent}
 use Rattle.seat.specs.Seats.{line, reset}
 use Rattle.seat.specs.Steps as seat-step
@@ -26,15 +26,15 @@ use Rattle.controller.specs.Steps.{effect}
 use Rattle.controller.specs.Refusals as controller-refusal
 use Rattle.controller.specs.RefusalLaws.{step-done}
 use Rattle.controller.specs.FrameLaws.{LevelMoves, stays, level-moves}
+use Rattle.records.specs.declared.Event.{Event}
+use Rattle.records.specs.declared.Event.the-variants.{OfSeat, MasterReset, ReadController, WriteController, Acknowledge}
+use Rattle.records.specs.declared.Decoded.{Decoded}
+use Rattle.records.specs.declared.Decoded.the-variants.{Taken, Refused}
+use Rattle.records.specs.Events.{Record, decoded, seatCount}
 use Rattle.bench.specs.declared.Bench.{Bench}
 use Rattle.bench.specs.declared.Outcome.{Outcome}
-use Rattle.bench.specs.declared.Event.{Event}
-use Rattle.bench.specs.declared.Event.the-variants.{OfSeat, MasterReset, ReadController, WriteController, Acknowledge}
-use Rattle.bench.specs.declared.Decoded.{Decoded}
-use Rattle.bench.specs.declared.Decoded.the-variants.{Taken, Refused}
-use Rattle.bench.specs.Events.{Record, decoded}
 use Rattle.bench.specs.Refusals.{roomGrounds}
-use Rattle.bench.specs.Seats.{seatCount, chair, seat, withSeat, lines, withLine, powerUp}
+use Rattle.bench.specs.Seats.{chair, seat, withSeat, lines, powerUp}
 use Rattle.bench.specs.Steps.{roomRefusal, after, met, outcome, dealt}
 use Rattle.bench.specs.MeetLaws.{outcome-dealt}
 use Rattle.bench.specs.FrameLaws.{mapped-length, chair-small}

@@ -1,10 +1,9 @@
 // The seats of a bench: where one of them stands, and what concerns all of them.
-use crate::SEATS;
+use records::SEATS;
 use seat::Seat;
 ghost use mathlib.Core.Path.{_≡_};
 ghost use mathlib.Core.List.{map};
 ghost use Rattle.seat.specs.Seats.{reset};
-ghost use Rattle.bench.specs.Seats.{withLine};
 ghost use Rattle.bench.specs.Seats.{chair as Seats·chair};
 
 pub(crate) fn reset_all(mut s: [Seat; SEATS]) -> [Seat; SEATS]
@@ -17,16 +16,6 @@ pub(crate) fn reset_all(mut s: [Seat; SEATS]) -> [Seat; SEATS]
         i = i + 1;
     }
     s
-}
-
-pub(crate) fn with_line(levels: u8, n: u8, high: bool) -> u8
-    ensures { λ r. ⌜ r ≡ withLine levels n high ⌝ }
-{
-    let one = rank::only(n);
-    if high {
-        return levels | one;
-    }
-    rank::without(levels, one)
 }
 
 // Where seat n stands; a number that is no seat's counts round.

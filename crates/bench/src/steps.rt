@@ -1,16 +1,15 @@
 // One record on the bench.
 use crate::Bench;
-use crate::Decoded;
 use crate::Outcome;
-use crate::parts;
 use crate::seats;
 use base::Answer;
+use records::Decoded;
 ghost use mathlib.Core.Path.{_≡_};
 ghost use Rattle.controller.specs.Steps.{placed};
 ghost use Rattle.controller.specs.Turns.{outputOf};
-ghost use Rattle.bench.specs.Events.{whole, short};
+ghost use Rattle.records.specs.Events.{whole, short};
+ghost use Rattle.records.specs.declared.Event.the-variants.{MasterReset};
 ghost use Rattle.bench.specs.Steps.{shown, met, outcome};
-ghost use Rattle.bench.specs.declared.Event.the-variants.{MasterReset};
 
 impl Bench {
     fn show(self, answer: Answer) -> Outcome
@@ -44,7 +43,7 @@ impl Bench {
         }
         let at = seats::chair(seat);
         let held = self.seats[at];
-        let touched = parts::step_parts(held, self.controller, kind, seat, number, value);
+        let touched = records::step_parts(held, self.controller, kind, seat, number, value);
         let next = touched.seat;
         self.seats[at] = next;
         let moved = touched.controller;

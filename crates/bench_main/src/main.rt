@@ -2,8 +2,8 @@
 use libc::STDERR_FILENO;
 
 mod files;
+mod input;
 mod lessons;
-mod records;
 
 fn usage() {
     io::write_all(STDERR_FILENO, b"usage: bench [LESSON]\n");
@@ -11,7 +11,7 @@ fn usage() {
 
 fn main() {
     match os::arg_count() {
-        1 => records::run(),
+        1 => input::run(),
         2 => lessons::run(),
         _ => usage(),
     }

@@ -9,8 +9,8 @@ use Rattle.base.specs.declared.Answer.{Answer}
 use Rattle.base.specs.declared.Answer.the-variants.{Vector}
 use Rattle.turn.specs.Waiting.{Start}
 use Rattle.turn.specs.Demand3.{InTurn}
+use Rattle.records.specs.Events.{Record, whole, short}
 use Rattle.bench.specs.declared.Bench.{Bench}
-use Rattle.bench.specs.Events.{Record, whole, short}
 use Rattle.bench.specs.Seats.{powerUp}
 use Rattle.bench.specs.Runs.{afterAll}
 use Rattle.demands.specs.Demand3.{told, Kept}

@@ -1,8 +1,8 @@
 -- A closed run of the receive ledger from power-up, by computation: every count of it is above 0.
 use mathlib.Core.List.{List, [], _∷_}
 use mathlib.Core.Path.{_≡_, refl}
+use Rattle.records.specs.Events.{Record, whole}
 use Rattle.bench.specs.Runs.{afterAll}
-use Rattle.bench.specs.Events.{Record, whole}
 use Rattle.bench.specs.Seats.{powerUp}
 use Rattle.bench.specs.Steps.{outcome}
 use Rattle.demands.specs.SeatLedger.{arrivedAt, readAt, lostAt, droppedAt, queuedAt}

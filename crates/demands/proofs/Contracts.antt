@@ -1,8 +1,8 @@
 -- The contracts of the three entries are the definitions' results.
 use mathlib.Core.Path.{_≡_}
+use Rattle.records.specs.Events.{Record, whole, short}
 use Rattle.bench.specs.declared.Bench.{Bench}
 use Rattle.bench.specs.declared.Outcome.{Outcome}
-use Rattle.bench.specs.Events.{Record, whole, short}
 use Rattle.bench.specs.Steps.{outcome}
 use Rattle.demands.specs.Contracts.{Ensured, ContractsSay}
 

@@ -18,9 +18,9 @@ use Rattle.rates.specs.Rates.{ratesOf}
 use Rattle.rates.specs.RatesLaws as rates
 use Rattle.controller.specs.Refusals.{lineAbove}
 use Rattle.controller.specs.LineLaws.{place-told, place-refused}
+use Rattle.records.specs.Events.{Record, whole}
 use Rattle.bench.specs.declared.Bench.{Bench}
 use Rattle.bench.specs.declared.Outcome.{Outcome}
-use Rattle.bench.specs.Events.{Record, whole}
 use Rattle.bench.specs.Refusals.{grounds, refusal}
 use Rattle.bench.specs.RefusalLaws.{in-turn}
 use Rattle.bench.specs.Seats.{seat, powerUp}

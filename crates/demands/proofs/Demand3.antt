@@ -24,13 +24,13 @@ use Rattle.turn.specs.Waiting.{Waits}
 use Rattle.turn.specs.Demand3.{InTurn}
 use Rattle.turn.specs.Demand3 as turn
 use Rattle.turn.proofs.InTurn.{demand-3}
+use Rattle.records.specs.declared.Event.{Event}
+use Rattle.records.specs.declared.Event.the-variants.{OfSeat, MasterReset, ReadController, WriteController, Acknowledge}
+use Rattle.records.specs.declared.Decoded.{Decoded}
+use Rattle.records.specs.declared.Decoded.the-variants.{Taken, Refused}
+use Rattle.records.specs.Events.{Record, decoded}
 use Rattle.bench.specs.declared.Bench.{Bench}
 use Rattle.bench.specs.declared.Outcome.{Outcome}
-use Rattle.bench.specs.declared.Event.{Event}
-use Rattle.bench.specs.declared.Event.the-variants.{OfSeat, MasterReset, ReadController, WriteController, Acknowledge}
-use Rattle.bench.specs.declared.Decoded.{Decoded}
-use Rattle.bench.specs.declared.Decoded.the-variants.{Taken, Refused}
-use Rattle.bench.specs.Events.{Record, decoded}
 use Rattle.bench.specs.Seats.{chair, seat, lines, powerUp}
 use Rattle.bench.specs.Refusals.{roomGrounds}
 use Rattle.bench.specs.Runs.{afterAll}

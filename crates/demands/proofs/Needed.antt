@@ -11,9 +11,9 @@ use Rattle.base.specs.declared.Answer.{Answer}
 use Rattle.base.specs.declared.Answer.the-variants.{Done}
 use Rattle.base.specs.Answers.{valueOf}
 use Rattle.turn.proofs.Needed.{not-among}
+use Rattle.records.specs.Events.{Record, whole}
 use Rattle.bench.specs.declared.Bench.{Bench}
 use Rattle.bench.specs.declared.Outcome.{Outcome}
-use Rattle.bench.specs.Events.{Record, whole}
 use Rattle.bench.specs.Seats.{powerUp}
 use Rattle.bench.specs.Steps.{outcome}
 use Rattle.bench.specs.Runs.{afterAll}

@@ -5,7 +5,7 @@ use Rattle.listing.specs.PartLaws.{runs-one}
 use Rattle.lesson.specs.Lesson.{handedOut}
 use Rattle.lesson.specs.declared.Lesson.{Lesson}
 use Rattle.demands.specs.OnceCalls.{BaseOnce, QueueOnce, RatesOnce, RegistersOnce, ReceiverOnce, TransmitterOnce, ChannelOnce, LendingOnce, SeatOnce, RankOnce}
-use Rattle.demands.specs.OnceCalls.{ControllerOnce, BenchOnce, ListingOnce, LessonOnce, StreamsOnce, EmbedOnce}
+use Rattle.demands.specs.OnceCalls.{ControllerOnce, RecordsOnce, BenchOnce, ListingOnce, LessonOnce, StreamsOnce, EmbedOnce}
 use Rattle.demands.proofs.Once.{told, unasked, value}
 
 pub base-once : (M : Type 1) → BaseOnce M
@@ -117,6 +117,7 @@ rank-once M =
       rank·has = value _ refl (λ κ a v w. refl);
       rank·only = value _ refl (λ κ a v w. refl);
       rank·without = value _ refl (λ κ a v w. refl);
+      rank·with-line = value _ refl (λ κ a v w. refl);
       rank·next = value _ refl (λ κ a v w. refl);
       rank·place = value _ refl (λ κ a v w. refl);
       rank·line-at = value _ refl (λ κ a v w. refl);
@@ -136,15 +137,19 @@ controller-once M =
       controller·Controller·place = value _ refl (λ κ a v w. refl);
     }
 
+pub records-once : (M : Type 1) → RecordsOnce M
+records-once M =
+    record {
+      records·Decoded·decode = value _ refl (λ κ a v w. refl);
+      records·Decoded·refusal = value _ refl (λ κ a v w. refl);
+      records·step-parts = value _ refl (λ κ a v w. refl);
+      records·short-parts = value _ refl (λ κ a v w. refl);
+    }
+
 pub bench-once : (M : Type 1) → BenchOnce M
 bench-once M =
     record {
-      bench·Decoded·decode = value _ refl (λ κ a v w. refl);
-      bench·Decoded·decode-short = value _ refl (λ κ a v w. refl);
-      bench·Decoded·refusal = value _ refl (λ κ a v w. refl);
       bench·chair = value _ refl (λ κ a v w. refl);
-      bench·step-parts = value _ refl (λ κ a v w. refl);
-      bench·short-parts = value _ refl (λ κ a v w. refl);
       bench·Bench·power-up = value _ refl (λ κ a v w. refl);
       bench·Bench·step = value _ refl (λ κ a v w. refl);
       bench·Bench·step-short = value _ refl (λ κ a v w. refl);

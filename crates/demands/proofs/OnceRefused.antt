@@ -13,9 +13,9 @@ use denote.Triple.Entry.{Args, Res}
 use denote.Triple.Clauses.{Ended, Lasts, atExit}
 use borrow.Fn.World.{w₀}
 use lib.ListN.{length}
+use Rattle.records.specs.Events.{whole, seatCount}
 use Rattle.bench.specs.declared.Bench.{Bench}
-use Rattle.bench.specs.Events.{whole}
-use Rattle.bench.specs.Seats.{seatCount, powerUp}
+use Rattle.bench.specs.Seats.{powerUp}
 use Rattle.bench.specs.Steps.{outcome}
 use Rattle.embed.specs.Word.{wordOf}
 use Rattle.embed.proofs as embed

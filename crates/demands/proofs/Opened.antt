@@ -12,7 +12,8 @@ use Rattle.channel.specs.Status as status
 use Rattle.channel.specs.Effects as effects
 use Rattle.channel.specs.Steps as channel
 use Rattle.seat.specs.Steps as seat
-use Rattle.bench.specs.Events as events
+use Rattle.rank.specs.Sets as sets
+use Rattle.records.specs.Events as events
 use Rattle.bench.specs.Seats as seats
 use Rattle.bench.specs.Refusals as refused
 use Rattle.bench.specs.Steps as bench
@@ -54,7 +55,7 @@ unfolding channel.effect channel.stepped seat.refusal seat.effect seat.stepped
 of-steps = 0
 
 unfoldable pub of-bench : ℕ
-unfolding events.early events.eventOf events.decoded events.refusedNumber seats.seat seats.withSeat seats.lines seats.withLine
+unfolding sets.withLine events.early events.eventOf events.decoded events.refusedNumber seats.seat seats.withSeat seats.lines
     refused.roomGrounds refused.grounds refused.refusal bench.after bench.answerTo bench.outcome bench.roomRefusal bench.met bench.dealt
 of-bench = 0
 

@@ -22,13 +22,13 @@ use Rattle.seat.specs.Steps.{stepped}
 use Rattle.seat.specs.Acts.{Act, event}
 use Rattle.seat.specs.Receiving.{side, momentsOf, befalling, receivesSoundly}
 use Rattle.seat.specs.ReceivingLaws.{acts-side, step-told, power-up-queued, power-up-receives}
+use Rattle.records.specs.declared.Event.the-variants.{OfSeat, MasterReset, ReadController, WriteController, Acknowledge}
+use Rattle.records.specs.declared.Decoded.{Decoded}
+use Rattle.records.specs.declared.Decoded.the-variants.{Taken, Refused}
+use Rattle.records.specs.Events.{Record, decoded, seatCount}
 use Rattle.bench.specs.declared.Bench.{Bench}
 use Rattle.bench.specs.declared.Outcome.{Outcome}
-use Rattle.bench.specs.declared.Event.the-variants.{OfSeat, MasterReset, ReadController, WriteController, Acknowledge}
-use Rattle.bench.specs.declared.Decoded.{Decoded}
-use Rattle.bench.specs.declared.Decoded.the-variants.{Taken, Refused}
-use Rattle.bench.specs.Events.{Record, decoded}
-use Rattle.bench.specs.Seats.{seatCount, chair, seat, powerUp}
+use Rattle.bench.specs.Seats.{chair, seat, powerUp}
 use Rattle.bench.specs.Steps.{met, outcome, dealt}
 use Rattle.bench.specs.Runs.{own, afterAll}
 use Rattle.bench.specs.MeetLaws.{outcome-dealt}

@@ -16,10 +16,10 @@ use Rattle.turn.specs.Waiting.{Start}
 use Rattle.turn.specs.Demand3.{Among, InTurn}
 use Rattle.receiver.specs.Ledger.{Subsequence, skips, keeps}
 use Rattle.receiver.specs.Ledger as ledger
+use Rattle.records.specs.Events.{Record, whole, decoded, seatCount}
 use Rattle.bench.specs.declared.Bench.{Bench}
 use Rattle.bench.specs.declared.Outcome.{Outcome}
-use Rattle.bench.specs.Events.{Record, whole, decoded}
-use Rattle.bench.specs.Seats.{seatCount, powerUp}
+use Rattle.bench.specs.Seats.{powerUp}
 use Rattle.bench.specs.Steps.{outcome}
 use Rattle.bench.specs.Runs.{afterAll}
 use Rattle.bench.specs.RunLaws.{after-parts}

@@ -6,9 +6,9 @@ use Rattle.base.specs.declared.Answer.{Answer}
 use Rattle.rates.specs.Rates.{divisorOf}
 use Rattle.rates.proofs.divisor.Reads as of-divisor
 use Rattle.controller.specs.Steps.{placed}
+use Rattle.records.specs.Events.{Record, whole, short}
 use Rattle.bench.specs.declared.Bench.{Bench}
 use Rattle.bench.specs.declared.Outcome.{Outcome}
-use Rattle.bench.specs.Events.{Record, whole, short}
 use Rattle.bench.specs.Steps.{outcome}
 use Rattle.bench.proofs.Bench.step.Reads as of-step
 use Rattle.bench.proofs.Bench.step_short.Reads as of-step-short

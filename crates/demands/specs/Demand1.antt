@@ -13,9 +13,9 @@ use Rattle.rates.specs.Rates.{ratesOf, divisorOf}
 use Rattle.controller.specs.Refusals.{lineAbove}
 use Rattle.controller.specs.Steps.{placed}
 use Rattle.controller.specs.Turns.{outputOf}
+use Rattle.records.specs.Events.{Record}
 use Rattle.bench.specs.declared.Bench.{Bench}
 use Rattle.bench.specs.declared.Outcome.{Outcome}
-use Rattle.bench.specs.Events.{Record}
 use Rattle.bench.specs.Refusals.{grounds}
 use Rattle.bench.specs.Seats.{seat}
 use Rattle.bench.specs.Steps.{outcome}

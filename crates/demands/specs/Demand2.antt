@@ -2,9 +2,9 @@
 use Prim.Native.Nat.{ℕ, suc}
 use mathlib.Core.List.{List, [], _∷_, _++_}
 use mathlib.Core.Path.{_≡_}
+use Rattle.records.specs.Events.{Record}
 use Rattle.bench.specs.declared.Bench.{Bench}
 use Rattle.bench.specs.declared.Outcome.{Outcome}
-use Rattle.bench.specs.Events.{Record}
 use Rattle.bench.specs.Runs.{afterAll, outcomes}
 use Rattle.bench.specs.Steps.{outcome}
 use Rattle.listing.specs.Line.{line}

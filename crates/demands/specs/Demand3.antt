@@ -11,11 +11,11 @@ use Rattle.controller.specs.declared.Controller.{Controller}
 use Rattle.turn.specs.Waiting.{Start, word, MayWrite, paid}
 use Rattle.turn.specs.Demand3.{InTurn}
 use Rattle.seat.specs.Seats.{line}
+use Rattle.records.specs.declared.Event.the-variants.{OfSeat, MasterReset, ReadController, WriteController, Acknowledge}
+use Rattle.records.specs.declared.Decoded.{Decoded}
+use Rattle.records.specs.declared.Decoded.the-variants.{Taken, Refused}
+use Rattle.records.specs.Events.{Record, decoded}
 use Rattle.bench.specs.declared.Bench.{Bench}
-use Rattle.bench.specs.declared.Event.the-variants.{OfSeat, MasterReset, ReadController, WriteController, Acknowledge}
-use Rattle.bench.specs.declared.Decoded.{Decoded}
-use Rattle.bench.specs.declared.Decoded.the-variants.{Taken, Refused}
-use Rattle.bench.specs.Events.{Record, decoded}
 use Rattle.bench.specs.Seats.{seat, powerUp}
 use Rattle.bench.specs.Runs.{afterAll}
 use Rattle.bench.specs.Steps.{outcome}

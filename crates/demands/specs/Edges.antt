@@ -3,7 +3,7 @@ use Prim.Native.Nat.{ℕ}
 use mathlib.Core.List.{List, [], _∷_}
 use mathlib.Core.Path.{_≡_}
 use Rattle.base.specs.Answers.{refusalOf}
-use Rattle.bench.specs.Events.{Record, whole}
+use Rattle.records.specs.Events.{Record, whole}
 use Rattle.bench.specs.Seats.{powerUp}
 use Rattle.bench.specs.Steps.{outcome}
 use Rattle.bench.specs.Runs.{afterAll}

@@ -8,10 +8,9 @@ use Rattle.base.specs.declared.Answer.{Answer}
 use Rattle.controller.specs.Steps.{placed}
 use Rattle.turn.specs.Waiting.{Start}
 use Rattle.turn.specs.Demand3.{NamedBy}
+use Rattle.records.specs.Events.{Record, whole, seatCount}
 use Rattle.bench.specs.declared.Bench.{Bench}
 use Rattle.bench.specs.declared.Outcome.{Outcome}
-use Rattle.bench.specs.Events.{Record, whole}
-use Rattle.bench.specs.Seats.{seatCount}
 use Rattle.bench.specs.Steps.{outcome}
 use Rattle.bench.specs.Wired.{Wired}
 use Rattle.demands.specs.Demand2.{Step, Suffices}

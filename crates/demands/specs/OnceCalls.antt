@@ -11,6 +11,7 @@ use Rattle.lending.proofs as lending
 use Rattle.seat.proofs as seat
 use Rattle.rank.proofs as rank
 use Rattle.controller.proofs as controller
+use Rattle.records.proofs as records
 use Rattle.bench.proofs as bench
 use Rattle.listing.proofs as listing
 use Rattle.lesson.proofs as lesson
@@ -120,6 +121,7 @@ pub record RankOnce (M : Type 1) : Type 2 where
   pub rank·has : Once M rank.has.ended rank.has.clauses rank.has.spec
   pub rank·only : Once M rank.only.ended rank.only.clauses rank.only.spec
   pub rank·without : Once M rank.without.ended rank.without.clauses rank.without.spec
+  pub rank·with-line : Once M rank.with_line.ended rank.with_line.clauses rank.with_line.spec
   pub rank·next : Once M rank.next.ended rank.next.clauses rank.next.spec
   pub rank·place : Once M rank.place.ended rank.place.clauses rank.place.spec
   pub rank·line-at : Once M rank.line_at.ended rank.line_at.clauses rank.line_at.spec
@@ -138,15 +140,18 @@ pub record ControllerOnce (M : Type 1) : Type 2 where
       Once M controller.Controller.acknowledge.ended controller.Controller.acknowledge.clauses controller.Controller.acknowledge.spec
   pub controller·Controller·place : Once M controller.Controller.place.ended controller.Controller.place.clauses controller.Controller.place.spec
 
--- ---- bench: records and the bench
+-- ---- records: a record, on one seat and the controller
+
+pub record RecordsOnce (M : Type 1) : Type 2 where
+  pub records·Decoded·decode : Once M records.Decoded.decode.ended records.Decoded.decode.clauses records.Decoded.decode.spec
+  pub records·Decoded·refusal : Once M records.Decoded.refusal.ended records.Decoded.refusal.clauses records.Decoded.refusal.spec
+  pub records·step-parts : Once M records.step_parts.ended records.step_parts.clauses records.step_parts.spec
+  pub records·short-parts : Once M records.short_parts.ended records.short_parts.clauses records.short_parts.spec
+
+-- ---- bench: the bench
 
 pub record BenchOnce (M : Type 1) : Type 2 where
-  pub bench·Decoded·decode : Once M bench.Decoded.decode.ended bench.Decoded.decode.clauses bench.Decoded.decode.spec
-  pub bench·Decoded·decode-short : Once M bench.Decoded.decode_short.ended bench.Decoded.decode_short.clauses bench.Decoded.decode_short.spec
-  pub bench·Decoded·refusal : Once M bench.Decoded.refusal.ended bench.Decoded.refusal.clauses bench.Decoded.refusal.spec
   pub bench·chair : Once M bench.chair.ended bench.chair.clauses bench.chair.spec
-  pub bench·step-parts : Once M bench.step_parts.ended bench.step_parts.clauses bench.step_parts.spec
-  pub bench·short-parts : Once M bench.short_parts.ended bench.short_parts.clauses bench.short_parts.spec
   pub bench·Bench·power-up : Once M bench.Bench.power_up.ended bench.Bench.power_up.clauses bench.Bench.power_up.spec
   pub bench·Bench·step : Once M bench.Bench.step.ended bench.Bench.step.clauses bench.Bench.step.spec
   pub bench·Bench·step-short : Once M bench.Bench.step_short.ended bench.Bench.step_short.clauses bench.Bench.step_short.spec

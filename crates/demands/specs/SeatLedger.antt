@@ -7,9 +7,9 @@ use lib.ListN.{length}
 use Rattle.receiver.specs.Ledger.{Moment, Subsequence, arrivedIn, lostIn, droppedIn, queued}
 use Rattle.channel.specs.Moments.{toldIn}
 use Rattle.seat.specs.Receiving.{side, befalling, receivesSoundly}
+use Rattle.records.specs.Events.{Record, decoded, seatCount}
 use Rattle.bench.specs.declared.Bench.{Bench}
-use Rattle.bench.specs.Events.{Record, decoded}
-use Rattle.bench.specs.Seats.{seatCount, chair, seat, powerUp}
+use Rattle.bench.specs.Seats.{chair, seat, powerUp}
 use Rattle.bench.specs.Steps.{outcome}
 use Rattle.bench.specs.Runs.{own, afterAll}
 use Rattle.demands.specs.Demand2.{Step, ends}

@@ -11,10 +11,10 @@ use Rattle.rank.specs.Sets.{line}
 use Rattle.turn.specs.Waiting.{Start}
 use Rattle.turn.specs.Demand3.{InTurn}
 use Rattle.seat.specs.Receiving.{oneMore}
+use Rattle.records.specs.Events.{Record, decoded, seatCount}
 use Rattle.bench.specs.declared.Bench.{Bench}
 use Rattle.bench.specs.declared.Outcome.{Outcome}
-use Rattle.bench.specs.Events.{Record, decoded}
-use Rattle.bench.specs.Seats.{seatCount, powerUp, seat, withSeat}
+use Rattle.bench.specs.Seats.{powerUp, seat, withSeat}
 use Rattle.bench.specs.Steps.{shown, outcome}
 use Rattle.bench.specs.Runs.{afterAll}
 use Rattle.demands.specs.Contracts.{Ensured, EnsuredPlace}

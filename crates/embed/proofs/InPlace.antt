@@ -35,8 +35,9 @@ use Rattle.seat.specs.declared.Seat.{Seat}
 use Rattle.seat.specs.Seats.{noSeat}
 use Rattle.seat.proofs.Seat as S
 use Rattle.seat.proofs.Seat.Laws as S′
+use Rattle.records.specs.Events.{seatCount}
 use Rattle.bench.specs.declared.Bench.{Bench}
-use Rattle.bench.specs.Seats.{seatCount, chair, seat, withSeat, withController}
+use Rattle.bench.specs.Seats.{chair, seat, withSeat, withController}
 use Rattle.bench.proofs.Bench as B
 use Rattle.bench.proofs.Bench.Laws as B′
 use Rattle.embed.specs.Bytes.{seatsBytes}

@@ -21,8 +21,8 @@ use Rattle.rank.specs.Sets.{line}
 use Rattle.controller.specs.Turns.{outputOf}
 use Rattle.controller.specs.Steps.{placed}
 use Rattle.controller.specs.LineLaws.{place-told, place-refused}
+use Rattle.records.specs.Events.{Record, whole}
 use Rattle.bench.specs.declared.Bench.{Bench}
-use Rattle.bench.specs.Events.{Record, whole}
 use Rattle.bench.specs.Runs.{afterAll}
 use Rattle.bench.specs.Seats.{powerUp}
 use Rattle.bench.specs.Steps.{outcome}

@@ -1,6 +1,6 @@
 -- The bytes of a bench: one for every number and one for every yes or no, part by part.
 use Prim.Native.Nat.{ℕ, _+_, _*_}
-use Rattle.bench.specs.Seats.{seatCount}
+use Rattle.records.specs.Events.{seatCount}
 
 -- sixteen characters of two bytes, and the count
 abbrev pub queueBytes : ℕ

@@ -6,8 +6,8 @@ use Rattle.base.specs.Bits.{bit, digit}
 use Rattle.base.specs.Answers.{refusalOf, valueOf}
 use Rattle.base.specs.declared.Answer.{Answer}
 use Rattle.controller.specs.Turns.{outputOf}
+use Rattle.records.specs.declared.Touched.{Touched}
 use Rattle.bench.specs.declared.Outcome.{Outcome}
-use Rattle.bench.specs.declared.Touched.{Touched}
 use Rattle.embed.specs.declared.PartsPlayed.{PartsPlayed}
 
 -- "refusal number (0 for none), answer in three hex capitals, output after the event", as one number

@@ -16,8 +16,8 @@ use Rattle.controller.specs.declared.Setup.{Setup}
 use Rattle.controller.specs.declared.Operation.{Operation}
 use Rattle.controller.specs.declared.Controller.{Controller}
 use Rattle.seat.specs.declared.Seat.{Seat}
+use Rattle.records.specs.Events.{seatCount}
 use Rattle.bench.specs.declared.Bench.{Bench}
-use Rattle.bench.specs.Seats.{seatCount}
 
 -- all of these tests hold
 abbrev pub allHold : List Bool → Bool

@@ -26,8 +26,9 @@ use Rattle.controller.specs.declared.Operation.{Operation}
 use Rattle.controller.specs.declared.Controller.{Controller}
 use Rattle.seat.specs.declared.Seat.{Seat}
 use Rattle.seat.specs.Seats as seat
+use Rattle.records.specs.Events.{seatCount}
 use Rattle.bench.specs.declared.Bench.{Bench}
-use Rattle.bench.specs.Seats.{seatCount, powerUp}
+use Rattle.bench.specs.Seats.{powerUp}
 use Rattle.embed.specs.Zeroed.{allHold, nought, eachOf}
 use Rattle.embed.specs.Zeroed.{characterTests, queueTests, settingsTests, receiverTests, transmitterTests, modemTests, channelTests}
 use Rattle.embed.specs.Zeroed.{linesTests, setupTests, operationTests, controllerTests, seatTests, benchTests}

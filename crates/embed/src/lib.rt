@@ -2,8 +2,8 @@
 // A function over a lent bench copies out what its call touches, calls a function by value, stores what came back, and does nothing else.
 use base::Answer;
 use bench::Bench;
-use bench::Decoded;
 use controller::Controller;
+use records::Decoded;
 use seat::Seat;
 ghost use mathlib.Core.Path.{_≡_};
 ghost use mathlib.Core.Bool.{false};
@@ -11,11 +11,12 @@ ghost use Rattle.base.specs.Bits.{digit};
 ghost use Rattle.rates.specs.Rates.{divisorOf};
 ghost use Rattle.controller.specs.Steps.{placed};
 ghost use Rattle.controller.specs.Turns.{outputOf};
-ghost use Rattle.bench.specs.Events.{whole};
+ghost use Rattle.records.specs.Events.{whole};
+ghost use Rattle.records.specs.Parts.{parted};
+ghost use Rattle.records.specs.declared.Event.the-variants.{MasterReset};
 ghost use Rattle.bench.specs.Seats.{powerUp};
-ghost use Rattle.bench.specs.Parts.{parted, partly};
+ghost use Rattle.bench.specs.Parts.{partly};
 ghost use Rattle.bench.specs.Steps.{met, outcome};
-ghost use Rattle.bench.specs.declared.Event.the-variants.{MasterReset};
 ghost use Rattle.embed.specs.Word.{Tells, Told, Parted};
 ghost use Rattle.embed.specs.Bytes.{benchBytes};
 
@@ -68,7 +69,7 @@ fn play_parts(
 ) -> PartsPlayed
     ensures { λ r. ⌜ Parted r (parted seat controller (whole kind n number value)) ⌝ }
 {
-    let t = bench::step_parts(seat, controller, kind, n, number, value);
+    let t = records::step_parts(seat, controller, kind, n, number, value);
     let next = t.seat;
     let moved = t.controller;
     let answer = t.answer;
@@ -133,7 +134,7 @@ fn seat_event(bench: &mut Bench, kind: u8, seat: u8, number: u8, value: u8) -> u
     ensures { λ r. ⌜ (now (bench .exit) ≡ partly (now (bench .entry)) (whole kind seat number value) .bench)
         × Told r (partly (now (bench .entry)) (whole kind seat number value)) ⌝ }
 {
-    let at = seat as usize % bench::SEATS;
+    let at = seat as usize % records::SEATS;
     let held = &mut bench.seats[at];
     let p = play_parts(*held, bench.controller, kind, seat, number, value);
     *held = p.seat;

@@ -7,7 +7,7 @@ use Rattle.base.specs.Pick as base
 use Rattle.base.specs.Answers as answers
 use Rattle.base.specs.Refusals as refusing
 use Rattle.base.specs.declared.Answer.the-variants.{Refused}
-use Rattle.bench.specs.Events.{whole, short}
+use Rattle.records.specs.Events.{whole, short}
 use Rattle.bench.specs.Refusals as refusals
 use Rattle.bench.specs.Runs.{afterAll}
 use Rattle.bench.specs.Seats.{powerUp}

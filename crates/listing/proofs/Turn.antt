@@ -13,7 +13,7 @@ use lib.Seq.{sets, length-sets, take-suc, drop-cons, length-take-le}
 use borrow.Author.Tests.{le-ltb, lt-ltb, le-leb, lt-leb, leb-true, leb-false}
 use Rattle.base.specs.Pick.{pick}
 use Rattle.base.specs.PickLaws.{pick-true, pick-false}
-use Rattle.bench.specs.Events.{Record, short}
+use Rattle.records.specs.Events.{Record, short}
 use Rattle.bench.specs.Runs.{afterAll}
 use Rattle.bench.specs.RunLaws.{after-parts}
 use Rattle.bench.specs.Steps.{outcome}

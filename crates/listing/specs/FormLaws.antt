@@ -14,7 +14,7 @@ use Rattle.base.specs.EveryLaws.{equal-at}
 use Rattle.base.specs.Bits.{digit}
 use Rattle.base.specs.Answers.{refusalOf, valueOf}
 use Rattle.base.specs.declared.Answer.{Answer}
-use Rattle.bench.specs.Events.{Record}
+use Rattle.records.specs.Events.{Record}
 use Rattle.bench.specs.Steps.{outcome}
 use Rattle.bench.specs.declared.Bench.{Bench}
 use Rattle.listing.specs.Line.{numeral, decimal, capital, outputDigit, line}

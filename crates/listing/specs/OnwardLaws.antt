@@ -8,7 +8,7 @@ use native.Mathlib.Nat.{zero-add, suc-add}
 use lib.ListN.{length, take, drop}
 use lib.Seq.{sets-eq, take-append-seam, drop-append-seam, take-nil, length-take-le}
 use Rattle.base.specs.PickLaws.{pick-cases}
-use Rattle.bench.specs.Events.{Record}
+use Rattle.records.specs.Events.{Record}
 use Rattle.bench.specs.Runs.{afterAll}
 use Rattle.bench.specs.Steps.{outcome}
 use Rattle.bench.specs.declared.Bench.{Bench}

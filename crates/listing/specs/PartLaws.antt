@@ -6,7 +6,7 @@ use mathlib.Core.List.{List, [], _∷_, _++_}
 use native.Mathlib.Omega.{arith}
 use lib.ListN.{length, take, drop, take-append-drop}
 use lib.Seq.{length-take-le}
-use Rattle.bench.specs.Events.{Record, whole, short}
+use Rattle.records.specs.Events.{Record, whole, short}
 use Rattle.bench.specs.Runs.{afterAll}
 use Rattle.bench.specs.declared.Bench.{Bench}
 use Rattle.listing.specs.Run.{recordsOf, listing, Runs}

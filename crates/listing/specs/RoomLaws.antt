@@ -11,7 +11,7 @@ use lib.Seq.{sets}
 use borrow.Author.Tests.{lt-ltb, le-leb, lt-leb, leb-true, ltb-true, ltb-false}
 use Rattle.base.specs.PickLaws.{pick-true, pick-false, pick-cases, both-hold, either-way}
 use Rattle.base.specs.declared.Answer.{Answer}
-use Rattle.bench.specs.Events.{Record}
+use Rattle.records.specs.Events.{Record}
 use Rattle.bench.specs.Steps.{outcome}
 use Rattle.bench.specs.declared.Bench.{Bench}
 use Rattle.listing.specs.Line.{line, Puts}

@@ -7,7 +7,7 @@ use lib.Dec.{ltb, leb}
 use lib.ListN.{length, take}
 use lib.Seq.{sets}
 use Rattle.base.specs.Pick.{pick}
-use Rattle.bench.specs.Events.{Record, whole, short}
+use Rattle.records.specs.Events.{Record, whole, short}
 use Rattle.bench.specs.Runs.{afterAll}
 use Rattle.bench.specs.Seats.{powerUp}
 use Rattle.bench.specs.Steps.{outcome}

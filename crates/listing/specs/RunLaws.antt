@@ -11,7 +11,7 @@ use borrow.Author.Tests.{le-ltb, eqb-false}
 use mathlib.Core.Logic.{⊎-elim}
 use Rattle.base.specs.Pick.{pick}
 use Rattle.base.specs.PickLaws.{pick-false, pick-through, either-way}
-use Rattle.bench.specs.Events.{Record, short}
+use Rattle.records.specs.Events.{Record, short}
 use Rattle.bench.specs.Runs.{afterAll}
 use Rattle.bench.specs.Steps.{outcome}
 use Rattle.bench.specs.declared.Bench.{Bench}

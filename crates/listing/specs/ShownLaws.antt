@@ -6,7 +6,7 @@ use mathlib.Core.Path.{_≡_, refl, ap, subst, _∙_}
 use native.Mathlib.Omega.{arith}
 use lib.ListN.{length}
 use Rattle.controller.specs.Turns.{outputOf}
-use Rattle.bench.specs.Events.{Record, whole, short}
+use Rattle.records.specs.Events.{Record, whole, short}
 use Rattle.bench.specs.Runs.{afterAll}
 use Rattle.bench.specs.Steps.{outcome}
 use Rattle.bench.specs.OutcomeLaws.{outcome-output}

@@ -3,14 +3,15 @@ use crate::Ran;
 use crate::lines;
 use crate::numbers;
 use bench::Bench;
-use bench::Decoded;
-use bench::Touched;
 use controller::Controller;
+use records::Decoded;
+use records::Touched;
 use seat::Seat;
 ghost use mathlib.Core.Path.{_≡_};
 ghost use Prim.Native.Nat.{_+_, _-_, _*_, _<_, min};
 ghost use lib.ListN.{length};
-ghost use Rattle.bench.specs.Parts.{parted, seatNamed, resets};
+ghost use Rattle.records.specs.Events.{seatNamed, resets};
+ghost use Rattle.records.specs.Parts.{parted};
 ghost use Rattle.bench.specs.Seats.{chair};
 ghost use Rattle.listing.specs.Run.{Runs, numberEnd};
 ghost use Rattle.listing.specs.Places.{recordAt, recordCount};
@@ -23,9 +24,9 @@ fn parts_at(seat: Seat, controller: Controller, input: &[u8], at: usize) -> Touc
     ensures { λ r. ⌜ r ≡ parted seat controller (recordAt (now (input .entry)) at) ⌝ }
 {
     if input.len() - at < 4 {
-        return bench::short_parts(seat, controller);
+        return records::short_parts(seat, controller);
     }
-    bench::step_parts(
+    records::step_parts(
         seat,
         controller,
         input[at],

@@ -1,7 +1,7 @@
 // Sets of the eight lines, and rank among them. A set is a byte: line n is its bit n. A line is read modulo 8.
 ghost use mathlib.Core.Path.{_≡_};
 ghost use mathlib.Core.Bool.{_&&_};
-ghost use Rattle.rank.specs.Sets.{has, only, without};
+ghost use Rattle.rank.specs.Sets.{has, only, without, withLine};
 ghost use Rattle.rank.specs.Rank.{next, place, lineAt, aboveEvery, firstPlace};
 
 pub const LINES: u8 = 8;
@@ -22,6 +22,16 @@ pub fn without(a: u8, b: u8) -> u8
     ensures { λ r. ⌜ r ≡ without a b ⌝ }
 {
     a ^ (a & b)
+}
+
+pub fn with_line(levels: u8, n: u8, high: bool) -> u8
+    ensures { λ r. ⌜ r ≡ withLine levels n high ⌝ }
+{
+    let one = only(n);
+    if high {
+        return levels | one;
+    }
+    without(levels, one)
 }
 
 pub fn next(n: u8) -> u8

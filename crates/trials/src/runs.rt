@@ -1,8 +1,8 @@
 // A stream over a bench, and the digest of what is seen.
 use base::Answer;
 use bench::Bench;
-use bench::Decoded;
 use controller::Controller;
+use records::Decoded;
 use streams::Stream;
 
 // "for line 8 it is refusal 1 and answer FFF": one line more than there are.
@@ -36,7 +36,7 @@ pub(crate) fn digest(seed: u32, count: u64, set: u8, mut bench: Bench) -> u32 {
         }
         let at = bench::chair(record.seat);
         let seat = bench.seats[at];
-        let touched = bench::step_parts(
+        let touched = records::step_parts(
             seat,
             bench.controller,
             record.kind,

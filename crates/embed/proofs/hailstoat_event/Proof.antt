@@ -35,13 +35,13 @@ use denote.Triple.Table.{entered, cited}
 use denote.Triple.Walked.{says, Stays, gave-ref, stay-none, walkOf, AllGo, goes-none, goes-gave-ref, Walks, ends-at, walked, walk-meets}
 use denote.Triple.Clauses.{ensured, lasts}
 use denote.Exit.{yes}
-use Rattle.bench.specs.Events.{whole as the-record}
+use Rattle.records.specs.Events.{whole as the-record}
+use Rattle.records.specs.declared.Event.the-variants.{MasterReset}
 use Rattle.bench.specs.Steps.{met, outcome}
 use Rattle.bench.specs.Parts.{partly}
 use Rattle.bench.specs.PartLaws.{parted-outcome, reset-outcome}
 use Rattle.bench.specs.declared.Bench.{Bench}
 use Rattle.bench.specs.declared.Outcome.{Outcome}
-use Rattle.bench.specs.declared.Event.the-variants.{MasterReset}
 use Rattle.bench.proofs.Bench as B
 use Rattle.embed.specs.Word.{Told}
 use Rattle.embed.proofs.reset_event as reset

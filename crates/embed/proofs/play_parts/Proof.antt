@@ -1,6 +1,6 @@
 use mathlib.Core.Bool.{Bool}
 use mathlib.Core.Path.{refl, subst}
-use Rattle.bench.specs.declared.Touched.{Touched}
+use Rattle.records.specs.declared.Touched.{Touched}
 use Rattle.embed.specs.Word.{Tells, Parted}
 use borrow.Author.Needs.{needs}
 use Rattle.embed.proofs.play_parts.Statement.{statement}

@@ -38,8 +38,8 @@ use denote.Triple.Table.{entered, cited}
 use denote.Triple.Walked.{says, Stays, stay-ref, stay-none, walkOf, AllGo, goes-none, goes-ref, Walks, ends-at, walked, walk-meets}
 use denote.Triple.Clauses.{ensured, lasts}
 use denote.Exit.{yes}
+use Rattle.records.specs.declared.Event.the-variants.{MasterReset}
 use Rattle.bench.specs.Steps.{met}
-use Rattle.bench.specs.declared.Event.the-variants.{MasterReset}
 use Rattle.bench.specs.declared.Bench.{Bench}
 use Rattle.bench.proofs.Bench as B
 use Rattle.bench.proofs.Bench.Laws as B′

@@ -45,9 +45,9 @@ use Rattle.seat.proofs.Seat.Laws as S′
 use Rattle.controller.specs.declared.Controller.{Controller}
 use Rattle.controller.proofs.Controller as K
 use Rattle.controller.proofs.Controller.Laws as K′
-use Rattle.bench.specs.Events.{whole as the-record}
+use Rattle.records.specs.Events.{whole as the-record}
+use Rattle.records.specs.Parts.{parted}
 use Rattle.bench.specs.Seats.{chair, seat, withSeat, withController}
-use Rattle.bench.specs.Parts.{parted}
 use Rattle.bench.specs.declared.Bench.{Bench}
 use Rattle.bench.proofs.Bench as B
 use Rattle.bench.proofs.Bench.Laws as B′

@@ -1,7 +1,7 @@
 use Prim.Native.Nat.{ℕ}
 use mathlib.Core.Path.{refl, ap, sym, _∙_}
 use borrow.Author.Tests.{ne-eqb}
-use Rattle.bench.specs.Events.{whole}
+use Rattle.records.specs.Events.{whole}
 use Rattle.bench.specs.Steps.{outcome}
 use Rattle.bench.specs.PartLaws.{parts-stored, reset-outcome}
 use borrow.Author.Needs.{needs}

@@ -1,8 +1,8 @@
 use mathlib.Core.Path.{_≡_, refl, ap, sym, _∙_}
 use Rattle.base.specs.Pick.{pick}
 use Rattle.base.specs.Refusals.{firstOf, refusalBy}
-use Rattle.bench.specs.declared.Decoded.the-variants.{Refused}
-use Rattle.bench.specs.Events.{short, early, decoded}
+use Rattle.records.specs.declared.Decoded.the-variants.{Refused}
+use Rattle.records.specs.Events.{short, early, decoded}
 use Rattle.bench.specs.Steps.{dealt}
 use Rattle.bench.specs.MeetLaws.{outcome-dealt}
 use borrow.Author.Needs.{needs}

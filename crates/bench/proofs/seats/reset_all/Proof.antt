@@ -6,7 +6,7 @@ use lib.ListN.{length, getD, set}
 use borrow.Author.Needs.{needs}
 use Rattle.seat.specs.declared.Seat.{Seat}
 use Rattle.seat.specs.Seats.{noSeat, reset}
-use Rattle.bench.specs.Seats.{seatCount}
+use Rattle.records.specs.Events.{seatCount}
 use Rattle.bench.proofs.Resets.{resetFirst, reset-one, reset-whole}
 use Rattle.bench.proofs.seats.reset_all.Statement.{statement}
 use Rattle.bench.proofs.seats.reset_all.Tie as tie

@@ -1,0 +1,6 @@
+pub mod Events
+pub mod Uses
+pub mod Parts
+pub mod EarlyLaws
+pub mod UsesLaws
+pub mod TouchLaws

@@ -1,0 +1,35 @@
+// A record of four bytes, and what it makes of the seat that it names and the controller.
+use base::Answer;
+use controller::Controller;
+use registers::SeatEvent;
+use seat::Seat;
+
+mod events;
+mod parts;
+
+pub use parts::short_parts;
+pub use parts::step_parts;
+
+// The number of seats stands here, and in the definitions as `seatCount`.
+pub const SEATS: usize = 8;
+
+pub enum Event {
+    OfSeat(u8, SeatEvent),
+    MasterReset,
+    ReadController(u8),
+    WriteController(u8, u8),
+    Acknowledge,
+}
+
+// A record, decoded: its event, or the number of the refusal.
+pub enum Decoded {
+    Taken(Event),
+    Refused(u8),
+}
+
+// A record works on these parts alone, but a master reset.
+pub struct Touched {
+    pub seat: Seat,
+    pub controller: Controller,
+    pub answer: Answer,
+}
