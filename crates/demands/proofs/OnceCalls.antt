@@ -51,8 +51,11 @@ registers-once M =
       registers·Settings·changes-mode = value _ refl (λ κ a v w. refl);
       registers·Settings·write = value _ refl (λ κ a v w. refl);
       registers·Settings·cut = value _ refl (λ κ a v w. refl);
+      registers·Settings·shown = value _ refl (λ κ a v w. refl);
+      registers·Settings·wire-answer = value _ refl (λ κ a v w. refl);
       registers·changes-after = value _ refl (λ κ a v w. refl);
       registers·modem-status = value _ refl (λ κ a v w. refl);
+      registers·any-change = value _ refl (λ κ a v w. refl);
       registers·Settings·refusal = value _ refl (λ κ a v w. refl);
     }
 
@@ -64,6 +67,7 @@ receiver-once M =
       receiver·Receiver·receive = value _ refl (λ κ a v w. refl);
       receiver·Receiver·get = value _ refl (λ κ a v w. refl);
       receiver·Receiver·marks = value _ refl (λ κ a v w. refl);
+      receiver·Receiver·trouble = value _ refl (λ κ a v w. refl);
       receiver·Receiver·any-marked = value _ refl (λ κ a v w. refl);
       receiver·Receiver·look = value _ refl (λ κ a v w. refl);
       receiver·Receiver·wait = value _ refl (λ κ a v w. refl);

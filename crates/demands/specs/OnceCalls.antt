@@ -59,8 +59,11 @@ pub record RegistersOnce (M : Type 1) : Type 2 where
   pub registers·Settings·changes-mode : Once M registers.Settings.changes_mode.ended registers.Settings.changes_mode.clauses registers.Settings.changes_mode.spec
   pub registers·Settings·write : Once M registers.Settings.write.ended registers.Settings.write.clauses registers.Settings.write.spec
   pub registers·Settings·cut : Once M registers.Settings.cut.ended registers.Settings.cut.clauses registers.Settings.cut.spec
+  pub registers·Settings·shown : Once M registers.Settings.shown.ended registers.Settings.shown.clauses registers.Settings.shown.spec
+  pub registers·Settings·wire-answer : Once M registers.Settings.wire_answer.ended registers.Settings.wire_answer.clauses registers.Settings.wire_answer.spec
   pub registers·changes-after : Once M registers.changes_after.ended registers.changes_after.clauses registers.changes_after.spec
   pub registers·modem-status : Once M registers.modem_status.ended registers.modem_status.clauses registers.modem_status.spec
+  pub registers·any-change : Once M registers.any_change.ended registers.any_change.clauses registers.any_change.spec
   pub registers·Settings·refusal : Once M registers.Settings.refusal.ended registers.Settings.refusal.clauses registers.Settings.refusal.spec
 
 -- ---- receiver: a receive side
@@ -71,6 +74,7 @@ pub record ReceiverOnce (M : Type 1) : Type 2 where
   pub receiver·Receiver·receive : Once M receiver.Receiver.receive.ended receiver.Receiver.receive.clauses receiver.Receiver.receive.spec
   pub receiver·Receiver·get : Once M receiver.Receiver.get.ended receiver.Receiver.get.clauses receiver.Receiver.get.spec
   pub receiver·Receiver·marks : Once M receiver.Receiver.marks.ended receiver.Receiver.marks.clauses receiver.Receiver.marks.spec
+  pub receiver·Receiver·trouble : Once M receiver.Receiver.trouble.ended receiver.Receiver.trouble.clauses receiver.Receiver.trouble.spec
   pub receiver·Receiver·any-marked : Once M receiver.Receiver.any_marked.ended receiver.Receiver.any_marked.clauses receiver.Receiver.any_marked.spec
   pub receiver·Receiver·look : Once M receiver.Receiver.look.ended receiver.Receiver.look.clauses receiver.Receiver.look.spec
   pub receiver·Receiver·wait : Once M receiver.Receiver.wait.ended receiver.Receiver.wait.clauses receiver.Receiver.wait.spec

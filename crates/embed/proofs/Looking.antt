@@ -32,7 +32,7 @@ Known c = Is K.the-row c (rest-val c ∷ [])
 
 module _ {M : Type 1} (𝓤 : URA M) (H : Heap 𝓤) (A : Atoms 𝓤) (W : Given 𝓤 H A) (h : Bench) (b o : ℕ) (s : Share) where
   -- what stays behind while the controller is out
-  abbrev pub Beside : SProp 𝓤
+  unfoldable pub Beside : SProp 𝓤
   Beside = sep 𝓤 (sem 𝓤 H A (restAt s members 0 (B.the-type .to h) b o 1)) (PartsBack 𝓤 H A s (B.struct .name) members b o)
 
   abbrev cell : Item 𝓤
@@ -40,7 +40,7 @@ module _ {M : Type 1} (𝓤 : URA M) (H : Heap 𝓤) (A : Atoms 𝓤) (W : Given
 
   seen : (vs : List Val) → ent 𝓤 (sep 𝓤 (sem 𝓤 H A (cellAt s (B.the-row .mir) vs b o)) (sem 𝓤 H A (B.the-row .own h vs)))
       (guard 𝓤 (Known (h .controller)) (sep 𝓤 (sem 𝓤 H A (cellAt s (K.the-row .mir) (rest-val (h .controller) ∷ []) b (o + seatsBytes))) Beside))
-  unfolding partOf
+  unfolding partOf Beside
   seen vs =
       qed W (‵ (cellAt s (B.the-row .mir) vs b o) ∷ ‵ (B.the-row .own h vs) ∷ []) ∵ fjoin ! $ fpack ! (List Val) (λ us. fsep (cellAt s (B.the-row .mir) us b o) (B.the-row .own h us)) vs $
       use1 W (‵ (partAt KR s (K.the-type .to (h .controller)) b (o + seatsBytes)) ⊛ raw Beside)
@@ -50,6 +50,7 @@ module _ {M : Type 1} (𝓤 : URA M) (H : Heap 𝓤) (A : Atoms 𝓤) (W : Given
       learn ! (λ is. check ! is $ frame ! $ done !)
 
   unseen : Known (h .controller) → ent 𝓤 (sep 𝓤 (sem 𝓤 H A (cellAt s (K.the-row .mir) (rest-val (h .controller) ∷ []) b (o + seatsBytes))) Beside) (sem 𝓤 H A (partAt B.the-row s h b o))
+  unfolding Beside
   unseen is =
       qed W (cell ∷ raw Beside ∷ []) ∵
       use1 W (‵ (partAt K.the-row s (h .controller) b (o + seatsBytes))) (cell-in 𝓤 H A W s K.the-row (LL.vals K.the-type K′.the-laws) (h .controller) b (o + seatsBytes) ((LL.makes K.the-type K′.the-plain) 𝓤 H A) is) $

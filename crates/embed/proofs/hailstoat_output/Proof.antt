@@ -40,7 +40,7 @@ use Rattle.controller.proofs.Controller as K
 use Rattle.controller.proofs.Controller.Laws as K′
 use Rattle.bench.specs.declared.Bench.{Bench}
 use Rattle.bench.proofs.Bench as B
-use Rattle.embed.proofs.InPlace.{rest-val}
+use Rattle.embed.proofs.InPlace.{rest-val, controller-lies}
 use Rattle.embed.proofs.Looking.{Known, looks-at, looks-away}
 use Rattle.embed.proofs.output_byte as asked
 use Rattle.embed.proofs.output_byte.Symbol as asked-def
@@ -100,7 +100,7 @@ module _ {M : Type 1} (𝓤 : URA M) (H : Heap 𝓤) (A : Atoms 𝓤) (W : Given
         move ! (7 ∷ []) $ fsplit ! $ fsplit3 ! $ drop ! $ move ! (9 ∷ []) $ split ! $ move ! (3 ∷ 0 ∷ []) $
         looks-at W h b o tt (λ s was.
         -- [a share of the controller's cell; what stays behind; what shuts it; the fractured borrow; true; res; true; room for _2; …; _1; …; room for _0; …]
-        assigns ! (of-opd ! (load ! (from ! (hop ! (look ! 9 refl) (fld ! refl (stop !)))) (look-raw ! 0 refl))) (from ! (stop !)) (init ! 7 refl (LL.lawful K.the-type K′.the-laws 𝓤 H A W .typed (h .controller) _ was .0)) $
+        assigns ! (of-opd ! (load ! (from ! (hop ! (look ! 9 refl) (fld ! controller-lies (stop !)))) (look-raw ! 0 refl))) (from ! (stop !)) (init ! 7 refl (LL.lawful K.the-type K′.the-laws 𝓤 H A W .typed (h .controller) _ was .0)) $
         looks-away W h b o tt s was $
         -- [the token; the fractured borrow; true; res; true; _2; …; _1; …; room for _0; …]
         use0 W (raw (Asked 𝓤 H A at-mem run .pre to-asked)) (goes-asked was) $

@@ -41,7 +41,7 @@ use Rattle.controller.proofs.Controller.Laws as K′
 use Rattle.bench.specs.declared.Bench.{Bench}
 use Rattle.bench.proofs.Bench as B
 use Rattle.embed.specs.Word.{Tells}
-use Rattle.embed.proofs.InPlace.{rest-val}
+use Rattle.embed.proofs.InPlace.{rest-val, controller-lies}
 use Rattle.embed.proofs.Looking.{Known, looks-at, looks-away}
 use Rattle.embed.proofs.place_word as asked
 use Rattle.embed.proofs.place_word.Symbol as asked-def
@@ -102,7 +102,7 @@ module _ {M : Type 1} (𝓤 : URA M) (H : Heap 𝓤) (A : Atoms 𝓤) (W : Given
         move ! (9 ∷ []) $ fsplit ! $ fsplit3 ! $ drop ! $ move ! (11 ∷ []) $ split ! $ move ! (3 ∷ 0 ∷ []) $
         looks-at W h b o tt (λ s was.
         -- [a share of the controller's cell; what stays behind; what shuts it; the fractured borrow; true; res; what the line owns; room for _3; …; _2; …; _1; …; room for _0; …]
-        assigns ! (of-opd ! (load ! (from ! (hop ! (look ! 11 refl) (fld ! refl (stop !)))) (look-raw ! 0 refl))) (from ! (stop !)) (init ! 7 refl (LL.lawful K.the-type K′.the-laws 𝓤 H A W .typed (h .controller) _ was .0)) $
+        assigns ! (of-opd ! (load ! (from ! (hop ! (look ! 11 refl) (fld ! controller-lies (stop !)))) (look-raw ! 0 refl))) (from ! (stop !)) (init ! 7 refl (LL.lawful K.the-type K′.the-laws 𝓤 H A W .typed (h .controller) _ was .0)) $
         looks-away W h b o tt s was $
         -- [the token; the fractured borrow; true; res; what the line owns; _3; …; _2; …; _1; …; room for _0; …]
         use0 W (raw (Asked 𝓤 H A at-mem run .pre to-asked)) (goes-asked was) $

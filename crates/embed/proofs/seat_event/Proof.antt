@@ -54,7 +54,7 @@ use Rattle.bench.proofs.Bench.Laws as B′
 use Rattle.embed.specs.Bytes.{seatBytes, seatsBytes}
 use Rattle.embed.specs.Word.{Parted}
 use Rattle.embed.specs.declared.PartsPlayed.{PartsPlayed}
-use Rattle.embed.proofs.InPlace.{seat-place, seat-val, rest-val, cell-out, cell-in, Kept, reaches, comes-back}
+use Rattle.embed.proofs.InPlace.{seat-place, seat-val, rest-val, seats-lie, controller-lies, cell-out, cell-in, Kept, reaches, comes-back}
 use Rattle.embed.proofs.Storing.{bare, found, copied, finds, copies, stores, leaves}
 use Rattle.embed.proofs.PartsPlayed as P
 use Rattle.embed.proofs.PartsPlayed.Laws as P′
@@ -158,7 +158,7 @@ module _ {M : Type 1} (𝓤 : URA M) (H : Heap 𝓤) (A : Atoms 𝓤) (W : Given
     ends l₀ l₁ l₂ l₃ l₄ l₅ l₆ l₇ l₈ l₉ l₁₀ l₁₁ l₁₂ l₁₃ w r is eq =
         land ! (from ! (stop !)) (init ! 16 refl (LL.lawful P.the-type P′.the-laws 𝓤 H A W .typed r _ is .0)) $
         rewrite ! 16 (λ (u : Val). ‵ (fat fullShare P′.mir l₈ 0 u)) (ap only (LL.tells P.the-type P′.the-laws r (w ∷ []) is)) refl $
-        stores W Cs Λ lender holder B′.mir S′.mir K′.mir (P.struct .name) l₀ l₁ l₂ l₃ l₄ l₅ l₆ l₇ l₈ l₉ l₁₀ l₁₁ l₁₂ l₁₃ b o (seat-place o s) k s n v (seat-val (seat h s)) (rest-val (h .controller)) (raw (Kept 𝓤 H A W h s b o)) loan was is-now (seat-val (r .seat)) (rest-val (r .controller)) (r .word) refl
+        stores W Cs Λ lender holder B′.mir S′.mir K′.mir (P.struct .name) l₀ l₁ l₂ l₃ l₄ l₅ l₆ l₇ l₈ l₉ l₁₀ l₁₁ l₁₂ l₁₃ b o (seat-place o s) k s n v (seat-val (seat h s)) (rest-val (h .controller)) (raw (Kept 𝓤 H A W h s b o)) loan was is-now (seat-val (r .seat)) (rest-val (r .controller)) (r .word) controller-lies
         (LL.lawful S.the-type S′.the-laws 𝓤 H A W .typed (r .seat) _ (is-seat r w is) .0) (LL.lawful K.the-type K′.the-laws 𝓤 H A W .typed (r .controller) _ (is-rest r w is) .0) (is-word r w is) $
         use1 W (‵ (partAt K.the-row fullShare (r .controller) b (o + seatsBytes))) (cell-in 𝓤 H A W fullShare K.the-row (LL.vals K.the-type K′.the-laws) (r .controller) b (o + seatsBytes) ((LL.makes K.the-type K′.the-plain) 𝓤 H A) (is-rest r w is)) $ move ! (2 ∷ []) $
         use1 W (‵ (partAt S.the-row fullShare (r .seat) b (seat-place o s))) (cell-in 𝓤 H A W fullShare S.the-row (LL.vals S.the-type S′.the-laws) (r .seat) b (seat-place o s) ((LL.makes S.the-type S′.the-plain) 𝓤 H A) (is-seat r w is)) $
@@ -173,7 +173,7 @@ module _ {M : Type 1} (𝓤 : URA M) (H : Heap 𝓤) (A : Atoms 𝓤) (W : Given
         enter ! Cs Λ code.function (vptr b o ∷ vint w8 k ∷ vint w8 s ∷ vint w8 n ∷ vint w8 v ∷ []) _ $
         alloc1 ! (λ l₀. alloc1 ! (λ l₁. alloc1 ! (λ l₂. alloc1 ! (λ l₃. alloc1 ! (λ l₄. alloc1 ! (λ l₅. alloc1 ! (λ l₆. alloc1 ! (λ l₇. alloc1 ! (λ l₈. alloc1 ! (λ l₉. alloc1 ! (λ l₁₀. alloc1 ! (λ l₁₁. alloc1 ! (λ l₁₂. alloc1 ! (λ l₁₃. alloc0 ! $ params1 ! $ pass1 ! (init ! 24 refl (tt, tt)) $
         pass1 ! (init ! 22 refl (tt, record { fits = fk })) $ pass1 ! (init ! 20 refl (tt, record { fits = fs })) $ pass1 ! (init ! 18 refl (tt, record { fits = fn })) $ pass1 ! (init ! 16 refl (tt, record { fits = fv })) $ pass0 ! $
-        finds W Cs Λ lender holder B′.mir S′.mir K′.mir (P.struct .name) l₀ l₁ l₂ l₃ l₄ l₅ l₆ l₇ l₈ l₉ l₁₀ l₁₁ l₁₂ l₁₃ b o (seat-place o s) k s n v fs (tt, tt) refl (sym (place-is seatBytes (o + 0) (chair s))) $
+        finds W Cs Λ lender holder B′.mir S′.mir K′.mir (P.struct .name) l₀ l₁ l₂ l₃ l₄ l₅ l₆ l₇ l₈ l₉ l₁₀ l₁₁ l₁₂ l₁₃ b o (seat-place o s) k s n v fs (tt, tt) seats-lie (sym (place-is seatBytes (o + 0) (chair s))) $
         -- the loan is opened, and the seat and the controller are taken out where they lie
         move ! (28 ∷ 29 ∷ 30 ∷ []) $ open-ref ! tt (mem B.the-row) {x = h} {b = b} {o = o} $
         use1 W (‵ (partAt S.the-row fullShare (seat h s) b (seat-place o s)) ⊛ (‵ (partAt K.the-row fullShare (h .controller) b (o + seatsBytes)) ⊛ raw (Kept 𝓤 H A W h s b o))) (reaches 𝓤 H A W h s b o) $ split ! $
@@ -181,7 +181,7 @@ module _ {M : Type 1} (𝓤 : URA M) (H : Heap 𝓤) (A : Atoms 𝓤) (W : Given
         move ! (1 ∷ []) $ split ! $
         use1 W (given (Is K.the-row (h .controller) (rest-val (h .controller) ∷ [])) (‵ (fat fullShare (rawTy K′.mir) b (o + seatsBytes) (rest-val (h .controller))))) (cell-out 𝓤 H A W fullShare K.the-row (LL.vals K.the-type K′.the-laws) (h .controller) b (o + seatsBytes) (LL.tells K.the-type K′.the-laws)) $ learn ! (λ is-c.
         -- [the controller's cell; what stays behind; the seat's cell; the open borrow; obs; auth; the locals]
-        copies W Cs Λ lender holder B′.mir S′.mir K′.mir (P.struct .name) l₀ l₁ l₂ l₃ l₄ l₅ l₆ l₇ l₈ l₉ l₁₀ l₁₁ l₁₂ l₁₃ b o (seat-place o s) k s n v (seat-val (seat h s)) (rest-val (h .controller)) (raw (Kept 𝓤 H A W h s b o)) loan was is-now refl
+        copies W Cs Λ lender holder B′.mir S′.mir K′.mir (P.struct .name) l₀ l₁ l₂ l₃ l₄ l₅ l₆ l₇ l₈ l₉ l₁₀ l₁₁ l₁₂ l₁₃ b o (seat-place o s) k s n v (seat-val (seat h s)) (rest-val (h .controller)) (raw (Kept 𝓤 H A W h s b o)) loan was is-now controller-lies
         (LL.lawful S.the-type S′.the-laws 𝓤 H A W .typed (seat h s) _ is-s .0) (LL.lawful K.the-type K′.the-laws 𝓤 H A W .typed (h .controller) _ is-c .0) $
         use0 W (raw (Play 𝓤 H A at-mem run .pre to-play)) (goes-play is-s is-c) $
         calls-at ! fm (Play 𝓤 H A at-mem run) known to-play
