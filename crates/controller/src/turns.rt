@@ -1,6 +1,6 @@
 // Who asks, who hinders, who is next; and what a grant does.
 ghost use mathlib.Core.Path.{_≡_};
-ghost use Rattle.controller.specs.Turns.{requests, hindering, asking, grantablePlace, found, grant, acknowledged};
+ghost use Rattle.controller.specs.Turns.{requests, hindering, asking, found, grant, acknowledged};
 use crate::Controller;
 use crate::Operation;
 use crate::Stepped;
@@ -41,18 +41,6 @@ impl Controller {
         rank::without(self.requests(), self.operation.mask)
     }
 
-    // The place of the first-ranked grantable line, and 8 where there is none.
-    fn grantable_place(self) -> u8
-        ensures { λ r. ⌜ r ≡ grantablePlace self ⌝ }
-    {
-        let o = self.operation;
-        let asks = self.asking();
-        if asks == 0 {
-            return rank::LINES;
-        }
-        rank::first_above(o.first, asks, o.hindering())
-    }
-
     fn grant(mut self, n: u8) -> Controller
         ensures { λ r. ⌜ r ≡ grant self n ⌝ }
     {
@@ -71,7 +59,9 @@ impl Controller {
     pub(crate) fn acknowledged(self) -> Stepped
         ensures { λ r. ⌜ r ≡ acknowledged self ⌝ }
     {
-        let turn = Operation::found(self.operation.first, self.grantable_place());
+        let o = self.operation;
+        let place = rank::first_above(o.first, self.asking(), o.hindering());
+        let turn = Operation::found(o.first, place);
         let base = self.setup.base / 8 * 8;
         match turn {
             Turn::Line(n) => Stepped {

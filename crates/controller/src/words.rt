@@ -1,6 +1,6 @@
 // What the initialisation and operation words do, and what the ports show.
 ghost use mathlib.Core.Path.{_≡_};
-ghost use Rattle.controller.specs.Words.{icw1, ended, madeLast, served, plainEnd, rotatingEnd, command, ocw2, ocw3, written0, written1, written, shown};
+ghost use Rattle.controller.specs.Words.{icw1, ended, madeLast, served, plainEnd, rotatingEnd, ocw2, ocw3, written0, written1, written, shown};
 use crate::Controller;
 use crate::Lines;
 use crate::Operation;
@@ -64,10 +64,12 @@ impl Operation {
         }
     }
 
-    fn command(mut self, k: u8, n: u8) -> Operation
-        ensures { λ r. ⌜ r ≡ command self k n ⌝ }
+    fn ocw2(mut self, byte: u8) -> Operation
+        ensures { λ r. ⌜ r ≡ ocw2 self byte ⌝ }
     {
-        match k {
+        let n = byte % rank::LINES;
+        let command = byte / 32 % 8;
+        match command {
             Operation::END => return self.plain_end(),
             Operation::END_ROTATING => return self.rotating_end(),
             Operation::END_LINE => return self.ended(n),
@@ -83,12 +85,6 @@ impl Operation {
             }
             _ => return self,
         }
-    }
-
-    fn ocw2(self, byte: u8) -> Operation
-        ensures { λ r. ⌜ r ≡ ocw2 self byte ⌝ }
-    {
-        self.command(byte / 32 % 8, byte % rank::LINES)
     }
 
     fn ocw3(mut self, byte: u8) -> Operation
