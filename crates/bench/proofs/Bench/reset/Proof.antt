@@ -9,18 +9,17 @@ use Rattle.seat.specs.declared.Seat.{Seat}
 use Rattle.bench.specs.Refusals.{roomGrounds}
 use Rattle.bench.specs.Steps.{met, roomRefusal, after, answerTo, shown}
 use Rattle.bench.specs.LevelLaws.{reset-silent}
-use borrow.Author.Needs.{needs}
 use Rattle.bench.proofs.Bench.reset.Statement.{statement}
 use Rattle.bench.proofs.Bench.reset.Tie as tie
 
 reset-all-requires : tie.Need-reset-all-requires
-reset-all-requires c κs = search needs
+reset-all-requires c κs = tt
 
 settle-requires : tie.Need-settle-requires
-settle-requires c κs = search needs
+settle-requires c κs = tt
 
 show-requires : tie.Need-show-requires
-show-requires c κs = search needs
+show-requires c κs = tt
 
 returns : tie.Need-returns
 unfolding met roomRefusal roomGrounds refusalBy firstOf pick after answerTo

@@ -9,7 +9,7 @@ use Rattle.bench.proofs.Bench.step.Statement.{statement}
 use Rattle.bench.proofs.Bench.step.Tie as tie
 
 reset-requires : tie.Need-reset-requires
-reset-requires c κs = search needs
+reset-requires c κs = tt
 
 returns : tie.Need-returns
 returns c =
@@ -18,7 +18,7 @@ returns c =
     ∙ sym (ap (λ (k : ℕ). outcome (a .t1) (whole k (a .seat) (a .number) (a .value))) (c .before .if1 .taken) ∙ reset-outcome (a .t1) (a .seat) (a .number) (a .value))
 
 chair-requires : tie.Need-chair-requires
-chair-requires c κs = search needs
+chair-requires c κs = tt
 
 mul-held : tie.Need-mul-held
 mul-held c = search needs
@@ -27,7 +27,7 @@ element-copy-out-held : tie.Need-element-copy-out-held
 element-copy-out-held c = search needs
 
 step-parts-requires : tie.Need-step-parts-requires
-step-parts-requires c κs = search needs
+step-parts-requires c κs = tt
 
 mul-next : tie.Need-mul-next
 mul-next c = search needs
@@ -36,7 +36,7 @@ element-set-from-next : tie.Need-element-set-from-next
 element-set-from-next c = search needs
 
 output-requires : tie.Need-output-requires
-output-requires c κs = search needs
+output-requires c κs = tt
 
 returns-2 : tie.Need-returns-2
 returns-2 c =

@@ -5,12 +5,11 @@ use Rattle.records.specs.declared.Decoded.the-variants.{Refused}
 use Rattle.records.specs.Events.{short, early, decoded}
 use Rattle.bench.specs.Steps.{dealt}
 use Rattle.bench.specs.MeetLaws.{outcome-dealt}
-use borrow.Author.Needs.{needs}
 use Rattle.bench.proofs.Bench.step_short.Statement.{statement}
 use Rattle.bench.proofs.Bench.step_short.Tie as tie
 
 show-requires : tie.Need-show-requires
-show-requires c κs = search needs
+show-requires c κs = tt
 
 decoded-short : decoded short ≡ Refused 4
 unfolding decoded early refusalBy firstOf pick

@@ -27,7 +27,7 @@ array-copy-out-seat : tie.Need-array-copy-out-seat Inv-loop μ-loop
 array-copy-out-seat c = search needs
 
 reset-requires : tie.Need-reset-requires Inv-loop μ-loop
-reset-requires c κs = search needs
+reset-requires c κs = tt
 
 mul-s : tie.Need-mul-s Inv-loop μ-loop
 mul-s c = search needs
