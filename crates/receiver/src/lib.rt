@@ -79,9 +79,12 @@ impl Receiver {
     pub fn marks(self, fifo: bool) -> u8
         ensures { λ r. ⌜ r ≡ shownMarks fifo self ⌝ }
     {
-        let waiting = self.queue;
-        let oldest = waiting.first();
-        base::pick_byte(fifo, oldest.marks, self.kept)
+        if fifo {
+            let waiting = self.queue;
+            let oldest = waiting.first();
+            return oldest.marks;
+        }
+        self.kept
     }
 
     pub fn trouble(self, fifo: bool) -> bool
@@ -169,8 +172,11 @@ impl Receiver {
     pub fn data(self, fifo: bool, trigger: u8) -> bool
         ensures { λ r. ⌜ r ≡ dataStands fifo trigger self ⌝ }
     {
+        if fifo {
+            return trigger <= self.queue.count;
+        }
         let none = self.is_empty();
-        base::pick_flag(fifo, trigger <= self.queue.count, !none)
+        !none
     }
 
     pub fn timed_out(self) -> bool

@@ -1,4 +1,3 @@
-use Rattle.base.specs.PickLaws.{pick-true, pick-false}
 use Rattle.receiver.specs.Receiver.{someMarked}
 use borrow.Author.Needs.{needs}
 use Rattle.receiver.proofs.Receiver.any_marked.Statement.{statement}
@@ -9,11 +8,11 @@ any-marked-requires c κs = search needs
 
 returns : tie.Need-returns
 unfolding someMarked
-returns c = simp (← c .any-marked .ensures, c .before .before .if1 .taken, pick-true, pick-false)
+returns c = simp (← c .any-marked .ensures, c .before .before .if1 .taken)
 
 returns-2 : tie.Need-returns-2
 unfolding someMarked
-returns-2 c = simp (c .if1 .left, pick-true, pick-false)
+returns-2 c = simp (c .if1 .left)
 
 pub any-marked-spec : {M : Type 1} → statement M
 any-marked-spec = tie.close (tie.spec any-marked-requires returns returns-2)

@@ -4,15 +4,16 @@ use borrow.Author.Needs.{needs}
 use Rattle.receiver.proofs.Receiver.data.Statement.{statement}
 use Rattle.receiver.proofs.Receiver.data.Tie as tie
 
+returns : tie.Need-returns
+unfolding dataStands
+returns c = simp (c .before .if1 .taken, pick-true)
+
 is-empty-requires : tie.Need-is-empty-requires
 is-empty-requires c κs = search needs
 
-pick-flag-requires : tie.Need-pick-flag-requires
-pick-flag-requires c κs = search needs
-
-returns : tie.Need-returns
+returns-2 : tie.Need-returns-2
 unfolding dataStands
-returns c = simp (← c .pick-flag .ensures, ← c .before .before .is-empty .ensures, pick-true, pick-false)
+returns-2 c = simp (← c .is-empty .ensures, c .before .if1 .left, pick-false)
 
 pub data-spec : {M : Type 1} → statement M
-data-spec = tie.close (tie.spec is-empty-requires pick-flag-requires returns)
+data-spec = tie.close (tie.spec returns is-empty-requires returns-2)

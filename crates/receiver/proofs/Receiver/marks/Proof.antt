@@ -7,12 +7,13 @@ use Rattle.receiver.proofs.Receiver.marks.Tie as tie
 first-requires : tie.Need-first-requires
 first-requires c κs = search needs
 
-pick-byte-requires : tie.Need-pick-byte-requires
-pick-byte-requires c κs = search needs
-
 returns : tie.Need-returns
 unfolding shownMarks
-returns c = simp (← c .pick-byte .ensures, ← c .before .first .ensures, pick-true, pick-false)
+returns c = simp (← c .first .ensures, c .before .before .if1 .taken, pick-true)
+
+returns-2 : tie.Need-returns-2
+unfolding shownMarks
+returns-2 c = simp (c .if1 .left, pick-false)
 
 pub marks-spec : {M : Type 1} → statement M
-marks-spec = tie.close (tie.spec first-requires pick-byte-requires returns)
+marks-spec = tie.close (tie.spec first-requires returns returns-2)
