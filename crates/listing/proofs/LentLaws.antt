@@ -13,7 +13,7 @@ use denote.Triple.Entry.{Args, Res}
 use denote.Triple.Clauses.{Lasts, atExit}
 use lib.ListN.{length, take, drop}
 use lib.Seq.{sets}
-use Rattle.listing.specs.Line.{line, Puts}
+use Rattle.text.specs.Line.{line, Puts}
 use Rattle.listing.specs.Run.{recordsOf, listing, Runs}
 use Rattle.listing.specs.RoomLaws.{line-put, rest-left}
 use Rattle.listing.specs.OnwardLaws.{run-shown}

@@ -1,4 +1,3 @@
-pub mod Stores
 pub mod Turn
 pub mod Slips
 pub mod LentLaws

@@ -1,31 +1,23 @@
 -- Closed lines and runs: what they show is false under the slips of must-fail/.
 use Prim.Native.Nat.{ℕ}
-use mathlib.Core.Bool.{true, false}
+use mathlib.Core.Bool.{true}
 use mathlib.Core.List.{List, [], _∷_}
 use mathlib.Core.Path.{_≡_, refl}
 use Rattle.base.specs.Pick as base
 use Rattle.base.specs.Answers as answers
 use Rattle.base.specs.Refusals as refusing
-use Rattle.base.specs.declared.Answer.the-variants.{Refused}
-use Rattle.records.specs.Events.{whole, short}
-use Rattle.bench.specs.Refusals as refusals
+use Rattle.records.specs.Events.{whole}
 use Rattle.bench.specs.Runs.{afterAll}
 use Rattle.bench.specs.Seats.{powerUp}
-use Rattle.bench.specs.Steps as steps
 use Rattle.bench.proofs.Slips as bench
-use Rattle.listing.specs.Line.{digitsWithin, decimal, capital, outputDigit, line}
-use Rattle.listing.specs.Run.{lineOf, answered}
+use Rattle.text.specs.Line.{digitsWithin, decimal, capital, outputDigit, line}
+use Rattle.listing.specs.Run.{lineOf}
 use Rattle.listing.specs.Places.{recordCount}
 
 -- the text of a line; it opens what a line is made of
 unfoldable text : List ℕ → List ℕ
 unfolding base.pick answers.refusalOf answers.valueOf refusing.refusalBy refusing.firstOf digitsWithin decimal capital outputDigit line
 text l = l
-
--- "refusal number (0 for none), answer in three hex capitals, output after the event; single spaces": `line-form`; it reads 0 1 FFF 0
-line-of-a-refusal : text (line 0 (Refused 1) false) ≡ 48 ∷ 32 ∷ 49 ∷ 32 ∷ 70 ∷ 70 ∷ 70 ∷ 32 ∷ 48 ∷ 10 ∷ []
-unfolding text
-line-of-a-refusal = refl
 
 -- "output after the event": `line-shown`; seat 2 raises its line, and record 4 reads 4 0 000 1
 output-is-shown :
@@ -38,8 +30,3 @@ output-is-shown = refl
 short-record-counts : recordCount true 7 ≡ 2
 unfolding base.pick recordCount
 short-record-counts = refl
-
--- `line-put`, `answered-most`: 0 4 FFF 0 with the end of its line is ten bytes
-ten-bytes-are-room : answered powerUp 0 (short ∷ []) 10 ≡ 1
-unfolding text answered refusals.refusal refusals.grounds steps.outcome
-ten-bytes-are-room = refl

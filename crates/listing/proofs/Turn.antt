@@ -19,12 +19,12 @@ use Rattle.bench.specs.RunLaws.{after-parts}
 use Rattle.bench.specs.Steps.{outcome}
 use Rattle.bench.specs.declared.Bench.{Bench}
 use Rattle.bench.specs.declared.Outcome.{Outcome}
-use Rattle.listing.specs.Line.{longest, Puts}
-use Rattle.listing.specs.LineLaws.{line-some}
+use Rattle.text.specs.Line.{longest, Puts}
+use Rattle.text.specs.LineLaws.{line-some}
+use Rattle.text.specs.StoreLaws.{sets-append}
 use Rattle.listing.specs.Run.{lineOf, listing, answered, fits, numberEnd, recordsOf, Runs}
 use Rattle.listing.specs.RunLaws.{listing-parts, record-count, record-inside}
 use Rattle.listing.specs.Places.{roomAt, recordCount}
-use Rattle.listing.proofs.Stores.{sets-append}
 
 -- a place that did not move tells that there was no room, and one that moved that there was
 pub no-room : (x : Bool) (place size : ℕ) → 0 < size → pick x (place + size) place ≡ place → x ≡ false

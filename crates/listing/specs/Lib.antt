@@ -1,11 +1,9 @@
-pub mod Line
-pub mod Front
 pub mod Run
 pub mod Places
-pub mod DecimalLaws
-pub mod LineLaws
+pub mod Held
+pub mod Kept
+pub mod KeptLaws
 pub mod RunLaws
-pub mod FormLaws
 pub mod PartLaws
 pub mod ShownLaws
 pub mod RoomLaws

@@ -14,7 +14,7 @@ use Rattle.base.specs.declared.Answer.{Answer}
 use Rattle.records.specs.Events.{Record}
 use Rattle.bench.specs.Steps.{outcome}
 use Rattle.bench.specs.declared.Bench.{Bench}
-use Rattle.listing.specs.Line.{line, Puts}
+use Rattle.text.specs.Line.{line, Puts}
 use Rattle.listing.specs.Run.{recordsOf, lineOf, listing, fits, answered, numberEnd, Runs}
 use Rattle.listing.specs.RunLaws.{record-count, record-inside}
 use Rattle.listing.specs.PartLaws.{records-left}

@@ -12,7 +12,7 @@ use Rattle.bench.specs.Runs.{afterAll}
 use Rattle.bench.specs.Seats.{powerUp}
 use Rattle.bench.specs.Steps.{outcome}
 use Rattle.bench.specs.declared.Bench.{Bench}
-use Rattle.listing.specs.Line.{line, longest}
+use Rattle.text.specs.Line.{line, longest}
 use Rattle.listing.specs.declared.Ran.{Ran}
 
 -- "record of 1 to 3 bytes at the end of input": it is the last, since "It stops after refusal 4."; where the input goes on, its other

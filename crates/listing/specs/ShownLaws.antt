@@ -11,7 +11,7 @@ use Rattle.bench.specs.Runs.{afterAll}
 use Rattle.bench.specs.Steps.{outcome}
 use Rattle.bench.specs.OutcomeLaws.{outcome-output}
 use Rattle.bench.specs.declared.Bench.{Bench}
-use Rattle.listing.specs.FormLaws.{Form, line-form}
+use Rattle.text.specs.FormLaws.{Form, line-form, lineEnds, none-ends, ends-append, form-ends}
 use Rattle.listing.specs.Run.{recordsOf, lineOf, listing, numberEnd}
 use Rattle.listing.specs.RunLaws.{listing-parts}
 
@@ -25,6 +25,14 @@ pub listing-last : (b : Bench) (n : ℕ) (rs : List Record) (r : Record)
 unfolding listing
 listing-last b n rs r =
     listing-parts b n rs (r ∷ []) ∙ ap (λ (l : List ℕ). listing b n rs ++ l) (append-nil (lineOf (afterAll b rs) (n + length rs) r))
+
+-- and no line is missing, or too many
+pub line-each : (b : Bench) (n : ℕ) (rs : List Record) → lineEnds (listing b n rs) ≡ length rs
+unfolding listing
+line-each b n [] = none-ends
+line-each b n (r ∷ rs) =
+    ends-append (lineOf b n r) _
+    ∙ rw (form-ends n _ _ (lineOf b n r) (line-form n _ _), line-each (outcome b r .bench) (suc n) rs) (omega arith)
 
 -- the bytes of some records, one after the other
 abbrev pub bytesOf : List Record → List ℕ

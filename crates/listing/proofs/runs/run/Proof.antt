@@ -1,24 +1,26 @@
-use Prim.Native.Nat.{_+_, _≤_, _<_, _-_, min}
-use mathlib.Core.Path.{_≡_, refl, sym, _∙_}
+use Prim.Native.Nat.{_+_, _≤_, _<_, _-_, _^_, min}
+use mathlib.Core.Path.{_≡_, refl, sym, ap, _∙_}
 use native.Mathlib.Omega.{arith}
 use native.Mathlib.Nat.{add-zero, add-assoc}
 use lib.ListN.{length}
+use Rattle.records.specs.Parts.{parted}
 use Rattle.bench.specs.PartLaws.{resets-met, parts-stored}
-use Rattle.listing.specs.Front.{Stays}
-use Rattle.listing.specs.DecimalLaws.{fronts-stay}
+use Rattle.text.specs.Line.{Puts}
+use Rattle.text.specs.LineLaws.{puts-after}
+use Rattle.listing.specs.Kept.{Stays}
+use Rattle.listing.specs.KeptLaws.{fronts-put, fronts-stay, fronts-count}
 use Rattle.listing.specs.Run.{recordsOf, numberEnd}
 use Rattle.listing.specs.RunLaws.{record-place, record-count}
 use Rattle.listing.proofs.Turn.{Turn, ahead, start, turn, over, finished, stopped}
-use borrow.Author.Needs.{needs}
 use Rattle.listing.proofs.runs.run.Statement.{statement}
 use Rattle.listing.proofs.runs.run.Tie as tie
 
 abbrev Inv-loop : tie.InvT-loop
-Inv-loop n input last out₀ bench₀ count k₀ place₀ text₀ digits₀ out bench k place text digits =
-    (k ≤ count) × Turn bench₀ n (recordsOf last input) out₀ bench out place k × Stays text digits (n + k)
+Inv-loop n input last out₀ bench₀ count k₀ place₀ front₀ digits₀ out bench k place front digits =
+    (k ≤ count) × Turn bench₀ n (recordsOf last input) out₀ bench out place k × Stays front digits (n + k)
 
 abbrev μ-loop : tie.MeasureT-loop
-μ-loop n input last out₀ bench₀ count k₀ place₀ text₀ digits₀ out bench k place text digits = count - k
+μ-loop n input last out₀ bench₀ count k₀ place₀ front₀ digits₀ out bench k place front digits = count - k
 
 record-count-requires : tie.Need-record-count-requires Inv-loop μ-loop
 record-count-requires c κs = tt
@@ -27,30 +29,37 @@ numbered-requires : tie.Need-numbered-requires Inv-loop μ-loop
 numbered-requires c κs = tt
 
 put-front-requires : tie.Need-put-front-requires Inv-loop μ-loop
-put-front-requires c κs = refl
+put-front-requires c κs = tt
 
 loop-holds : tie.Need-loop-holds Inv-loop μ-loop
 loop-holds c =
-    let f = c .put-front .ensures in
+    let small : c .before .before .before .before .before .before .args .n < 10 ^ 20 = omega arith in
+    let f = fronts-put _ _ _ (c .before .before .before .before .before .before .args .n) small refl (c .put-front .ensures .0) (c .put-front .ensures .1) in
     (omega arith, start _ _ _ _, record { size = f .size; fronts = λ within. rw add-zero f })
 
-add-number : tie.Need-add-number Inv-loop μ-loop
-add-number c = let h = ahead (c .before .before .before .before .before .before .before .before .args .last) (c .before .before .before .before .before .before .before .before .args .input .now) _ _ _ _ (c .loop-test .taken) (c .before .before .before .before .numbered .ensures) (c .before .before .before .before .before .record-count .ensures) in omega (arith, h .2)
+add-m : tie.Need-add-m Inv-loop μ-loop
+add-m c = let h = ahead (c .before .before .before .before .before .before .before .before .args .last) (c .before .before .before .before .before .before .before .before .args .input .now) _ _ _ _ (c .loop-test .taken) (c .before .before .before .before .numbered .ensures) (c .before .before .before .before .before .record-count .ensures) in omega (arith, h .2)
 
 keep-front-requires : tie.Need-keep-front-requires Inv-loop μ-loop
 keep-front-requires c κs = c .before .before .loop .inv .2
 
-mul-resets-at : tie.Need-mul-resets-at Inv-loop μ-loop
-mul-resets-at c = let h = ahead (c .before .before .before .before .before .before .before .before .before .before .args .last) (c .before .before .before .before .before .before .before .before .before .before .args .input .now) _ _ _ _ (c .before .before .loop-test .taken) (c .before .before .before .before .before .before .numbered .ensures) (c .before .before .before .before .before .before .before .record-count .ensures) in omega (arith, h .1)
+mul-record-at : tie.Need-mul-record-at Inv-loop μ-loop
+mul-record-at c = let h = ahead (c .before .before .before .before .before .before .before .before .before .before .args .last) (c .before .before .before .before .before .before .before .before .before .before .args .input .now) _ _ _ _ (c .before .before .loop-test .taken) (c .before .before .before .before .before .before .numbered .ensures) (c .before .before .before .before .before .before .before .record-count .ensures) in omega (arith, h .1)
 
-resets-at-requires : tie.Need-resets-at-requires Inv-loop μ-loop
-resets-at-requires c κs = let h = ahead (c .before .before .before .before .before .before .before .before .before .before .args .last) (c .before .before .before .before .before .before .before .before .before .before .args .input .now) _ _ _ _ (c .before .before .loop-test .taken) (c .before .before .before .before .before .before .numbered .ensures) (c .before .before .before .before .before .before .before .record-count .ensures) in h .1
+record-at-requires : tie.Need-record-at-requires Inv-loop μ-loop
+record-at-requires c κs = let h = ahead (c .before .before .before .before .before .before .before .before .before .before .args .last) (c .before .before .before .before .before .before .before .before .before .before .args .input .now) _ _ _ _ (c .before .before .loop-test .taken) (c .before .before .before .before .before .before .numbered .ensures) (c .before .before .before .before .before .before .before .record-count .ensures) in h .1
 
 reset-requires : tie.Need-reset-requires Inv-loop μ-loop
 reset-requires c κs = tt
 
-put-numbered-requires : tie.Need-put-numbered-requires Inv-loop μ-loop
-put-numbered-requires c κs = c .before .before .before .before .before .keep-front .ensures
+array-share-prefix-front : tie.Need-array-share-prefix-front Inv-loop μ-loop
+array-share-prefix-front c = c .before .before .before .before .keep-front .ensures .inside
+
+slice-aggregate-put-after : tie.Need-slice-aggregate-put-after Inv-loop μ-loop
+slice-aggregate-put-after c = fronts-count _ _ _ (c .before .before .before .before .before .keep-front .ensures)
+
+put-after-requires : tie.Need-put-after-requires Inv-loop μ-loop
+put-after-requires c κs = tt
 
 ran-requires : tie.Need-ran-requires Inv-loop μ-loop
 ran-requires c κs = tt
@@ -63,11 +72,14 @@ returns c =
     let a = c .before .before .before .before .before .before .before .before .before .before .before .before .before .before .before .before .before .before .before .before .args in
     let i = c .before .before .before .before .before .before .before .before .before .before .before .before .before .loop in
     let h = ahead (a .last) (a .input .now) _ _ _ _ (c .before .before .before .before .before .before .before .before .before .before .before .before .loop-test .taken) (c .before .before .before .before .before .before .before .before .before .before .before .before .before .before .before .before .numbered .ensures) (c .before .before .before .before .before .before .before .before .before .before .before .before .before .before .before .before .before .record-count .ensures) in
+    let held = c .before .before .before .before .before .before .before .before .before .record-at .ensures in
+    let small : a .n + i .k < 10 ^ 20 = omega (arith, h .2) in
+    let put : Puts (a .n + i .k) _ _ _ _ _ _ = puts-after _ _ _ _ _ _ _ _ (c .before .before .before .before .before .before .before .before .before .before .keep-front .ensures .shown) small (c .before .before .before .before .put-after .ensures) in
     rw (c .ran .ensures)
-    (stopped _ _ _ _ _ _ _ _ _ _ _ _ _ (c .before .before .before .before .before .before .before .reset .ensures ∙ resets-met (i .bench) _ (sym (c .before .before .before .before .before .before .before .before .before .resets-at .ensures) ∙ c .before .before .before .before .before .before .before .before .if1 .taken)) (i .inv .1) (c .before .before .before .before .put-numbered .ensures) (h .0) (record-place (a .last) (a .input .now) (i .k) (h .0)) (c .before .if2 .taken))
+    (stopped _ _ _ _ _ _ _ _ _ _ _ _ _ (c .before .before .before .before .before .before .before .reset .ensures ∙ resets-met (i .bench) _ (sym (held .reset) ∙ c .before .before .before .before .before .before .before .before .if1 .taken)) (i .inv .1) put (h .0) (record-place (a .last) (a .input .now) (i .k) (h .0)) (c .before .if2 .taken))
 
 add-k : tie.Need-add-k Inv-loop μ-loop
-add-k c = omega (arith, c .before .before .before .before .before .before .before .before .before .before .before .before .loop-test .taken)
+add-k c = let h = ahead (c .before .before .before .before .before .before .before .before .before .before .before .before .before .before .before .before .before .before .before .before .args .last) (c .before .before .before .before .before .before .before .before .before .before .before .before .before .before .before .before .before .before .before .before .args .input .now) _ _ _ _ (c .before .before .before .before .before .before .before .before .before .before .before .before .loop-test .taken) (c .before .before .before .before .before .before .before .before .before .before .before .before .before .before .before .before .numbered .ensures) (c .before .before .before .before .before .before .before .before .before .before .before .before .before .before .before .before .before .record-count .ensures) in omega (arith, h .1, c .before .before .before .before .before .before .before .before .before .before .before .before .before .before .before .before .before .before .before .before .good .1 .1 .0 .0)
 
 loop-less : tie.Need-loop-less Inv-loop μ-loop
 loop-less c = omega (arith, c .before .before .before .before .before .before .before .before .before .before .before .before .loop-test .taken)
@@ -77,71 +89,75 @@ loop-again c =
     let a = c .before .before .before .before .before .before .before .before .before .before .before .before .before .before .before .before .before .before .before .before .args in
     let i = c .before .before .before .before .before .before .before .before .before .before .before .before .before .loop in
     let h = ahead (a .last) (a .input .now) _ _ _ _ (c .before .before .before .before .before .before .before .before .before .before .before .before .loop-test .taken) (c .before .before .before .before .before .before .before .before .before .before .before .before .before .before .before .before .numbered .ensures) (c .before .before .before .before .before .before .before .before .before .before .before .before .before .before .before .before .before .record-count .ensures) in
-    let kept-front = c .before .before .before .before .before .before .before .before .before .before .keep-front in (
+    let held = c .before .before .before .before .before .before .before .before .before .record-at .ensures in
+    let small : a .n + i .k < 10 ^ 20 = omega (arith, h .2) in
+    let put : Puts (a .n + i .k) _ _ _ _ _ _ = puts-after _ _ _ _ _ _ _ _ (c .before .before .before .before .before .before .before .before .before .before .keep-front .ensures .shown) small (c .before .before .before .before .put-after .ensures) in (
       omega (arith, c .before .before .before .before .before .before .before .before .before .before .before .before .loop-test .taken),
-      turn _ _ _ _ _ _ _ _ _ _ _ _ (c .before .before .before .before .before .before .before .reset .ensures ∙ resets-met (i .bench) _ (sym (c .before .before .before .before .before .before .before .before .before .resets-at .ensures) ∙ c .before .before .before .before .before .before .before .before .if1 .taken)) (i .inv .1) (c .before .before .before .before .put-numbered .ensures) (h .0) (record-place (a .last) (a .input .now) (i .k) (h .0)) (c .before .if2 .left) (h .2),
-      rw (← add-assoc (a .n) (i .k) 1) (fronts-stay _ _ _ (kept-front .ensures)),
+      turn _ _ _ _ _ _ _ _ _ _ _ _ (c .before .before .before .before .before .before .before .reset .ensures ∙ resets-met (i .bench) _ (sym (held .reset) ∙ c .before .before .before .before .before .before .before .before .if1 .taken)) (i .inv .1) put (h .0) (record-place (a .last) (a .input .now) (i .k) (h .0)) (c .before .if2 .left) (h .2),
+      rw (← add-assoc (a .n) (i .k) 1) (fronts-stay _ _ _ (c .before .before .before .before .before .before .before .before .before .before .keep-front .ensures)),
     )
 
-mul-chair-at : tie.Need-mul-chair-at Inv-loop μ-loop
-mul-chair-at c = let h = ahead (c .before .before .before .before .before .before .before .before .before .before .before .before .args .last) (c .before .before .before .before .before .before .before .before .before .before .before .before .args .input .now) _ _ _ _ (c .before .before .before .before .loop-test .taken) (c .before .before .before .before .before .before .before .before .numbered .ensures) (c .before .before .before .before .before .before .before .before .before .record-count .ensures) in omega (arith, h .1)
+mul-meet : tie.Need-mul-meet Inv-loop μ-loop
+mul-meet c = omega (arith, c .before .record-at .ensures .at)
 
-chair-at-requires : tie.Need-chair-at-requires Inv-loop μ-loop
-chair-at-requires c κs = let h = ahead (c .before .before .before .before .before .before .before .before .before .before .before .before .args .last) (c .before .before .before .before .before .before .before .before .before .before .before .before .args .input .now) _ _ _ _ (c .before .before .before .before .loop-test .taken) (c .before .before .before .before .before .before .before .before .numbered .ensures) (c .before .before .before .before .before .before .before .before .before .record-count .ensures) in h .1
+element-copy-out-meet : tie.Need-element-copy-out-meet Inv-loop μ-loop
+element-copy-out-meet c = omega (arith, c .before .record-at .ensures .at)
 
-mul-seat : tie.Need-mul-seat Inv-loop μ-loop
-mul-seat c = search needs
+meet-requires : tie.Need-meet-requires Inv-loop μ-loop
+meet-requires c κs = tt
 
-element-copy-out-seat : tie.Need-element-copy-out-seat Inv-loop μ-loop
-element-copy-out-seat c = search needs
+array-share-prefix-front-2 : tie.Need-array-share-prefix-front-2 Inv-loop μ-loop
+array-share-prefix-front-2 c = c .before .before .before .before .before .before .before .keep-front .ensures .inside
 
-mul-parts-at : tie.Need-mul-parts-at Inv-loop μ-loop
-mul-parts-at c = let h = ahead (c .before .before .before .before .before .before .before .before .before .before .before .before .before .before .before .args .last) (c .before .before .before .before .before .before .before .before .before .before .before .before .before .before .before .args .input .now) _ _ _ _ (c .before .before .before .before .before .before .before .loop-test .taken) (c .before .before .before .before .before .before .before .before .before .before .before .numbered .ensures) (c .before .before .before .before .before .before .before .before .before .before .before .before .record-count .ensures) in omega (arith, h .1)
-
-parts-at-requires : tie.Need-parts-at-requires Inv-loop μ-loop
-parts-at-requires c κs = let h = ahead (c .before .before .before .before .before .before .before .before .before .before .before .before .before .before .before .args .last) (c .before .before .before .before .before .before .before .before .before .before .before .before .before .before .before .args .input .now) _ _ _ _ (c .before .before .before .before .before .before .before .loop-test .taken) (c .before .before .before .before .before .before .before .before .before .before .before .numbered .ensures) (c .before .before .before .before .before .before .before .before .before .before .before .before .record-count .ensures) in h .1
+slice-aggregate-put-after-2 : tie.Need-slice-aggregate-put-after-2 Inv-loop μ-loop
+slice-aggregate-put-after-2 c = fronts-count _ _ _ (c .before .before .before .before .before .before .before .before .keep-front .ensures)
 
 output-requires : tie.Need-output-requires Inv-loop μ-loop
 output-requires c κs = tt
 
-put-numbered-requires-2 : tie.Need-put-numbered-requires-2 Inv-loop μ-loop
-put-numbered-requires-2 c κs = c .before .before .before .before .before .before .before .before .before .before .keep-front .ensures
+put-after-requires-2 : tie.Need-put-after-requires-2 Inv-loop μ-loop
+put-after-requires-2 c κs = tt
 
 ran-requires-2 : tie.Need-ran-requires-2 Inv-loop μ-loop
 ran-requires-2 c κs = tt
 
 same-length-2 : tie.Need-same-length-2 Inv-loop μ-loop
-same-length-2 c = omega (arith, c .before .before .before .before .before .before .before .before .before .before .before .before .before .before .before .before .before .before .loop .inv .1 .same, c .before .before .before .out2 .given)
+same-length-2 c = omega (arith, c .before .before .before .before .before .before .before .before .before .before .before .before .before .before .before .before .before .loop .inv .1 .same, c .before .before .before .out2 .given)
 
 returns-2 : tie.Need-returns-2 Inv-loop μ-loop
 returns-2 c =
-    let a = c .before .before .before .before .before .before .before .before .before .before .before .before .before .before .before .before .before .before .before .before .before .before .before .before .before .args in
-    let i = c .before .before .before .before .before .before .before .before .before .before .before .before .before .before .before .before .before .before .loop in
-    let h = ahead (a .last) (a .input .now) _ _ _ _ (c .before .before .before .before .before .before .before .before .before .before .before .before .before .before .before .before .before .loop-test .taken) (c .before .before .before .before .before .before .before .before .before .before .before .before .before .before .before .before .before .before .before .before .before .numbered .ensures) (c .before .before .before .before .before .before .before .before .before .before .before .before .before .before .before .before .before .before .before .before .before .before .record-count .ensures) in
+    let a = c .before .before .before .before .before .before .before .before .before .before .before .before .before .before .before .before .before .before .before .before .before .before .before .before .args in
+    let i = c .before .before .before .before .before .before .before .before .before .before .before .before .before .before .before .before .before .loop in
+    let h = ahead (a .last) (a .input .now) _ _ _ _ (c .before .before .before .before .before .before .before .before .before .before .before .before .before .before .before .before .loop-test .taken) (c .before .before .before .before .before .before .before .before .before .before .before .before .before .before .before .before .before .before .before .before .numbered .ensures) (c .before .before .before .before .before .before .before .before .before .before .before .before .before .before .before .before .before .before .before .before .before .record-count .ensures) in
+    let held = c .before .before .before .before .before .before .before .before .before .before .before .before .before .record-at .ensures in
+    let small : a .n + i .k < 10 ^ 20 = omega (arith, h .2) in
+    let put : Puts (a .n + i .k) _ _ _ _ _ _ = puts-after _ _ _ _ _ _ _ _ (c .before .before .before .before .before .before .before .before .before .before .before .before .before .before .keep-front .ensures .shown) small (c .before .before .before .before .put-after2 .ensures) in
     rw (c .ran2 .ensures)
-    (stopped _ _ _ _ _ _ _ _ _ _ _ _ _ (parts-stored (i .bench) _ _ _ _ _ refl (c .before .before .before .before .before .before .before .before .before .before .before .before .chair-at .ensures) (c .before .before .before .before .before .before .before .before .before .parts-at .ensures) (c .before .before .before .before .before .output .ensures) (sym (c .before .before .before .before .before .before .before .before .before .before .before .before .before .before .resets-at .ensures) ∙ c .before .before .before .before .before .before .before .before .before .before .before .before .before .if1 .left)) (i .inv .1) (c .before .before .before .before .put-numbered2 .ensures) (h .0) (record-place (a .last) (a .input .now) (i .k) (h .0)) (c .before .if3 .taken))
+    (stopped _ _ _ _ _ _ _ _ _ _ _ _ _ (parts-stored (i .bench) _ _ _ _ _ refl (held .at) (c .before .before .before .before .before .before .before .before .before .meet .ensures ∙ ap (parted _ _) (held .is)) (c .before .before .before .before .before .output .ensures) (sym (held .reset) ∙ c .before .before .before .before .before .before .before .before .before .before .before .before .if1 .left)) (i .inv .1) put (h .0) (record-place (a .last) (a .input .now) (i .k) (h .0)) (c .before .if3 .taken))
 
 mul-stood : tie.Need-mul-stood Inv-loop μ-loop
-mul-stood c = search needs
+mul-stood c = omega (arith, c .before .before .before .before .before .before .before .before .before .before .before .before .before .record-at .ensures .at)
 
 element-set-from-stood : tie.Need-element-set-from-stood Inv-loop μ-loop
-element-set-from-stood c = search needs
+element-set-from-stood c = omega (arith, c .before .before .before .before .before .before .before .before .before .before .before .before .before .record-at .ensures .at)
 
 add-k-2 : tie.Need-add-k-2 Inv-loop μ-loop
-add-k-2 c = let h = ahead (c .before .before .before .before .before .before .before .before .before .before .before .before .before .before .before .before .before .before .before .before .before .before .before .before .before .args .last) (c .before .before .before .before .before .before .before .before .before .before .before .before .before .before .before .before .before .before .before .before .before .before .before .before .before .args .input .now) _ _ _ _ (c .before .before .before .before .before .before .before .before .before .before .before .before .before .before .before .before .before .loop-test .taken) (c .before .before .before .before .before .before .before .before .before .before .before .before .before .before .before .before .before .before .before .before .before .numbered .ensures) (c .before .before .before .before .before .before .before .before .before .before .before .before .before .before .before .before .before .before .before .before .before .before .record-count .ensures) in omega (arith, h .1, c .before .before .before .before .before .before .before .before .before .before .before .before .before .before .before .before .before .before .before .before .before .before .before .before .before .good .1 .1 .0 .0)
+add-k-2 c = let h = ahead (c .before .before .before .before .before .before .before .before .before .before .before .before .before .before .before .before .before .before .before .before .before .before .before .before .args .last) (c .before .before .before .before .before .before .before .before .before .before .before .before .before .before .before .before .before .before .before .before .before .before .before .before .args .input .now) _ _ _ _ (c .before .before .before .before .before .before .before .before .before .before .before .before .before .before .before .before .loop-test .taken) (c .before .before .before .before .before .before .before .before .before .before .before .before .before .before .before .before .before .before .before .before .numbered .ensures) (c .before .before .before .before .before .before .before .before .before .before .before .before .before .before .before .before .before .before .before .before .before .record-count .ensures) in omega (arith, h .1, c .before .before .before .before .before .before .before .before .before .before .before .before .before .before .before .before .before .before .before .before .before .before .before .before .good .1 .1 .0 .0)
 
 loop-less-2 : tie.Need-loop-less-2 Inv-loop μ-loop
-loop-less-2 c = omega (arith, c .before .before .before .before .before .before .before .before .before .before .before .before .before .before .before .before .before .loop-test .taken)
+loop-less-2 c = omega (arith, c .before .before .before .before .before .before .before .before .before .before .before .before .before .before .before .before .loop-test .taken)
 
 loop-again-2 : tie.Need-loop-again-2 Inv-loop μ-loop
 loop-again-2 c =
-    let a = c .before .before .before .before .before .before .before .before .before .before .before .before .before .before .before .before .before .before .before .before .before .before .before .before .before .args in
-    let i = c .before .before .before .before .before .before .before .before .before .before .before .before .before .before .before .before .before .before .loop in
-    let h = ahead (a .last) (a .input .now) _ _ _ _ (c .before .before .before .before .before .before .before .before .before .before .before .before .before .before .before .before .before .loop-test .taken) (c .before .before .before .before .before .before .before .before .before .before .before .before .before .before .before .before .before .before .before .before .before .numbered .ensures) (c .before .before .before .before .before .before .before .before .before .before .before .before .before .before .before .before .before .before .before .before .before .before .record-count .ensures) in
-    let kept-front = c .before .before .before .before .before .before .before .before .before .before .before .before .before .before .before .keep-front in (
-      omega (arith, c .before .before .before .before .before .before .before .before .before .before .before .before .before .before .before .before .before .loop-test .taken),
-      turn _ _ _ _ _ _ _ _ _ _ _ _ (parts-stored (i .bench) _ _ _ _ _ refl (c .before .before .before .before .before .before .before .before .before .before .before .before .chair-at .ensures) (c .before .before .before .before .before .before .before .before .before .parts-at .ensures) (c .before .before .before .before .before .output .ensures) (sym (c .before .before .before .before .before .before .before .before .before .before .before .before .before .before .resets-at .ensures) ∙ c .before .before .before .before .before .before .before .before .before .before .before .before .before .if1 .left)) (i .inv .1) (c .before .before .before .before .put-numbered2 .ensures) (h .0) (record-place (a .last) (a .input .now) (i .k) (h .0)) (c .before .if3 .left) (h .2),
-      rw (← add-assoc (a .n) (i .k) 1) (fronts-stay _ _ _ (kept-front .ensures)),
+    let a = c .before .before .before .before .before .before .before .before .before .before .before .before .before .before .before .before .before .before .before .before .before .before .before .before .args in
+    let i = c .before .before .before .before .before .before .before .before .before .before .before .before .before .before .before .before .before .loop in
+    let h = ahead (a .last) (a .input .now) _ _ _ _ (c .before .before .before .before .before .before .before .before .before .before .before .before .before .before .before .before .loop-test .taken) (c .before .before .before .before .before .before .before .before .before .before .before .before .before .before .before .before .before .before .before .before .numbered .ensures) (c .before .before .before .before .before .before .before .before .before .before .before .before .before .before .before .before .before .before .before .before .before .record-count .ensures) in
+    let held = c .before .before .before .before .before .before .before .before .before .before .before .before .before .record-at .ensures in
+    let small : a .n + i .k < 10 ^ 20 = omega (arith, h .2) in
+    let put : Puts (a .n + i .k) _ _ _ _ _ _ = puts-after _ _ _ _ _ _ _ _ (c .before .before .before .before .before .before .before .before .before .before .before .before .before .before .keep-front .ensures .shown) small (c .before .before .before .before .put-after2 .ensures) in (
+      omega (arith, c .before .before .before .before .before .before .before .before .before .before .before .before .before .before .before .before .loop-test .taken),
+      turn _ _ _ _ _ _ _ _ _ _ _ _ (parts-stored (i .bench) _ _ _ _ _ refl (held .at) (c .before .before .before .before .before .before .before .before .before .meet .ensures ∙ ap (parted _ _) (held .is)) (c .before .before .before .before .before .output .ensures) (sym (held .reset) ∙ c .before .before .before .before .before .before .before .before .before .before .before .before .if1 .left)) (i .inv .1) put (h .0) (record-place (a .last) (a .input .now) (i .k) (h .0)) (c .before .if3 .left) (h .2),
+      rw (← add-assoc (a .n) (i .k) 1) (fronts-stay _ _ _ (c .before .before .before .before .before .before .before .before .before .before .before .before .before .before .keep-front .ensures)),
     )
 
 ran-requires-3 : tie.Need-ran-requires-3 Inv-loop μ-loop
@@ -167,26 +183,27 @@ run-spec =
     numbered-requires
     put-front-requires
     loop-holds
-    add-number
+    add-m
     keep-front-requires
-    mul-resets-at
-    resets-at-requires
+    mul-record-at
+    record-at-requires
     reset-requires
-    put-numbered-requires
+    array-share-prefix-front
+    slice-aggregate-put-after
+    put-after-requires
     ran-requires
     same-length
     returns
     add-k
     loop-less
     loop-again
-    mul-chair-at
-    chair-at-requires
-    mul-seat
-    element-copy-out-seat
-    mul-parts-at
-    parts-at-requires
+    mul-meet
+    element-copy-out-meet
+    meet-requires
+    array-share-prefix-front-2
+    slice-aggregate-put-after-2
     output-requires
-    put-numbered-requires-2
+    put-after-requires-2
     ran-requires-2
     same-length-2
     returns-2

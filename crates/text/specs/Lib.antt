@@ -1,0 +1,6 @@
+pub mod Line
+pub mod Front
+pub mod StoreLaws
+pub mod DecimalLaws
+pub mod LineLaws
+pub mod FormLaws

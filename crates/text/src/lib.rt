@@ -1,0 +1,6 @@
+// One line of the listing as text, put into a lent buffer.
+mod lines;
+mod numbers;
+
+pub use lines::put_after;
+pub use numbers::put_front;
