@@ -165,6 +165,8 @@ bench-once M =
 pub listing-once : (M : Type 1) → ListingOnce M
 listing-once M =
     record {
+      text·put-front = told _ refl (λ κ a r s v w p q. (p .0 ∙ sym (q .0), λ i. ((p .1 ∙ sym (q .1)) i, (tt, tt))));
+      text·put-after = told _ refl (λ κ a r s v w p q. (p .next ∙ sym (q .next), λ i. ((p .bytes ∙ sym (q .bytes)) i, (tt, (tt, (tt, (tt, (tt, tt))))))));
       listing·put-line = told _ refl (λ κ a r s v w p q. (p .next ∙ sym (q .next), λ i. ((p .bytes ∙ sym (q .bytes)) i, (tt, (tt, (tt, (tt, tt)))))));
       listing·run = told _ refl (λ κ a r s v w p q.
           let same = runs-one _ _ _ _ _ _ _ _ _ p q in

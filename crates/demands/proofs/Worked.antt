@@ -1,7 +1,7 @@
 -- The worked example, by computation over the definitions.
 use mathlib.Core.Path.{refl}
 use Rattle.listing.specs.Run as listing-run
-use Rattle.listing.specs.Line as listing-line
+use Rattle.text.specs.Line as listing-line
 use Rattle.demands.specs.Worked.{Worked}
 use Rattle.demands.proofs.Opened.{laid-open}
 

@@ -13,6 +13,7 @@ use Rattle.rank.proofs as rank
 use Rattle.controller.proofs as controller
 use Rattle.records.proofs as records
 use Rattle.bench.proofs as bench
+use Rattle.text.proofs as text
 use Rattle.listing.proofs as listing
 use Rattle.lesson.proofs as lesson
 use Rattle.streams.proofs as streams
@@ -163,9 +164,11 @@ pub record BenchOnce (M : Type 1) : Type 2 where
   pub bench·Bench·place : Once M bench.Bench.place.ended bench.Bench.place.clauses bench.Bench.place.spec
   pub bench·Bench·output : Once M bench.Bench.output.ended bench.Bench.output.clauses bench.Bench.output.spec
 
--- ---- listing: a line and a run, each with the buffer that is lent back
+-- ---- text and listing: a line and a run, each with the buffer that is lent back
 
 pub record ListingOnce (M : Type 1) : Type 2 where
+  pub text·put-front : Once M text.put_front.ended text.put_front.clauses text.put_front.spec
+  pub text·put-after : Once M text.put_after.ended text.put_after.clauses text.put_after.spec
   pub listing·put-line : Once M listing.put_line.ended listing.put_line.clauses listing.put_line.spec
   pub listing·run : Once M listing.run.ended listing.run.clauses listing.run.spec
 

@@ -4,7 +4,7 @@ use Rattle.base.specs.Pick.{pick}
 use Rattle.records.specs.Events.{Record, whole, short}
 use Rattle.records.specs.Events.{seatNamed, resets}
 use Rattle.bench.specs.Seats.{chair}
-use Rattle.listing.specs.declared.records.Held.{Held}
+use Rattle.listing.specs.declared.held.Held.{Held}
 
 -- the record that it holds
 unfoldable pub heldRecord : Held → Record
