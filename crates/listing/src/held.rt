@@ -1,7 +1,7 @@
 // The records where they stand in the input, and each on the parts that it touches.
+use controller::Controller;
 use records::Decoded;
 use records::Touched;
-use controller::Controller;
 use seat::Seat;
 ghost use mathlib.Core.Path.{_≡_};
 ghost use Prim.Native.Nat.{_<_};

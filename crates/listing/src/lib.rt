@@ -1,6 +1,6 @@
 // Records in, lines out: the listing of a run of records, byte for byte.
-mod lines;
 mod held;
+mod lines;
 mod runs;
 
 use bench::Bench;
