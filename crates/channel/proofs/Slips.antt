@@ -9,7 +9,7 @@ use Rattle.base.specs.Refusals.{firstOf, refusalBy}
 use Rattle.queue.specs.Queue.{room, entered, replaced, capacity, accepted, movedDown, taken, oldest, unmarked, anyMarked, marked}
 use Rattle.receiver.specs.Receiver.{noneQueued, received, got, shownMarks, someMarked, looked, cleared, turned, dataStands, timeoutStands}
 use Rattle.transmitter.specs.Transmitter.{noneWaiting, allSent, flagSetIf, written, emptied, enabled}
-use Rattle.registers.specs.Words.{trigger, badArrival}
+use Rattle.registers.specs.Words.{trigger}
 use Rattle.registers.specs.Registers.{plainRegister, registerAt, fcrKept}
 use Rattle.registers.specs.Modem.{msrOf}
 use Rattle.channel.specs.declared.Channel.{Channel}
@@ -24,7 +24,7 @@ use Rattle.channel.specs.Steps.{effect, stepped}
 -- what a channel answers to these events, in order; the line names all that such a run computes with, under the edits too
 unfoldable told : Channel → List SeatEvent → List ℕ
 unfolding stepped effect valueOf registerAt plainRegister pick bit digit bits
-    refusal grounds refusalBy firstOf badArrival
+    refusal grounds refusalBy firstOf
     byteAt afterRead iirRead lsrRead looked got taken movedDown unmarked
     iir cause causes firstCause lineTrouble modemChanged dataStands timeoutStands trigger
     lsr msr msrOf noneQueued shownMarks someMarked oldest anyMarked marked noneWaiting allSent

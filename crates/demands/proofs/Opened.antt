@@ -37,7 +37,7 @@ unfolding sender.noneWaiting sender.allSent sender.flagSetIf sender.written send
 of-transmitter = 0
 
 unfoldable pub of-registers : ℕ
-unfolding parts.masterReset words.trigger words.cut registers.plainRegister registers.registerAt registers.fcrKept modem.changesAfter modem.msrOf words.badArrival
+unfolding parts.masterReset words.trigger words.cut registers.plainRegister registers.registerAt registers.fcrKept modem.changesAfter modem.msrOf
     refusing.grounds refusing.refusal
 of-registers = 0
 

@@ -72,7 +72,7 @@ none-held s e = none-given (grounds s e) (in-turn s e)
 
 -- "They are given in no other case": 0 exactly for what is accepted
 pub accepted : (s : Settings) (e : SeatEvent) → eqb (refusal s e) 0 ≡ accepts s e
-unfolding badArrival grounds
+unfolding grounds
 accepted s (Read n) = none-held s (Read n) ∙ and-true _ ∙ below n 8
 accepted s (Write n byte) = none-held s (Write n byte) ∙ ap₂ _&&_ (below n 8) (and-true _)
 accepted s (Arrival marks byte) =

@@ -44,5 +44,5 @@ abbrev pub breakWithData : ℕ → ℕ → Bool
 breakWithData marks byte = bit 2 marks && not (eqb byte 0)
 
 -- "arrival: marks above 7; data not within the word length; parity mark with parity off; break with data not 0"
-unfoldable pub badArrival : ℕ → ℕ → ℕ → Bool
+abbrev pub badArrival : ℕ → ℕ → ℕ → Bool
 badArrival lcr marks byte = marksAbove marks || beyondWord lcr byte || parityUnasked lcr marks || breakWithData marks byte

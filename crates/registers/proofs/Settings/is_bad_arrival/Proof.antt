@@ -1,5 +1,4 @@
 use Rattle.base.specs.PickLaws.{pick-true, pick-false}
-use Rattle.registers.specs.Words.{badArrival}
 use borrow.Author.Needs.{needs}
 use Rattle.registers.proofs.Settings.is_bad_arrival.Statement.{statement}
 use Rattle.registers.proofs.Settings.is_bad_arrival.Tie as tie
@@ -17,7 +16,6 @@ bit-requires-3 : tie.Need-bit-requires-3
 bit-requires-3 c κs = search needs
 
 returns : tie.Need-returns
-unfolding badArrival
 returns c = simp (← c .bit3 .ensures, ← c .before .bit2 .ensures, ← c .before .before .bit .ensures, ← c .before .before .before .is-beyond-word .ensures, pick-true, pick-false)
 
 pub is-bad-arrival-spec : {M : Type 1} → statement M
