@@ -1,15 +1,12 @@
 -- What is accepted is done, and what a refusal leaves.
-use Prim.Native.Nat.{ℕ}
 use mathlib.Core.Bool.{true, false}
-use mathlib.Core.Path.{_≡_, ap, _∙_}
-use lib.Dec.{eqb}
+use mathlib.Core.Path.{_≡_, _∙_}
 use Rattle.base.specs.PickLaws.{pick-true, pick-false}
 use Rattle.base.specs.declared.Answer.the-variants.{Refused}
 use Rattle.registers.specs.declared.SeatEvent.{SeatEvent}
 use Rattle.registers.specs.Refusals.{refusal}
 use Rattle.registers.specs.RefusalLaws.{accepts, accepted}
 use Rattle.channel.specs.declared.Channel.{Channel}
-use Rattle.channel.specs.declared.Stepped.{Stepped}
 use Rattle.channel.specs.Steps.{effect, stepped}
 
 -- what is accepted is done
@@ -21,10 +18,3 @@ done c e fine = pick-true _ _ _ (accepted (c .settings) e ∙ fine)
 pub refused : (c : Channel) (e : SeatEvent) → accepts (c .settings) e ≡ false → stepped c e ≡ record { channel = c; answer = Refused (refusal (c .settings) e) }
 unfolding stepped
 refused c e wrong = pick-false _ _ _ (accepted (c .settings) e ∙ wrong)
-
--- a number other than 0 refuses, and is told
-pub turned-away : (c : Channel) (e : SeatEvent) (number : ℕ) → refusal (c .settings) e ≡ number → eqb number 0 ≡ false
-    → stepped c e ≡ record { channel = c; answer = Refused number }
-unfolding stepped
-turned-away c e number given some =
-    pick-false _ _ _ (ap (λ (n : ℕ). eqb n 0) given ∙ some) ∙ ap {B = Stepped} (λ (n : ℕ). record { channel = c; answer = Refused n }) given

@@ -1,13 +1,18 @@
--- A seat after some acts: in two parts as whole; and a master reset silences its line.
+-- A seat after some acts: in two parts as whole; and what a master reset leaves, and the line, are its channel's.
 use mathlib.Core.Bool.{false, not, and-false}
 use mathlib.Core.List.{List, [], _∷_, _++_}
-use mathlib.Core.Path.{_≡_, refl}
+use mathlib.Core.Path.{_≡_, refl, ap, sym}
 use lib.Dec.{eqb}
 use Rattle.base.specs.Bits.{bit}
 use Rattle.channel.specs.Parts.{masterReset}
 use Rattle.channel.specs.Status as channel
+use Rattle.channel.specs.Steps as channel-step
+use Rattle.registers.specs.declared.SeatEvent.{SeatEvent}
 use Rattle.seat.specs.declared.Seat.{Seat}
+use Rattle.seat.specs.declared.Stepped.{Stepped}
 use Rattle.seat.specs.Seats.{reset, line}
+use Rattle.seat.specs.Steps.{stepped}
+use Rattle.seat.specs.StepLaws.{by-channel}
 use Rattle.seat.specs.Acts.{Act, acted, actedAll}
 
 pub acted-parts : (s : Seat) (xs ys : List Act) → actedAll s (xs ++ ys) ≡ actedAll (actedAll s xs) ys
@@ -18,3 +23,14 @@ acted-parts s (x ∷ xs) ys = acted-parts (acted s x) xs ys
 pub reset-silent : (s : Seat) → line (reset s) ≡ false
 unfolding channel.line masterReset bit
 reset-silent s = and-false (not (eqb (channel.cause (masterReset (s .channel))) 0x01))
+
+-- a master reset of a seat is its channel's: whatever is asked of it afterwards is answered so
+pub reset-answers : (s : Seat) (e : SeatEvent) → stepped (reset s) e .answer ≡ channel-step.stepped (masterReset (s .channel)) e .answer
+reset-answers s e = ap (λ (t : Stepped). t .answer) (sym (by-channel (reset s) e))
+
+pub reset-by-channel : (s : Seat) → reset s .channel ≡ masterReset (s .channel)
+reset-by-channel s = refl
+
+-- "its interrupt output is line n": the seat's line is its channel's
+pub line-by-channel : (s : Seat) → line s ≡ channel.line (s .channel)
+line-by-channel s = refl
