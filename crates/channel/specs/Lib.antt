@@ -5,8 +5,4 @@ pub mod Steps
 pub mod Sound
 pub mod StatusLaws
 pub mod StepLaws
-pub mod CauseLaws
-pub mod IirLaws
-pub mod ModeLaws
 pub mod Moments
-pub mod MomentLaws

@@ -5,7 +5,7 @@ use base::Answer;
 use registers::Register;
 use registers::Settings;
 ghost use mathlib.Core.Path.{_≡_};
-ghost use Rattle.channel.specs.Effects.{ierWritten, fcrWritten, afterWrite};
+ghost use Rattle.channel.specs.Effects.{ierWritten, fcrWritten};
 ghost use Rattle.channel.specs.Steps.{effect};
 ghost use Rattle.registers.specs.declared.SeatEvent.the-variants.{Write};
 
@@ -33,31 +33,33 @@ impl Channel {
         self
     }
 
-    fn after_write(mut self, register: Register, byte: u8) -> Self
-        ensures { λ r. ⌜ r ≡ afterWrite self register byte ⌝ }
-    {
-        match register {
-            Register::RbrThr => {
-                self.transmitter = self.transmitter.write(self.settings.is_fifo(), byte);
-                return self;
-            }
-            Register::Ier => return self.write_ier(byte),
-            Register::IirFcr => return self.write_fcr(byte),
-            _ => {
-                self.settings = self.settings.write(register, byte);
-                return self;
-            }
-        }
-    }
-
     pub(crate) fn write(mut self, number: u8, byte: u8) -> Stepped
         ensures { λ r. ⌜ r ≡ effect self (Write number byte) ⌝ }
     {
         let register = self.settings.register(number);
-        self = self.after_write(register, byte);
-        Stepped {
-            channel: self,
-            answer: Answer::Done,
+        match register {
+            Register::RbrThr => {
+                self.transmitter = self.transmitter.write(self.settings.is_fifo(), byte);
+                return Stepped {
+                    channel: self,
+                    answer: Answer::Done,
+                };
+            }
+            Register::Ier => return Stepped {
+                channel: self.write_ier(byte),
+                answer: Answer::Done,
+            },
+            Register::IirFcr => return Stepped {
+                channel: self.write_fcr(byte),
+                answer: Answer::Done,
+            },
+            _ => {
+                self.settings = self.settings.write(register, byte);
+                return Stepped {
+                    channel: self,
+                    answer: Answer::Done,
+                };
+            }
         }
     }
 }

@@ -21,8 +21,8 @@ use Rattle.registers.specs.declared.SeatEvent.the-variants.{Read}
 use Rattle.channel.specs.Parts.{fifo}
 use Rattle.channel.specs.Status.{lsr, msr, cause, iir}
 use Rattle.channel.specs.Effects.{iirRead, lsrRead, msrRead}
-use Rattle.channel.specs.CauseLaws.{moved}
-use Rattle.channel.specs.IirLaws.{flagged, iir-clears, iir-again}
+use Rattle.channel_laws.specs.CauseLaws.{moved}
+use Rattle.channel_laws.specs.IirLaws.{flagged, iir-clears, iir-again}
 use Rattle.channel.specs.StatusLaws.{iir-cause}
 use Rattle.channel_laws.specs.ReadLaws.{read-iir, read-lsr, read-msr, msr-again-changes, msr-again-levels}
 use Rattle.channel_laws.specs.ReadLaws.{lsr-again-overrun, lsr-again-marks, lsr-again-data, lsr-again-sending, lsr-again-marked}

@@ -29,8 +29,8 @@ use Rattle.channel.specs.Status.{lsr, iir}
 use Rattle.channel.specs.Effects.{fcrWritten, afterWrite}
 use Rattle.channel.specs.Steps.{stepped}
 use Rattle.channel.specs.StatusLaws.{lsr-data, lsr-overrun, lsr-kept, lsr-oldest, lsr-empty, lsr-idle, lsr-marked, iir-mode}
-use Rattle.channel.specs.CauseLaws.{troubled, cause-named}
-use Rattle.channel.specs.ModeLaws.{fcr-bit, mode-after, fcr-sent, fcr-heard, trigger-chosen}
+use Rattle.channel_laws.specs.CauseLaws.{troubled, cause-named}
+use Rattle.channel_laws.specs.ModeLaws.{fcr-bit, mode-after, fcr-sent, fcr-heard, trigger-chosen}
 use Rattle.channel_laws.specs.ReadLaws.{no-bit}
 use Rattle.channel_laws.specs.BackLaws.{write-at}
 use Rattle.channel_laws.specs.AgainLaws.{shows-iir, shows-lsr, named, named-is}

@@ -24,8 +24,8 @@ use Rattle.channel.specs.Parts.{divisorShown, fifo}
 use Rattle.channel.specs.Effects.{iirRead, lsrRead, msrRead, ierWritten, fcrWritten, afterRead, afterWrite, afterArrival, afterLevels, afterTime}
 use Rattle.channel.specs.Steps.{effect}
 use Rattle.channel.specs.StatusLaws.{lsr-empty}
-use Rattle.channel.specs.IirLaws.{iir-clears}
-use Rattle.channel.specs.ModeLaws.{fcr-sent, ier-sent}
+use Rattle.channel_laws.specs.IirLaws.{iir-clears}
+use Rattle.channel_laws.specs.ModeLaws.{fcr-sent, ier-sent}
 use Rattle.registers.specs.RefusalLaws.{accepts}
 use Rattle.channel_laws.specs.RefusalLaws.{done, refused}
 use Rattle.channel_laws.specs.AgainLaws.{shows-lsr, named, named-is}

@@ -1,3 +1,7 @@
+pub mod CauseLaws
+pub mod IirLaws
+pub mod ModeLaws
+pub mod MomentLaws
 pub mod RefusalLaws
 pub mod AccessLaws
 pub mod ReadLaws

@@ -18,8 +18,8 @@ use Rattle.registers.specs.declared.SeatEvent.the-variants.{Write, Time}
 use Rattle.channel.specs.Parts.{withSettings, withTransmitter}
 use Rattle.channel.specs.Effects.{ierWritten, afterWrite}
 use Rattle.channel.specs.StatusLaws.{lsr-empty, lsr-idle}
-use Rattle.channel.specs.IirLaws.{flagged}
-use Rattle.channel.specs.ModeLaws.{ier-sent}
+use Rattle.channel_laws.specs.IirLaws.{flagged}
+use Rattle.channel_laws.specs.ModeLaws.{ier-sent}
 use Rattle.registers.specs.RefusalLaws.{undivided}
 use Rattle.channel_laws.specs.BackLaws.{write-at}
 use Rattle.channel_laws.specs.SideLaws.{time-shifts}

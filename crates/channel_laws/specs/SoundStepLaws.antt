@@ -30,9 +30,9 @@ use Rattle.channel.specs.Status.{cause}
 use Rattle.channel.specs.Effects.{iirRead, lsrRead, msrRead, afterRead, ierWritten, modeChanged, fcrReceiver, fcrTransmitter, fcrWritten, afterWrite, afterArrival, afterLevels, afterTime}
 use Rattle.channel.specs.Steps.{effect, stepped}
 use Rattle.channel.specs.Sound.{soundChannel}
-use Rattle.channel.specs.CauseLaws.{late-at-four}
+use Rattle.channel_laws.specs.CauseLaws.{late-at-four}
 use Rattle.registers.specs.ModemLaws.{differ-xor, changes-small}
-use Rattle.channel.specs.ModeLaws.{fcr-off, mode-after}
+use Rattle.channel_laws.specs.ModeLaws.{fcr-off, mode-after}
 use Rattle.registers.specs.RefusalLaws.{undivided, accepts}
 use Rattle.channel_laws.specs.RefusalLaws.{done, refused}
 use Rattle.channel_laws.specs.SoundLaws.{Sound, parts, whole, with-receiver, with-transmitter, with-modem, with-settings}

@@ -19,7 +19,7 @@ use Rattle.channel.specs.declared.Channel.{Channel}
 use Rattle.registers.specs.declared.SeatEvent.the-variants.{Time}
 use Rattle.channel.specs.Parts.{fifo}
 use Rattle.channel.specs.StatusLaws.{lsr-data}
-use Rattle.channel.specs.CauseLaws.{troubled, ready, cause-named}
+use Rattle.channel_laws.specs.CauseLaws.{troubled, ready, cause-named}
 use Rattle.registers.specs.RefusalLaws.{undivided}
 use Rattle.channel_laws.specs.SideLaws.{time-shifts}
 use Rattle.channel_laws.specs.SendingLaws.{passed}

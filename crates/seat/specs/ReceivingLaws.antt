@@ -7,7 +7,7 @@ use Rattle.receiver.specs.LedgerLaws.{after-both}
 use Rattle.receiver.specs.SoundLaws as receiver
 use Rattle.registers.specs.declared.SeatEvent.{SeatEvent}
 use Rattle.channel.specs.Moments.{toldIn}
-use Rattle.channel.specs.MomentLaws as channel
+use Rattle.channel_laws.specs.MomentLaws as channel
 use Rattle.seat.specs.declared.Seat.{Seat}
 use Rattle.seat.specs.declared.Stepped.{Stepped}
 use Rattle.seat.specs.Seats.{powerUp, reset}

@@ -8,11 +8,11 @@ use Rattle.base.specs.PickLaws.{pick-false}
 use Rattle.base.specs.Bits.{bit}
 use Rattle.transmitter.specs.Transmitter.{noneWaiting, allSent}
 use Rattle.transmitter.specs.RegisterLaws.{iir-clears-flag}
 use Rattle.channel.specs.declared.Channel.{Channel}
 use Rattle.channel.specs.Parts.{withTransmitter}
 use Rattle.channel.specs.Status.{lsr, msr, lineTrouble, modemChanged, causes, firstCause, cause}
 use Rattle.channel.specs.Effects.{iirRead}
-use Rattle.channel.specs.CauseLaws.{moved}
+use Rattle.channel_laws.specs.CauseLaws.{moved}
 
 -- the channel with another holding-empty flag
 abbrev pub flagged : Channel → Bool → Channel
