@@ -70,7 +70,7 @@ impl Channel {
         self
     }
 
-    pub fn step(self, e: SeatEvent) -> Stepped
+    pub fn step(mut self, e: SeatEvent) -> Stepped
         ensures { λ r. ⌜ r ≡ stepped self e ⌝ }
     {
         let refused = self.settings.refusal(e);
@@ -79,7 +79,19 @@ impl Channel {
                 SeatEvent::Read(number) => return self.read(number),
                 SeatEvent::Write(number, byte) => return self.write(number, byte),
                 SeatEvent::Arrival(marks, byte) => return self.arrive(marks, byte),
-                SeatEvent::Levels(levels) => return self.modem_inputs(levels),
+                SeatEvent::Levels(levels) => {
+                    let changes = registers::changes_after(
+                        self.modem.changes,
+                        self.modem.levels,
+                        levels,
+                    );
+                    self.modem.changes = changes;
+                    self.modem.levels = levels;
+                    return Stepped {
+                        channel: self,
+                        answer: Answer::Done,
+                    };
+                }
                 SeatEvent::Time => return self.character_time(),
             }
         }

@@ -1,11 +1,11 @@
-// The wire: a character arrives, the modem inputs move, a character time passes.
+// The wire: a character arrives, a character time passes.
 use crate::Channel;
 use crate::Stepped;
 use base::Answer;
 use queue::Character;
 ghost use mathlib.Core.Path.{_≡_};
 ghost use Rattle.channel.specs.Steps.{effect};
-ghost use Rattle.registers.specs.declared.SeatEvent.the-variants.{Arrival, Levels, Time};
+ghost use Rattle.registers.specs.declared.SeatEvent.the-variants.{Arrival, Time};
 
 impl Channel {
     pub(crate) fn arrive(mut self, marks: u8, byte: u8) -> Stepped
@@ -13,18 +13,6 @@ impl Channel {
     {
         let fifo = self.settings.is_fifo();
         self.receiver = self.receiver.receive(fifo, Character { data: byte, marks });
-        Stepped {
-            channel: self,
-            answer: Answer::Done,
-        }
-    }
-
-    pub(crate) fn modem_inputs(mut self, levels: u8) -> Stepped
-        ensures { λ r. ⌜ r ≡ effect self (Levels levels) ⌝ }
-    {
-        let changes = registers::changes_after(self.modem.changes, self.modem.levels, levels);
-        self.modem.changes = changes;
-        self.modem.levels = levels;
         Stepped {
             channel: self,
             answer: Answer::Done,

@@ -5,6 +5,10 @@ use borrow.Author.Tests.{eq-eqb, ne-eqb}
 use Rattle.registers.specs.declared.SeatEvent.{SeatEvent}
 use Rattle.registers.specs.Refusals.{refusal}
 use Rattle.channel.specs.declared.Channel.{Channel}
+use Rattle.base.specs.declared.Answer.the-variants.{Done}
+use Rattle.channel.specs.declared.Stepped.{Stepped}
+use Rattle.channel.specs.Parts.{withModem}
+use Rattle.channel.specs.Effects.{afterLevels}
 use Rattle.channel.specs.Steps.{effect, stepped}
 use Rattle.channel.specs.StepLaws.{step-taken}
 use borrow.Author.Needs.{needs}
@@ -57,14 +61,16 @@ returns-3 c =
 enum-known-e-4 : tie.Need-enum-known-e-4
 enum-known-e-4 c = search needs
 
-modem-inputs-requires : tie.Need-modem-inputs-requires
-modem-inputs-requires c κs = search needs
+changes-after-requires : tie.Need-changes-after-requires
+changes-after-requires c κs = search needs
 
 returns-4 : tie.Need-returns-4
+unfolding effect afterLevels
 returns-4 c =
-    let a = c .before .before .before .before .before .before .args in
-    c .modem-inputs .ensures ∙ ap (effect (a .self)) (sym (c .before .before .e4 .given .1))
-    ∙ done (a .self) (a .e) _ (c .before .before .before .before .before .refusal .ensures) (c .before .before .before .before .if1 .taken)
+    let a = c .before .before .before .before .before .before .before .before .args in
+    ap {B = Stepped} (λ (x : ℕ). record { channel = withModem (a .self) (record { levels = c .before .before .before .before .e4 .given .0 .0; changes = x }); answer = Done }) (c .before .before .changes-after .ensures)
+    ∙ ap (effect (a .self)) (sym (c .before .before .before .before .e4 .given .1))
+    ∙ done (a .self) (a .e) _ (c .before .before .before .before .before .before .before .refusal .ensures) (c .before .before .before .before .before .before .if1 .taken)
 
 enum-told : tie.Need-enum-told
 enum-told c = search needs
@@ -97,7 +103,7 @@ step-spec =
     arrive-requires
     returns-3
     enum-known-e-4
-    modem-inputs-requires
+    changes-after-requires
     returns-4
     enum-told
     character-time-requires
