@@ -1,7 +1,7 @@
 use Rattle.base.specs.PickLaws.{pick-true, pick-false, pick-le}
 use native.Mathlib.Omega.{arith}
-use Rattle.channel.specs.StatusLaws.{cause-small}
-use Rattle.channel.specs.Status.{iir}
+use Rattle.status.specs.StatusLaws.{cause-small, cause-by-changes}
+use Rattle.channel.specs.Status.{msr, cause, iir}
 use Rattle.channel.specs.Effects.{iirRead, byteAt, afterRead}
 use borrow.Author.Needs.{needs}
 use Rattle.channel.proofs.Channel.read_iir.Statement.{statement}
@@ -18,14 +18,15 @@ pick-byte-requires c κs = search needs
 
 add-byte : tie.Need-add-byte
 add-byte c =
-    omega (arith, cause-small (c .before .before .before .args .self), c .before .before .cause .ensures, c .pick-byte .ensures, pick-le (c .before .is-fifo .result) 192 0 192 (omega arith) (omega arith))
+    let a = c .before .before .before .args .self in
+    omega (arith, cause-small (a .settings) (a .receiver) (a .transmitter) (a .modem .changes), c .before .before .cause .ensures, c .pick-byte .ensures, pick-le (c .before .is-fifo .result) 192 0 192 (omega arith) (omega arith))
 
 iir-read-requires : tie.Need-iir-read-requires
 iir-read-requires c κs = search needs
 
 returns : tie.Need-returns
-unfolding afterRead byteAt iirRead iir
-returns c = simp (← c .iir-read .ensures, ← c .before .pick-byte .ensures, ← c .before .before .is-fifo .ensures, ← c .before .before .before .cause .ensures, pick-true, pick-false)
+unfolding afterRead byteAt iirRead iir cause msr
+returns c = simp (← cause-by-changes, ← c .iir-read .ensures, ← c .before .pick-byte .ensures, ← c .before .before .is-fifo .ensures, ← c .before .before .before .cause .ensures, pick-true, pick-false)
 
 pub read-iir-spec : {M : Type 1} → statement M
 read-iir-spec =
