@@ -16,7 +16,7 @@ use Rattle.channel.specs.declared.Channel.{Channel}
 use Rattle.registers.specs.declared.SeatEvent.{SeatEvent}
 use Rattle.registers.specs.declared.SeatEvent.the-variants.{Read, Write, Arrival}
 use Rattle.channel.specs.Parts.{powerUp, withSettings}
-use Rattle.status.specs.Status.{lsrOf, lineTrouble, causes, firstCause, causeOf}
+use Rattle.status.specs.Status.{lsrOf, lineTrouble, causes, firstCause, causeOf, iirOf}
 use Rattle.channel.specs.Status.{lsr, msr, cause, iir}
 use Rattle.channel.specs.Effects.{iirRead, lsrRead, byteAt, afterRead, ierWritten, modeChanged, fcrReceiver, fcrTransmitter, fcrWritten, afterWrite, afterArrival}
 use Rattle.registers.specs.Refusals.{grounds, refusal}
@@ -27,7 +27,7 @@ unfoldable told : Channel → List SeatEvent → List ℕ
 unfolding stepped effect valueOf registerAt plainRegister pick bit digit bits
     refusal grounds refusalBy firstOf
     byteAt afterRead iirRead lsrRead looked got taken movedDown unmarked
-    iir cause causeOf causes firstCause lineTrouble someChange dataStands timeoutStands trigger
+    iir iirOf cause causeOf causes firstCause lineTrouble someChange dataStands timeoutStands trigger
     lsr lsrOf msr msrOf noneQueued shownMarks someMarked oldest anyMarked marked noneWaiting allSent
     afterWrite ierWritten enabled flagSetIf fcrWritten fcrKept fcrReceiver fcrTransmitter modeChanged cleared turned emptied
     afterArrival received written accepted capacity room entered replaced

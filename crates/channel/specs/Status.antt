@@ -1,11 +1,10 @@
 -- What a channel shows: LSR, MSR, the cause, IIR and the line.
-use Prim.Native.Nat.{ℕ, _+_}
+use Prim.Native.Nat.{ℕ}
 use mathlib.Core.Bool.{Bool}
-use Rattle.base.specs.Pick.{pick}
 use Rattle.channel.specs.declared.Channel.{Channel}
 use Rattle.channel.specs.Parts.{fifo}
 use Rattle.registers.specs.Modem.{msrOf}
-use Rattle.status.specs.Status.{lsrOf, causeOf, lineOf}
+use Rattle.status.specs.Status.{lsrOf, causeOf, iirOf, lineOf}
 
 -- the LSR of the two sides in the channel's mode
 unfoldable pub lsr : Channel → ℕ
@@ -23,10 +22,9 @@ msr c = msrOf (c .modem .changes) (inputs c)
 unfoldable pub cause : Channel → ℕ
 cause c = causeOf (c .settings) (c .receiver) (c .transmitter) (msr c)
 
--- "In FIFO mode C0 is added."
+-- the IIR, and the line
 unfoldable pub iir : Channel → ℕ
-iir c = cause c + pick (fifo c) 0xC0 0x00
+iir c = iirOf (c .settings) (c .receiver) (c .transmitter) (msr c)
 
--- and the line
 unfoldable pub line : Channel → Bool
 line c = lineOf (c .settings) (c .receiver) (c .transmitter) (msr c)

@@ -17,7 +17,7 @@ use Rattle.channel.specs.declared.Channel.{Channel}
 use Rattle.channel.specs.Parts.{fifo}
 use Rattle.registers.specs.ModemLaws.{shows-changes, shows-inputs, msr-small}
 use Rattle.channel.specs.Status.{lsr, msr, cause, iir}
-use Rattle.status.specs.Status.{lsrOf}
+use Rattle.status.specs.Status.{lsrOf, iirOf}
 use Rattle.status.specs.StatusLaws.{cause-small}
 
 module _ (c : Channel) where
@@ -92,7 +92,7 @@ added false n small = omega arith
 
 -- the low digit of the IIR is the code of the cause
 pub iir-cause : (c : Channel) → iir c % 16 ≡ cause c
-unfolding iir cause
+unfolding iir iirOf cause
 iir-cause c = added (fifo c) (cause c) (cause-small _ _ _ _)
 
 marked-as : (mode : Bool) (n : ℕ) → n ≤ 12
@@ -113,5 +113,5 @@ marked-as false n small = (
 
 -- its bits 7 and 6 are set exactly in FIFO mode, bits 5 and 4 never
 pub iir-mode : (c : Channel) → (bit 7 (iir c) ≡ fifo c) × (bit 6 (iir c) ≡ fifo c) × (bit 5 (iir c) ≡ false) × (bit 4 (iir c) ≡ false)
-unfolding iir cause
+unfolding iir iirOf cause
 iir-mode c = marked-as (fifo c) (cause c) (cause-small _ _ _ _)

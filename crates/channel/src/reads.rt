@@ -10,20 +10,17 @@ ghost use Rattle.registers.specs.declared.SeatEvent.the-variants.{Read};
 ghost use Rattle.registers.specs.declared.Register.the-variants.{IirFcr};
 
 impl Channel {
-    pub const FIFO_MARK: u8 = 0xC0;
-
-    // The cause is looked for once: it is named, and it decides whether the flag is cleared.
+    // The low digit of what is read names the cause, and decides whether the flag is cleared.
     fn read_iir(mut self) -> Stepped
         ensures { λ r. ⌜ r ≡ readOf self IirFcr ⌝ }
     {
-        let cause = status::cause(
+        let byte = status::iir(
             self.settings,
             self.receiver,
             self.transmitter,
             self.modem.changes,
         );
-        let byte = cause + base::pick_byte(self.settings.is_fifo(), Channel::FIFO_MARK, 0);
-        let named = cause == status::HOLDING_EMPTY;
+        let named = byte % 16 == status::HOLDING_EMPTY;
         self.transmitter = self.transmitter.iir_read(named);
         Stepped {
             channel: self,

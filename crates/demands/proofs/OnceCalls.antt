@@ -95,6 +95,7 @@ status-once M =
     record {
       status·lsr = value _ refl (λ κ a v w. refl);
       status·cause = value _ refl (λ κ a v w. refl);
+      status·iir = value _ refl (λ κ a v w. refl);
       status·line = value _ refl (λ κ a v w. refl);
     }
 

@@ -43,7 +43,7 @@ unfolding parts.masterReset words.trigger words.cut registers.plainRegister regi
 of-registers = 0
 
 unfoldable pub of-status : ℕ
-unfolding status.lsrOf status.lineTrouble status.causes status.firstCause status.causeOf status.lineOf
+unfolding status.lsrOf status.lineTrouble status.causes status.firstCause status.causeOf status.iirOf status.lineOf
     channel-status.lsr channel-status.msr channel-status.cause channel-status.iir channel-status.line
 of-status = 0
 

@@ -104,6 +104,7 @@ pub record TransmitterOnce (M : Type 1) : Type 2 where
 pub record StatusOnce (M : Type 1) : Type 2 where
   pub status·lsr : Once M status.lsr.ended status.lsr.clauses status.lsr.spec
   pub status·cause : Once M status.cause.ended status.cause.clauses status.cause.spec
+  pub status·iir : Once M status.iir.ended status.iir.clauses status.iir.spec
   pub status·line : Once M status.line.ended status.line.clauses status.line.spec
 
 -- ---- channel: a channel

@@ -1,5 +1,5 @@
--- What a channel shows of its settings and its two sides: LSR, the cause and the line. `fifo` is the mode: bit 0 of the FCR.
-use Prim.Native.Nat.{ℕ}
+-- What a channel shows of its settings and its two sides: LSR, the cause, IIR and the line. `fifo` is the mode: bit 0 of the FCR.
+use Prim.Native.Nat.{ℕ, _+_}
 use mathlib.Core.Bool.{Bool, not, _&&_, _||_}
 use mathlib.Core.List.{List, [], _∷_}
 use lib.Dec.{eqb}
@@ -57,6 +57,10 @@ firstCause (row ∷ rows) = pick (row .enabled && row .stands) (row .code) (firs
 -- "IIR names the first enabled cause"
 unfoldable pub causeOf : Settings → Receiver → Transmitter → ℕ → ℕ
 causeOf s r t msr = firstCause (causes s r t msr)
+
+-- "In FIFO mode C0 is added."
+unfoldable pub iirOf : Settings → Receiver → Transmitter → ℕ → ℕ
+iirOf s r t msr = causeOf s r t msr + pick (bit 0 (s .fcr)) 0xC0 0x00
 
 -- "The seat's line is high exactly if a cause is named and MCR bit 3 is set."
 unfoldable pub lineOf : Settings → Receiver → Transmitter → ℕ → Bool

@@ -1,5 +1,5 @@
 -- What stands, asked of the two sides and of the changes; and how large a code is.
-use Prim.Native.Nat.{ℕ, _≤_}
+use Prim.Native.Nat.{ℕ, _+_, _≤_}
 use mathlib.Core.Bool.{Bool, not, _&&_, _||_}
 use mathlib.Core.Path.{_≡_, ap}
 use native.Mathlib.Omega.{arith}
@@ -14,7 +14,7 @@ use Rattle.registers.specs.ModemLaws.{modem-changed}
 use Rattle.receiver.specs.declared.Receiver.{Receiver}
 use Rattle.receiver.specs.Receiver.{shownMarks, troubled}
 use Rattle.transmitter.specs.declared.Transmitter.{Transmitter}
-use Rattle.status.specs.Status.{lsrOf, lineTrouble, causes, firstCause, causeOf, lineOf}
+use Rattle.status.specs.Status.{lsrOf, lineTrouble, causes, firstCause, causeOf, iirOf, lineOf}
 
 -- "any of LSR 1-4", asked of the receive side
 pub line-trouble : (fifo : Bool) (r : Receiver) (t : Transmitter) → lineTrouble (lsrOf fifo r t) ≡ troubled fifo r
@@ -38,6 +38,10 @@ module _ (s : Settings) (r : Receiver) (t : Transmitter) where
   pub cause-by-changes : (changes inputs : ℕ) → causeOf s r t changes ≡ causeOf s r t (msrOf changes inputs)
   unfolding causeOf causes firstCause
   cause-by-changes changes inputs = rw (modem-changed changes inputs)
+
+  pub iir-by-changes : (changes inputs : ℕ) → iirOf s r t changes ≡ iirOf s r t (msrOf changes inputs)
+  unfolding iirOf
+  iir-by-changes changes inputs = ap (λ (n : ℕ). n + pick (bit 0 (s .fcr)) 0xC0 0x00) (cause-by-changes changes inputs)
 
   pub line-by-changes : (changes inputs : ℕ) → lineOf s r t changes ≡ lineOf s r t (msrOf changes inputs)
   unfolding lineOf

@@ -1,9 +1,9 @@
-// What a channel shows of its settings and its two sides: the LSR, the cause of an interrupt, and the line.
+// What a channel shows of its settings and its two sides: the LSR, the cause of an interrupt, the IIR and the line.
 use receiver::Receiver;
 use registers::Settings;
 use transmitter::Transmitter;
 ghost use mathlib.Core.Path.{_≡_};
-ghost use Rattle.status.specs.Status.{lsrOf, causeOf, lineOf};
+ghost use Rattle.status.specs.Status.{lsrOf, causeOf, iirOf, lineOf};
 
 pub const LINE_TROUBLE: u8 = 0x06;
 
@@ -16,6 +16,8 @@ pub const HOLDING_EMPTY: u8 = 0x02;
 pub const MODEM: u8 = 0x00;
 
 pub const NO_CAUSE: u8 = 0x01;
+
+pub const FIFO_MARK: u8 = 0xC0;
 
 pub fn lsr(fifo: bool, receiver: Receiver, transmitter: Transmitter) -> u8
     ensures { λ r. ⌜ r ≡ lsrOf fifo receiver transmitter ⌝ }
@@ -56,6 +58,14 @@ pub fn cause(settings: Settings, receiver: Receiver, transmitter: Transmitter, c
         return MODEM;
     }
     NO_CAUSE
+}
+
+pub fn iir(settings: Settings, receiver: Receiver, transmitter: Transmitter, changes: u8) -> u8
+    ensures { λ r. ⌜ r ≡ iirOf settings receiver transmitter changes ⌝ }
+{
+    let named = cause(settings, receiver, transmitter, changes);
+    let byte = named + base::pick_byte(settings.is_fifo(), FIFO_MARK, 0);
+    byte
 }
 
 pub fn line(settings: Settings, receiver: Receiver, transmitter: Transmitter, changes: u8) -> bool
