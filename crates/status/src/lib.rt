@@ -64,8 +64,7 @@ pub fn iir(settings: Settings, receiver: Receiver, transmitter: Transmitter, cha
     ensures { λ r. ⌜ r ≡ iirOf settings receiver transmitter changes ⌝ }
 {
     let named = cause(settings, receiver, transmitter, changes);
-    let byte = named + base::pick_byte(settings.is_fifo(), FIFO_MARK, 0);
-    byte
+    named + base::pick_byte(settings.is_fifo(), FIFO_MARK, 0)
 }
 
 pub fn line(settings: Settings, receiver: Receiver, transmitter: Transmitter, changes: u8) -> bool

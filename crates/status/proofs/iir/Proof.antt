@@ -15,8 +15,8 @@ is-fifo-requires c κs = search needs
 pick-byte-requires : tie.Need-pick-byte-requires
 pick-byte-requires c κs = search needs
 
-add-byte : tie.Need-add-byte
-add-byte c =
+add-result : tie.Need-add-result
+add-result c =
     let a = c .before .before .before .args in
     omega (arith, cause-small (a .settings) (a .receiver) (a .transmitter) (a .changes), c .before .before .cause .ensures, c .pick-byte .ensures, pick-le (c .before .is-fifo .result) 192 0 192 (omega arith) (omega arith))
 
@@ -25,4 +25,4 @@ unfolding iirOf
 returns c = simp (← c .pick-byte .ensures, ← c .before .is-fifo .ensures, ← c .before .before .cause .ensures)
 
 pub iir-spec : {M : Type 1} → statement M
-iir-spec = tie.close (tie.spec cause-requires is-fifo-requires pick-byte-requires add-byte returns)
+iir-spec = tie.close (tie.spec cause-requires is-fifo-requires pick-byte-requires add-result returns)
