@@ -13,8 +13,10 @@ use Rattle.rank.specs.Sets.{join, without, withLine}
 use Rattle.registers.specs.declared.SeatEvent.{SeatEvent}
 use Rattle.seat.specs.Seats.{line, reset}
 use Rattle.seat.specs.Steps as seat-step
-use Rattle.channel.specs.Status as status
+use Rattle.status.specs.Status as status
+use Rattle.channel.specs.Status as channel-status
 use Rattle.registers.specs.Words as words
+use Rattle.registers.specs.Modem as modem
 use Rattle.receiver.specs.Receiver as heard
 use Rattle.transmitter.specs.Transmitter as sent
 use Rattle.queue.specs.Queue as queued
@@ -113,5 +115,5 @@ module _ (b : Bench) (w : Wired b) where
 
 -- at power-up every line is low
 pub wired-power-up : Wired powerUp
-unfolding lines bits digit pick bit status.lsr status.msr status.lineTrouble status.modemChanged status.causes status.firstCause status.cause status.line words.trigger heard.noneQueued heard.shownMarks heard.someMarked heard.dataStands heard.timeoutStands sent.noneWaiting sent.allSent queued.oldest queued.anyMarked queued.marked
+unfolding lines bits digit pick bit modem.someChange status.lsrOf status.lineTrouble status.causes status.firstCause status.causeOf status.lineOf channel-status.line channel-status.msr words.trigger heard.noneQueued heard.shownMarks heard.someMarked heard.dataStands heard.timeoutStands sent.noneWaiting sent.allSent queued.oldest queued.anyMarked queued.marked
 wired-power-up = record { all = refl; levels = refl }

@@ -11,12 +11,13 @@ use Rattle.receiver.specs.Receiver.{noneQueued, received, got, shownMarks, some
 use Rattle.transmitter.specs.Transmitter.{noneWaiting, allSent, flagSetIf, written, emptied, enabled}
 use Rattle.registers.specs.Words.{trigger}
 use Rattle.registers.specs.Registers.{plainRegister, registerAt, fcrKept}
-use Rattle.registers.specs.Modem.{msrOf}
+use Rattle.registers.specs.Modem.{msrOf, someChange}
 use Rattle.channel.specs.declared.Channel.{Channel}
 use Rattle.registers.specs.declared.SeatEvent.{SeatEvent}
 use Rattle.registers.specs.declared.SeatEvent.the-variants.{Read, Write, Arrival}
-use Rattle.channel.specs.Parts.{powerUp, withSettings, withReceiver}
-use Rattle.channel.specs.Status.{lsr, msr, lineTrouble, modemChanged, causes, firstCause, cause, iir, line}
+use Rattle.channel.specs.Parts.{powerUp, withSettings}
+use Rattle.status.specs.Status.{lsrOf, lineTrouble, causes, firstCause, causeOf, iirOf}
+use Rattle.channel.specs.Status.{lsr, msr, cause, iir}
 use Rattle.channel.specs.Effects.{iirRead, lsrRead, byteAt, afterRead, ierWritten, modeChanged, fcrReceiver, fcrTransmitter, fcrWritten, afterWrite, afterArrival}
 use Rattle.registers.specs.Refusals.{grounds, refusal}
 use Rattle.channel.specs.Steps.{effect, stepped}
@@ -26,8 +27,8 @@ unfoldable told : Channel → List SeatEvent → List ℕ
 unfolding stepped effect valueOf registerAt plainRegister pick bit digit bits
     refusal grounds refusalBy firstOf
     byteAt afterRead iirRead lsrRead looked got taken movedDown unmarked
-    iir cause causes firstCause lineTrouble modemChanged dataStands timeoutStands trigger
-    lsr msr msrOf noneQueued shownMarks someMarked oldest anyMarked marked noneWaiting allSent
+    iir iirOf cause causeOf causes firstCause lineTrouble someChange dataStands timeoutStands trigger
+    lsr lsrOf msr msrOf noneQueued shownMarks someMarked oldest anyMarked marked noneWaiting allSent
     afterWrite ierWritten enabled flagSetIf fcrWritten fcrKept fcrReceiver fcrTransmitter modeChanged cleared turned emptied
     afterArrival received written accepted capacity room entered replaced
 told c [] = []
@@ -47,23 +48,7 @@ flag-outlives-04 : told (set 0x01 0x00) (Write 1 0x03 ∷ Arrival 0 0x41 ∷ Rea
 unfolding told
 flag-outlives-04 = refl
 
--- "The seat's line is high exactly if a cause is named and MCR bit 3 is set.": with no cause it is low. Of `line-high`
-line-low-with-no-cause : digit (line (stepped powerUp (Write 4 0x08) .channel)) ≡ 0
-unfolding told line
-line-low-with-no-cause = refl
-
 -- "A changed bit 0 empties both and clears kept marks.": LSR bits 5 and 6 are set again. Of `fcr-sent`
 mode-change-empties-the-transmit-queue : told powerUp (Write 0 0x41 ∷ Write 2 0x01 ∷ Read 5 ∷ []) ≡ 0x00 ∷ 0x00 ∷ 0x60 ∷ []
 unfolding told
 mode-change-empties-the-transmit-queue = refl
-
--- one character with a time-out count of 4
-abbrev late : Channel
-late =
-    withReceiver (set 0x01 0x01)
-    (record { queue = stepped (set 0x01 0x01) (Arrival 0 0x41) .channel .receiver .queue; overrun = powerUp .receiver .overrun; kept = 0; timeout = 4; last = 0 })
-
--- "04 data" stands before "0C time-out count 4": here the trigger is 1. Of `cause-named`
-trigger-goes-before-the-time-out : told late (Read 2 ∷ []) ≡ 0xC4 ∷ []
-unfolding told
-trigger-goes-before-the-time-out = refl

@@ -1,38 +1,39 @@
 -- LSR, MSR and IIR, bit by bit.
 use Prim.Native.Nat.{ℕ, zero, suc, _+_, _<_, _≤_, _/_, _%_}
-use mathlib.Core.Bool.{Bool, true, false, not, _&&_, _||_}
+use mathlib.Core.Bool.{Bool, true, false, not, _&&_}
 use mathlib.Core.Path.{_≡_, ap, _∙_}
 use native.Mathlib.Nat.{le-of-suc-le-suc, not-suc-le-zero}
 use native.Mathlib.Omega.{arith}
 use lib.Dec.{eqb}
 use borrow.Author.Tests.{eq-eqb, ne-eqb}
 use Rattle.base.specs.Pick.{pick}
-use Rattle.base.specs.PickLaws.{pick-true, pick-false, pick-le}
+use Rattle.base.specs.PickLaws.{pick-true, pick-false}
 use Rattle.base.specs.Bits.{bit}
 use Rattle.base.specs.BitLaws.{bit-bits, bits-small}
 use Rattle.queue.specs.Queue.{oldest, marked}
-use Rattle.receiver.specs.Receiver.{noneQueued, shownMarks, someMarked, troubled}
+use Rattle.receiver.specs.Receiver.{noneQueued, shownMarks, someMarked}
 use Rattle.transmitter.specs.Transmitter.{noneWaiting, allSent}
 use Rattle.channel.specs.declared.Channel.{Channel}
 use Rattle.channel.specs.Parts.{fifo}
-use Rattle.registers.specs.Modem.{someChange}
 use Rattle.registers.specs.ModemLaws.{shows-changes, shows-inputs, msr-small}
-use Rattle.channel.specs.Status.{lsr, msr, lineTrouble, modemChanged, causes, firstCause, cause, iir}
+use Rattle.channel.specs.Status.{lsr, msr, cause, iir}
+use Rattle.status.specs.Status.{lsrOf, iirOf}
+use Rattle.status.specs.StatusLaws.{cause-small}
 
 module _ (c : Channel) where
   -- 0: the receive queue is not empty
   pub lsr-data : bit 0 (lsr c) ≡ not (eqb (c .receiver .queue .count) 0)
-  unfolding lsr noneQueued
+  unfolding lsr lsrOf noneQueued
   lsr-data = bit-bits 0 _
 
   -- 1: overrun
   pub lsr-overrun : bit 1 (lsr c) ≡ c .receiver .overrun
-  unfolding lsr
+  unfolding lsr lsrOf
   lsr-overrun = bit-bits 1 _
 
   -- 2, 3, 4: parity, framing and break of the marks shown
   lsr-marks : (k : ℕ) → k < 3 → bit (2 + k) (lsr c) ≡ bit k (shownMarks (fifo c) (c .receiver))
-  unfolding lsr
+  unfolding lsr lsrOf
   lsr-marks zero less = bit-bits 2 _
   lsr-marks (suc zero) less = bit-bits 3 _
   lsr-marks (suc (suc zero)) less = bit-bits 4 _
@@ -50,22 +51,22 @@ module _ (c : Channel) where
 
   -- 5: the transmit queue is empty
   pub lsr-empty : bit 5 (lsr c) ≡ eqb (c .transmitter .queue .count) 0
-  unfolding lsr noneWaiting
+  unfolding lsr lsrOf noneWaiting
   lsr-empty = bit-bits 5 _
 
   -- 6: and the shift register too
   pub lsr-idle : bit 6 (lsr c) ≡ (eqb (c .transmitter .queue .count) 0 && not (c .transmitter .busy))
-  unfolding lsr allSent noneWaiting
+  unfolding lsr lsrOf allSent noneWaiting
   lsr-idle = bit-bits 6 _
 
   -- 7: some queued character has a mark, in FIFO mode alone
   pub lsr-marked : bit 7 (lsr c) ≡ (fifo c && marked (c .receiver .queue))
-  unfolding lsr someMarked
+  unfolding lsr lsrOf someMarked
   lsr-marked = bit-bits 7 _
 
   -- and there are no more than these eight
   pub lsr-byte : lsr c < 0x100
-  unfolding lsr
+  unfolding lsr lsrOf
   lsr-byte = bits-small _
 
   -- MSR bits 0 to 3 are the changes that stand
@@ -83,25 +84,6 @@ module _ (c : Channel) where
   unfolding msr
   msr-byte = msr-small (c .modem .changes) (c .modem .levels)
 
--- "any of LSR 1-4", asked of the receive side
-pub line-trouble : (c : Channel) → lineTrouble c ≡ troubled (fifo c) (c .receiver)
-unfolding lineTrouble troubled
-line-trouble c =
-    (λ i. lsr-overrun c i || lsr-marks c 0 (omega arith) i || lsr-marks c 1 (omega arith) i || lsr-marks c 2 (omega arith) i)
-
--- "any of MSR 0-3", asked of the changes
-pub modem-changed : (c : Channel) → modemChanged c ≡ someChange (c .modem .changes)
-unfolding modemChanged someChange
-modem-changed c =
-    (λ i. msr-changes c 0 (omega arith) i || msr-changes c 1 (omega arith) i || msr-changes c 2 (omega arith) i || msr-changes c 3 (omega arith) i)
-
--- no code is above 0C
-pub cause-small : (c : Channel) → cause c ≤ 12
-unfolding cause causes firstCause
-cause-small c =
-    pick-le _ _ _ _ (omega arith) (pick-le _ _ _ _ (omega arith) (pick-le _ _ _ _ (omega arith) (pick-le _ _ _ _ (omega arith)
-    (pick-le _ _ _ _ (omega arith) (omega arith)))))
-
 -- C0 beside a code
 added : (mode : Bool) (n : ℕ) → n ≤ 12 → (n + pick mode 0xC0 0x00) % 16 ≡ n
 unfolding pick
@@ -110,8 +92,8 @@ added false n small = omega arith
 
 -- the low digit of the IIR is the code of the cause
 pub iir-cause : (c : Channel) → iir c % 16 ≡ cause c
-unfolding iir
-iir-cause c = added (fifo c) (cause c) (cause-small c)
+unfolding iir iirOf cause
+iir-cause c = added (fifo c) (cause c) (cause-small _ _ _ _)
 
 marked-as : (mode : Bool) (n : ℕ) → n ≤ 12
     → let m = n + pick mode 0xC0 0x00 in (bit 7 m ≡ mode) × (bit 6 m ≡ mode) × (bit 5 m ≡ false) × (bit 4 m ≡ false)
@@ -131,5 +113,5 @@ marked-as false n small = (
 
 -- its bits 7 and 6 are set exactly in FIFO mode, bits 5 and 4 never
 pub iir-mode : (c : Channel) → (bit 7 (iir c) ≡ fifo c) × (bit 6 (iir c) ≡ fifo c) × (bit 5 (iir c) ≡ false) × (bit 4 (iir c) ≡ false)
-unfolding iir
-iir-mode c = marked-as (fifo c) (cause c) (cause-small c)
+unfolding iir iirOf cause
+iir-mode c = marked-as (fifo c) (cause c) (cause-small _ _ _ _)

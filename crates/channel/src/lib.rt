@@ -6,12 +6,12 @@ use registers::Settings;
 use transmitter::Transmitter;
 
 mod reads;
-mod status;
 mod wire;
 mod writes;
 
 ghost use mathlib.Core.Path.{_≡_};
 ghost use Rattle.channel.specs.Parts.{powerUp, masterReset};
+ghost use Rattle.channel.specs.Status.{line};
 ghost use Rattle.channel.specs.Steps.{stepped};
 
 // `levels` are the inputs last given, `changes` the bits 0 to 3 of the MSR.
@@ -99,5 +99,16 @@ impl Channel {
             channel: self,
             answer: Answer::Refused(refused),
         }
+    }
+
+    pub fn line(self) -> bool
+        ensures { λ r. ⌜ r ≡ line self ⌝ }
+    {
+        status::line(
+            self.settings,
+            self.receiver,
+            self.transmitter,
+            self.modem.changes,
+        )
     }
 }

@@ -7,39 +7,21 @@ ghost use mathlib.Core.Path.{_≡_};
 ghost use Rattle.channel.specs.Effects.{readOf};
 ghost use Rattle.channel.specs.Steps.{effect};
 ghost use Rattle.registers.specs.declared.SeatEvent.the-variants.{Read};
-ghost use Rattle.registers.specs.declared.Register.the-variants.{IirFcr, Lsr};
+ghost use Rattle.registers.specs.declared.Register.the-variants.{IirFcr};
 
 impl Channel {
-    // The cause is looked for once: it is named, and it decides whether the flag is cleared.
+    // The low digit of what is read names the cause, and decides whether the flag is cleared.
     fn read_iir(mut self) -> Stepped
         ensures { λ r. ⌜ r ≡ readOf self IirFcr ⌝ }
     {
-        let cause = self.cause();
-        let byte = cause + base::pick_byte(self.settings.is_fifo(), Channel::FIFO_MARK, 0);
-        let named = cause == Channel::HOLDING_EMPTY;
-        self.transmitter = self.transmitter.iir_read(named);
-        Stepped {
-            channel: self,
-            answer: Answer::Byte(byte),
-        }
-    }
-
-    fn read_lsr(mut self) -> Stepped
-        ensures { λ r. ⌜ r ≡ readOf self Lsr ⌝ }
-    {
-        let fifo = self.settings.is_fifo();
-        let marks = self.receiver.marks(fifo);
-        let byte = base::byte_of(
-            !self.receiver.is_empty(),
-            self.receiver.overrun,
-            base::bit(0, marks),
-            base::bit(1, marks),
-            base::bit(2, marks),
-            self.transmitter.is_empty(),
-            self.transmitter.is_idle(),
-            self.receiver.any_marked(fifo),
+        let byte = status::iir(
+            self.settings,
+            self.receiver,
+            self.transmitter,
+            self.modem.changes,
         );
-        self.receiver = self.receiver.look(fifo);
+        let named = byte % 16 == status::HOLDING_EMPTY;
+        self.transmitter = self.transmitter.iir_read(named);
         Stepped {
             channel: self,
             answer: Answer::Byte(byte),
@@ -62,7 +44,15 @@ impl Channel {
                 };
             }
             Register::IirFcr => return self.read_iir(),
-            Register::Lsr => return self.read_lsr(),
+            Register::Lsr => {
+                let fifo = self.settings.is_fifo();
+                let byte = status::lsr(fifo, self.receiver, self.transmitter);
+                self.receiver = self.receiver.look(fifo);
+                return Stepped {
+                    channel: self,
+                    answer: Answer::Byte(byte),
+                };
+            }
             Register::Msr => {
                 let byte = registers::modem_status(self.modem.changes, self.modem.levels);
                 self.modem.changes = 0;

@@ -5,21 +5,11 @@ use base::Answer;
 use registers::Register;
 use registers::Settings;
 ghost use mathlib.Core.Path.{_≡_};
-ghost use Rattle.channel.specs.Effects.{ierWritten, fcrWritten};
+ghost use Rattle.channel.specs.Effects.{fcrWritten};
 ghost use Rattle.channel.specs.Steps.{effect};
 ghost use Rattle.registers.specs.declared.SeatEvent.the-variants.{Write};
 
 impl Channel {
-    fn write_ier(mut self, byte: u8) -> Self
-        ensures { λ r. ⌜ r ≡ ierWritten self byte ⌝ }
-    {
-        let before = base::bit(Settings::IER_HOLDING, self.settings.ier);
-        let after = base::bit(Settings::IER_HOLDING, byte);
-        self.settings = self.settings.write(Register::Ier, byte);
-        self.transmitter = self.transmitter.ier_written(!before & after);
-        self
-    }
-
     fn write_fcr(mut self, byte: u8) -> Self
         ensures { λ r. ⌜ r ≡ fcrWritten self byte ⌝ }
     {
@@ -45,10 +35,16 @@ impl Channel {
                     answer: Answer::Done,
                 };
             }
-            Register::Ier => return Stepped {
-                channel: self.write_ier(byte),
-                answer: Answer::Done,
-            },
+            Register::Ier => {
+                let before = base::bit(Settings::IER_HOLDING, self.settings.ier);
+                let after = base::bit(Settings::IER_HOLDING, byte);
+                self.settings = self.settings.write(Register::Ier, byte);
+                self.transmitter = self.transmitter.ier_written(!before & after);
+                return Stepped {
+                    channel: self,
+                    answer: Answer::Done,
+                };
+            }
             Register::IirFcr => return Stepped {
                 channel: self.write_fcr(byte),
                 answer: Answer::Done,

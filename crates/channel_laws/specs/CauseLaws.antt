@@ -11,7 +11,9 @@ use Rattle.receiver.specs.Receiver.{noneQueued, dataStands, timeoutStands}
 use Rattle.channel.specs.declared.Channel.{Channel}
 use Rattle.channel.specs.Parts.{fifo}
 use Rattle.registers.specs.Words.{trigger}
-use Rattle.channel.specs.Status.{lsr, msr, lineTrouble, modemChanged, causes, firstCause, cause, line}
+use Rattle.registers.specs.Modem.{someChange}
+use Rattle.status.specs.Status.{lineTrouble, causes, firstCause, causeOf, lineOf}
+use Rattle.channel.specs.Status.{lsr, msr, cause, line}
 
 -- ---- the five rows, each enabled and standing
 
@@ -67,7 +69,7 @@ by-mode false a b = refl
 
 -- "IIR names the first enabled cause", "else 01"
 pub cause-named : (c : Channel) → Named (troubled c) (ready c) (late c) (drained c) (moved c) (cause c)
-unfolding cause causes firstCause lineTrouble modemChanged dataStands noneQueued timeoutStands
+unfolding lsr cause causeOf causes firstCause lineTrouble someChange dataStands noneQueued timeoutStands
 cause-named c =
     subst (λ (r : Bool). Named (troubled c) (bit 0 (c .settings .ier) && r) (late c) (drained c) (moved c) (cause c))
     (by-mode (fifo c) (reached c) (not (eqb (c .receiver .queue .count) 0)))
@@ -109,7 +111,7 @@ some false false false false false = refl
 
 -- "The seat's line is high exactly if a cause is named and MCR bit 3 is set."
 pub line-high : (c : Channel) → line c ≡ ((troubled c || ready c || late c || drained c || moved c) && bit 3 (c .settings .mcr))
-unfolding line
+unfolding line lineOf cause
 line-high c =
     ap (λ (b : Bool). not b && bit 3 (c .settings .mcr)) (cause-named c .none)
     ∙ ap (λ (b : Bool). b && bit 3 (c .settings .mcr)) (some (troubled c) (ready c) (late c) (drained c) (moved c))

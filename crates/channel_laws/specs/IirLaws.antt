@@ -10,7 +10,9 @@ use Rattle.transmitter.specs.Transmitter.{noneWaiting, allSent}
 use Rattle.transmitter.specs.RegisterLaws.{iir-clears-flag}
 use Rattle.channel.specs.declared.Channel.{Channel}
 use Rattle.channel.specs.Parts.{withTransmitter}
-use Rattle.channel.specs.Status.{lsr, msr, lineTrouble, modemChanged, causes, firstCause, cause}
+use Rattle.registers.specs.Modem.{someChange}
+use Rattle.status.specs.Status.{lsrOf, lineTrouble, causes, firstCause, causeOf}
+use Rattle.channel.specs.Status.{lsr, msr, cause}
 use Rattle.channel.specs.Effects.{iirRead}
 use Rattle.channel_laws.specs.CauseLaws.{moved}
 
@@ -48,5 +50,5 @@ then false false false false f false = refl
 
 -- a second IIR read names what the first did; but after 02, the modem or nothing
 pub iir-again : (c : Channel) → cause (iirRead c) ≡ pick (eqb (cause c) 0x02) (pick (moved c) 0x00 0x01) (cause c)
-unfolding cause causes firstCause lineTrouble modemChanged lsr msr noneWaiting allSent
+unfolding cause causeOf causes firstCause lineTrouble someChange lsr lsrOf msr noneWaiting allSent
 iir-again c = ap cause (iir-clears c) ∙ then _ _ _ (bit 1 (c .settings .ier)) (c .transmitter .flag) (moved c)

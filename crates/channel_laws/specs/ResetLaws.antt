@@ -17,7 +17,8 @@ use Rattle.registers.specs.Registers.{plainRegister, registerAt}
 use Rattle.channel.specs.declared.Channel.{Channel}
 use Rattle.registers.specs.declared.SeatEvent.the-variants.{Write}
 use Rattle.channel.specs.Parts.{powerUp, masterReset}
-use Rattle.channel.specs.Status.{lsr, msr, causes, firstCause, cause, iir, line}
+use Rattle.status.specs.Status.{lsrOf, causes, firstCause, causeOf, iirOf, lineOf}
+use Rattle.channel.specs.Status.{lsr, msr, iir, line}
 use Rattle.channel.specs.StatusLaws.{msr-changes, msr-levels}
 use Rattle.channel.specs.Effects.{byteAt, afterWrite}
 use Rattle.registers.specs.Refusals.{grounds, refusal}
@@ -64,15 +65,15 @@ reset-at-power-up = refl
 module _ (c : Channel) where
   -- after it LSR is 60 and IIR is 01, as at power-up, and the line is low
   pub reset-lsr : lsr (masterReset c) ≡ 0x60
-  unfolding masterReset restarted lsr bit bits digit pick noneQueued shownMarks someMarked noneWaiting allSent
+  unfolding masterReset restarted lsr lsrOf bit bits digit pick noneQueued shownMarks someMarked noneWaiting allSent
   reset-lsr = refl
 
   pub reset-iir : iir (masterReset c) ≡ 0x01
-  unfolding masterReset iir cause causes firstCause bit pick
+  unfolding masterReset iir iirOf causeOf causes firstCause bit pick
   reset-iir = refl
 
   pub reset-line : line (masterReset c) ≡ false
-  unfolding masterReset line cause causes firstCause bit pick
+  unfolding masterReset line lineOf causeOf causes firstCause bit pick
   reset-line = refl
 
   -- MSR bits 0 to 3 are 0, and bits 4 to 7 as before
@@ -90,7 +91,7 @@ module _ (c : Channel) where
 -- queues, IIR that there is no cause
 pub power-up-reads : listed 8 (shown powerUp) ≡ 0x00 ∷ 0x00 ∷ 0x01 ∷ 0x00 ∷ 0x00 ∷ 0x60 ∷ 0x00 ∷ 0x00 ∷ []
 unfolding stepped effect refusal grounds refusalBy firstOf
-    registerAt plainRegister pick bit digit bits valueOf byteAt afterWrite got iir cause causes firstCause lsr msr msrOf
+    registerAt plainRegister pick bit digit bits valueOf byteAt afterWrite got iir iirOf causeOf causes firstCause lsr lsrOf msr msrOf
     noneQueued shownMarks someMarked noneWaiting allSent
 power-up-reads = refl
 
@@ -107,7 +108,7 @@ divisorReads c = listed 2 (shown (after c (Write 3 0x80)))
 
 pub power-up-divisor : divisorReads powerUp ≡ 0x00 ∷ 0x00 ∷ []
 unfolding stepped effect refusal grounds refusalBy firstOf
-    registerAt plainRegister pick bit digit bits valueOf byteAt afterWrite got iir cause causes firstCause lsr msr msrOf
+    registerAt plainRegister pick bit digit bits valueOf byteAt afterWrite got iir iirOf causeOf causes firstCause lsr lsrOf msr msrOf
     noneQueued shownMarks someMarked noneWaiting allSent
 power-up-divisor = refl
 
@@ -116,6 +117,6 @@ pub reset-reads : (c : Channel)
     → (listed 6 (shown (masterReset c)) ≡ c .receiver .last ∷ 0x00 ∷ 0x01 ∷ 0x00 ∷ 0x00 ∷ 0x60 ∷ [])
     × (shown (masterReset c) 7 ≡ c .settings .scratch) × (divisorReads (masterReset c) ≡ c .settings .dll ∷ c .settings .dlm ∷ [])
 unfolding masterReset restarted stepped effect refusal grounds refusalBy firstOf
-    registerAt plainRegister pick bit digit bits valueOf byteAt afterWrite got iir cause causes firstCause lsr msr msrOf
+    registerAt plainRegister pick bit digit bits valueOf byteAt afterWrite got iir iirOf causeOf causes firstCause lsr lsrOf msr msrOf
     noneQueued shownMarks someMarked noneWaiting allSent
 reset-reads c = (refl, refl, refl)

@@ -4,7 +4,7 @@ use denote.Ref.{now}
 use Rattle.listing.specs.PartLaws.{runs-one}
 use Rattle.lesson.specs.Lesson.{handedOut}
 use Rattle.lesson.specs.declared.Lesson.{Lesson}
-use Rattle.demands.specs.OnceCalls.{BaseOnce, QueueOnce, RatesOnce, RegistersOnce, ReceiverOnce, TransmitterOnce, ChannelOnce, LendingOnce, SeatOnce, RankOnce}
+use Rattle.demands.specs.OnceCalls.{BaseOnce, QueueOnce, RatesOnce, RegistersOnce, ReceiverOnce, TransmitterOnce, StatusOnce, ChannelOnce, LendingOnce, SeatOnce, RankOnce}
 use Rattle.demands.specs.OnceCalls.{ControllerOnce, RecordsOnce, BenchOnce, ListingOnce, LessonOnce, StreamsOnce, EmbedOnce}
 use Rattle.demands.proofs.Once.{told, unasked, value}
 
@@ -88,6 +88,15 @@ transmitter-once M =
       transmitter·Transmitter·fcr-written = value _ refl (λ κ a v w. refl);
       transmitter·Transmitter·shift = value _ refl (λ κ a v w. refl);
       transmitter·Transmitter·ier-written = value _ refl (λ κ a v w. refl);
+    }
+
+pub status-once : (M : Type 1) → StatusOnce M
+status-once M =
+    record {
+      status·lsr = value _ refl (λ κ a v w. refl);
+      status·cause = value _ refl (λ κ a v w. refl);
+      status·iir = value _ refl (λ κ a v w. refl);
+      status·line = value _ refl (λ κ a v w. refl);
     }
 
 pub channel-once : (M : Type 1) → ChannelOnce M

@@ -8,7 +8,8 @@ use Rattle.registers.specs.Words as words
 use Rattle.registers.specs.Modem as modem
 use Rattle.registers.specs.Refusals as refusing
 use Rattle.channel.specs.Parts as parts
-use Rattle.channel.specs.Status as status
+use Rattle.status.specs.Status as status
+use Rattle.channel.specs.Status as channel-status
 use Rattle.channel.specs.Effects as effects
 use Rattle.channel.specs.Steps as channel
 use Rattle.seat.specs.Steps as seat
@@ -37,12 +38,13 @@ unfolding sender.noneWaiting sender.allSent sender.flagSetIf sender.written send
 of-transmitter = 0
 
 unfoldable pub of-registers : ℕ
-unfolding parts.masterReset words.trigger words.cut registers.plainRegister registers.registerAt registers.fcrKept modem.changesAfter modem.msrOf
+unfolding parts.masterReset words.trigger words.cut registers.plainRegister registers.registerAt registers.fcrKept modem.changesAfter modem.msrOf modem.someChange
     refusing.grounds refusing.refusal
 of-registers = 0
 
 unfoldable pub of-status : ℕ
-unfolding status.lsr status.msr status.lineTrouble status.modemChanged status.causes status.firstCause status.cause status.iir status.line
+unfolding status.lsrOf status.lineTrouble status.causes status.firstCause status.causeOf status.iirOf status.lineOf
+    channel-status.lsr channel-status.msr channel-status.cause channel-status.iir channel-status.line
 of-status = 0
 
 unfoldable pub of-effects : ℕ

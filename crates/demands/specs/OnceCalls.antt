@@ -6,6 +6,7 @@ use Rattle.rates.proofs as rates
 use Rattle.registers.proofs as registers
 use Rattle.receiver.proofs as receiver
 use Rattle.transmitter.proofs as transmitter
+use Rattle.status.proofs as status
 use Rattle.channel.proofs as channel
 use Rattle.lending.proofs as lending
 use Rattle.seat.proofs as seat
@@ -97,6 +98,14 @@ pub record TransmitterOnce (M : Type 1) : Type 2 where
   pub transmitter·Transmitter·shift : Once M transmitter.Transmitter.shift.ended transmitter.Transmitter.shift.clauses transmitter.Transmitter.shift.spec
   pub transmitter·Transmitter·ier-written :
       Once M transmitter.Transmitter.ier_written.ended transmitter.Transmitter.ier_written.clauses transmitter.Transmitter.ier_written.spec
+
+-- ---- status: what a channel shows
+
+pub record StatusOnce (M : Type 1) : Type 2 where
+  pub status·lsr : Once M status.lsr.ended status.lsr.clauses status.lsr.spec
+  pub status·cause : Once M status.cause.ended status.cause.clauses status.cause.spec
+  pub status·iir : Once M status.iir.ended status.iir.clauses status.iir.spec
+  pub status·line : Once M status.line.ended status.line.clauses status.line.spec
 
 -- ---- channel: a channel
 

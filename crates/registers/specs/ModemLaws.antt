@@ -3,11 +3,12 @@ use Prim.Native.Nat.{ℕ, zero, suc, _+_, _^_, _<_}
 use mathlib.Core.Bool.{Bool, true, false, not, _&&_, _||_, xor, and-false, or-true, or-false}
 use mathlib.Core.Path.{_≡_, refl, ap, sym, _∙_}
 use native.Mathlib.Nat.{le-of-suc-le-suc, not-suc-le-zero}
+use native.Mathlib.Omega.{arith}
 use lib.Dec.{eqb}
 use Rattle.base.specs.Bits.{bit}
 use Rattle.base.specs.BitLaws.{bit-bits, bits-small}
 use Rattle.base.specs.PickLaws.{never}
-use Rattle.registers.specs.Modem.{differ, changesAfter, msrOf}
+use Rattle.registers.specs.Modem.{differ, changesAfter, msrOf, someChange}
 
 -- what holds at each number below four holds at every one
 pub below-four : (P : ℕ → Type 0) → P 0 → P 1 → P 2 → P 3 → (k : ℕ) → k < 4 → P k
@@ -74,3 +75,9 @@ module _ (changes inputs : ℕ) where
   pub msr-small : msrOf changes inputs < 0x100
   unfolding msrOf
   msr-small = bits-small _
+
+  -- "any of MSR 0-3": asked of the changes that stand
+  pub modem-changed : someChange (msrOf changes inputs) ≡ someChange changes
+  unfolding someChange
+  modem-changed =
+      (λ i. shows-changes 0 (omega arith) i || shows-changes 1 (omega arith) i || shows-changes 2 (omega arith) i || shows-changes 3 (omega arith) i)

@@ -5,6 +5,7 @@ use mathlib.Core.Path.{_≡_, refl, ap, sym}
 use lib.Dec.{eqb}
 use Rattle.base.specs.Bits.{bit}
 use Rattle.channel.specs.Parts.{masterReset}
+use Rattle.status.specs.Status as status
 use Rattle.channel.specs.Status as channel
 use Rattle.channel.specs.Steps as channel-step
 use Rattle.registers.specs.declared.SeatEvent.{SeatEvent}
@@ -21,7 +22,7 @@ acted-parts s (x ∷ xs) ys = acted-parts (acted s x) xs ys
 
 -- a master reset clears MCR bit 3, without which no line is high
 pub reset-silent : (s : Seat) → line (reset s) ≡ false
-unfolding channel.line masterReset bit
+unfolding channel.line channel.cause status.lineOf masterReset bit
 reset-silent s = and-false (not (eqb (channel.cause (masterReset (s .channel))) 0x01))
 
 -- a master reset of a seat is its channel's: whatever is asked of it afterwards is answered so

@@ -1,18 +1,16 @@
-use Rattle.base.specs.PickLaws.{pick-true, pick-false}
-use Rattle.channel.specs.Status.{line}
+use mathlib.Core.Path.{_∙_}
+use Rattle.status.specs.StatusLaws.{line-by-changes}
+use Rattle.channel.specs.Status.{msr, line}
 use borrow.Author.Needs.{needs}
 use Rattle.channel.proofs.Channel.line.Statement.{statement}
 use Rattle.channel.proofs.Channel.line.Tie as tie
 
-cause-requires : tie.Need-cause-requires
-cause-requires c κs = search needs
-
-bit-requires : tie.Need-bit-requires
-bit-requires c κs = search needs
+line-requires : tie.Need-line-requires
+line-requires c κs = search needs
 
 returns : tie.Need-returns
-unfolding line
-returns c = simp (← c .bit .ensures, ← c .before .cause .ensures, pick-true, pick-false)
+unfolding msr line
+returns c = c .line .ensures ∙ line-by-changes _ _ _ _ _
 
 pub line-spec : {M : Type 1} → statement M
-line-spec = tie.close (tie.spec cause-requires bit-requires returns)
+line-spec = tie.close (tie.spec line-requires returns)

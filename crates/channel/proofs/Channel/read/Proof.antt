@@ -10,8 +10,8 @@ use Rattle.registers.specs.declared.Register.the-variants.{RbrThr, Ier, IirFcr,
 use Rattle.receiver.specs.declared.Got.{Got}
 use Rattle.channel.specs.declared.Channel.{Channel}
 use Rattle.channel.specs.Parts.{withReceiver}
-use Rattle.channel.specs.Status.{msr}
-use Rattle.channel.specs.Effects.{msrRead, byteAt, afterRead, told, readOf}
+use Rattle.channel.specs.Status.{lsr, msr}
+use Rattle.channel.specs.Effects.{lsrRead, msrRead, byteAt, afterRead, told, readOf}
 use Rattle.channel.specs.Steps.{effect}
 use borrow.Author.Needs.{needs}
 use Rattle.channel.proofs.Channel.read.Statement.{statement}
@@ -48,14 +48,22 @@ returns-2 c =
 enum-told-3 : tie.Need-enum-told-3
 enum-told-3 c = search needs
 
-read-lsr-requires : tie.Need-read-lsr-requires
-read-lsr-requires c κs = search needs
+is-fifo-requires : tie.Need-is-fifo-requires
+is-fifo-requires c κs = search needs
+
+lsr-requires : tie.Need-lsr-requires
+lsr-requires c κs = search needs
+
+look-requires : tie.Need-look-requires
+look-requires c κs = search needs
 
 returns-3 : tie.Need-returns-3
-unfolding effect
+unfolding effect afterRead byteAt lsrRead lsr
 returns-3 c =
-    c .read-lsr .ensures
-    ∙ ap (readOf (c .before .before .before .before .args .self)) (sym (c .before .enum-told3 .given .1) ∙ c .before .before .before .register .ensures)
+    let self = c .before .before .before .before .before .before .args .self in
+    let shown : told (withReceiver self (c .look .result)) (c .before .lsr .result) ≡ readOf self Lsr = simp (← c .look .ensures, ← c .before .lsr .ensures, ← c .before .before .is-fifo .ensures) in
+    shown
+    ∙ ap (readOf self) (sym (c .before .before .before .enum-told3 .given .1) ∙ c .before .before .before .before .before .register .ensures)
 
 enum-told-4 : tie.Need-enum-told-4
 enum-told-4 c = search needs
@@ -109,7 +117,9 @@ read-spec =
     read-iir-requires
     returns-2
     enum-told-3
-    read-lsr-requires
+    is-fifo-requires
+    lsr-requires
+    look-requires
     returns-3
     enum-told-4
     modem-status-requires

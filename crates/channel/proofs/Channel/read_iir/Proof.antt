@@ -1,39 +1,30 @@
-use Rattle.base.specs.PickLaws.{pick-true, pick-false, pick-le}
-use native.Mathlib.Omega.{arith}
-use Rattle.channel.specs.StatusLaws.{cause-small}
-use Rattle.channel.specs.Status.{iir}
-use Rattle.channel.specs.Effects.{iirRead, byteAt, afterRead}
+use Prim.Native.Nat.{ℕ, _%_}
+use mathlib.Core.Path.{_≡_, ap, _∙_}
+use lib.Dec.{eqb}
+use Rattle.transmitter.specs.Transmitter.{iirSeen}
+use Rattle.status.specs.StatusLaws.{iir-by-changes}
+use Rattle.channel.specs.Parts.{withTransmitter}
+use Rattle.channel.specs.Status.{msr, iir}
+use Rattle.channel.specs.StatusLaws.{iir-cause}
+use Rattle.channel.specs.Effects.{iirRead, byteAt, afterRead, told}
 use borrow.Author.Needs.{needs}
 use Rattle.channel.proofs.Channel.read_iir.Statement.{statement}
 use Rattle.channel.proofs.Channel.read_iir.Tie as tie
 
-cause-requires : tie.Need-cause-requires
-cause-requires c κs = search needs
-
-is-fifo-requires : tie.Need-is-fifo-requires
-is-fifo-requires c κs = search needs
-
-pick-byte-requires : tie.Need-pick-byte-requires
-pick-byte-requires c κs = search needs
-
-add-byte : tie.Need-add-byte
-add-byte c =
-    omega (arith, cause-small (c .before .before .before .args .self), c .before .before .cause .ensures, c .pick-byte .ensures, pick-le (c .before .is-fifo .result) 192 0 192 (omega arith) (omega arith))
+iir-requires : tie.Need-iir-requires
+iir-requires c κs = search needs
 
 iir-read-requires : tie.Need-iir-read-requires
 iir-read-requires c κs = search needs
 
 returns : tie.Need-returns
-unfolding afterRead byteAt iirRead iir
-returns c = simp (← c .iir-read .ensures, ← c .before .pick-byte .ensures, ← c .before .before .is-fifo .ensures, ← c .before .before .before .cause .ensures, pick-true, pick-false)
+unfolding afterRead byteAt iirRead iir msr
+returns c =
+    let self = c .before .before .args .self in
+    let byte : c .before .iir .result ≡ iir self = c .before .iir .ensures ∙ iir-by-changes _ _ _ _ _ in
+    ap (λ t. told (withTransmitter self t) (c .before .iir .result)) (c .iir-read .ensures)
+    ∙ ap (λ (n : ℕ). told (withTransmitter self (iirSeen (eqb (n % 16) 0x02) (self .transmitter))) n) byte
+    ∙ ap (λ (n : ℕ). told (withTransmitter self (iirSeen (eqb n 0x02) (self .transmitter))) (iir self)) (iir-cause self)
 
 pub read-iir-spec : {M : Type 1} → statement M
-read-iir-spec =
-    tie.close
-    (tie.spec
-    cause-requires
-    is-fifo-requires
-    pick-byte-requires
-    add-byte
-    iir-read-requires
-    returns)
+read-iir-spec = tie.close (tie.spec iir-requires iir-read-requires returns)

@@ -13,7 +13,7 @@ use Rattle.transmitter.specs.Transmitter.{written}
 use Rattle.channel.specs.declared.Channel.{Channel}
 use Rattle.channel.specs.declared.Stepped.{Stepped}
 use Rattle.channel.specs.Parts.{withSettings, withTransmitter}
-use Rattle.channel.specs.Effects.{afterWrite}
+use Rattle.channel.specs.Effects.{ierWritten, afterWrite}
 use Rattle.channel.specs.Steps.{effect}
 use borrow.Author.Needs.{needs}
 use Rattle.channel.proofs.Channel.write.Statement.{statement}
@@ -45,15 +45,25 @@ returns c =
 enum-told-2 : tie.Need-enum-told-2
 enum-told-2 c = search needs
 
-write-ier-requires : tie.Need-write-ier-requires
-write-ier-requires c κs = search needs
+bit-requires : tie.Need-bit-requires
+bit-requires c κs = search needs
+
+bit-requires-2 : tie.Need-bit-requires-2
+bit-requires-2 c κs = search needs
+
+write-requires-2 : tie.Need-write-requires-2
+write-requires-2 c κs = search needs
+
+ier-written-requires : tie.Need-ier-written-requires
+ier-written-requires c κs = search needs
 
 returns-2 : tie.Need-returns-2
-unfolding effect afterWrite
+unfolding effect afterWrite ierWritten
 returns-2 c =
-    let a = c .before .before .before .before .args in
-    ap done (c .write-ier .ensures)
-    ∙ ap (λ (r : Register). done (afterWrite (a .self) r (a .byte))) (sym (c .before .enum-told2 .given .1) ∙ c .before .before .before .register .ensures)
+    let a = c .before .before .before .before .before .before .before .args in
+    let kept-so : done (record { settings = c .before .write2 .result; receiver = a .self .receiver; transmitter = c .ier-written .result; modem = a .self .modem }) ≡ done (afterWrite (a .self) Ier (a .byte)) = simp (← c .ier-written .ensures, ← c .before .write2 .ensures, ← c .before .before .bit2 .ensures, ← c .before .before .before .bit .ensures) in
+    kept-so
+    ∙ ap (λ (r : Register). done (afterWrite (a .self) r (a .byte))) (sym (c .before .before .before .before .enum-told2 .given .1) ∙ c .before .before .before .before .before .before .register .ensures)
 
 enum-told-3 : tie.Need-enum-told-3
 enum-told-3 c = search needs
@@ -68,8 +78,8 @@ returns-3 c =
     ap done (c .write-fcr .ensures)
     ∙ ap (λ (r : Register). done (afterWrite (a .self) r (a .byte))) (sym (c .before .enum-told3 .given .1) ∙ c .before .before .before .register .ensures)
 
-write-requires-2 : tie.Need-write-requires-2
-write-requires-2 c κs = search needs
+write-requires-3 : tie.Need-write-requires-3
+write-requires-3 c κs = search needs
 
 -- the variants that the last arm takes, by their numbers
 abbrev rest : List ℕ
@@ -92,7 +102,7 @@ returns-4 : tie.Need-returns-4
 unfolding effect
 returns-4 c =
     let a = c .before .before .before .args in
-    ap (λ x. done (withSettings (a .self) x)) (c .write2 .ensures)
+    ap (λ x. done (withSettings (a .self) x)) (c .write3 .ensures)
     ∙ ap done (others (a .self) (c .before .before .register .result) (a .byte) (c .before .match .keys4))
     ∙ ap (λ (r : Register). done (afterWrite (a .self) r (a .byte))) (c .before .before .register .ensures)
 
@@ -106,10 +116,13 @@ write-spec =
     write-requires
     returns
     enum-told-2
-    write-ier-requires
+    bit-requires
+    bit-requires-2
+    write-requires-2
+    ier-written-requires
     returns-2
     enum-told-3
     write-fcr-requires
     returns-3
-    write-requires-2
+    write-requires-3
     returns-4)

@@ -1,0 +1,75 @@
+// What a channel shows of its settings and its two sides: the LSR, the cause of an interrupt, the IIR and the line.
+use receiver::Receiver;
+use registers::Settings;
+use transmitter::Transmitter;
+ghost use mathlib.Core.Path.{_≡_};
+ghost use Rattle.status.specs.Status.{lsrOf, causeOf, iirOf, lineOf};
+
+pub const LINE_TROUBLE: u8 = 0x06;
+
+pub const DATA: u8 = 0x04;
+
+pub const TIME_OUT: u8 = 0x0C;
+
+pub const HOLDING_EMPTY: u8 = 0x02;
+
+pub const MODEM: u8 = 0x00;
+
+pub const NO_CAUSE: u8 = 0x01;
+
+pub const FIFO_MARK: u8 = 0xC0;
+
+pub fn lsr(fifo: bool, receiver: Receiver, transmitter: Transmitter) -> u8
+    ensures { λ r. ⌜ r ≡ lsrOf fifo receiver transmitter ⌝ }
+{
+    let marks = receiver.marks(fifo);
+    base::byte_of(
+        !receiver.is_empty(),
+        receiver.overrun,
+        base::bit(0, marks),
+        base::bit(1, marks),
+        base::bit(2, marks),
+        transmitter.is_empty(),
+        transmitter.is_idle(),
+        receiver.any_marked(fifo),
+    )
+}
+
+// Of the MSR its bits 0 to 3 are asked, which are the changes that stand.
+pub fn cause(settings: Settings, receiver: Receiver, transmitter: Transmitter, changes: u8) -> u8
+    ensures { λ r. ⌜ r ≡ causeOf settings receiver transmitter changes ⌝ }
+{
+    let fifo = settings.is_fifo();
+    if base::bit(Settings::IER_LINE, settings.ier) & receiver.trouble(fifo) {
+        return LINE_TROUBLE;
+    }
+    let data = base::bit(Settings::IER_DATA, settings.ier);
+    let late = receiver.timed_out();
+    if data & receiver.data(fifo, settings.trigger()) {
+        return DATA;
+    }
+    if data & late {
+        return TIME_OUT;
+    }
+    if base::bit(Settings::IER_HOLDING, settings.ier) & transmitter.flag {
+        return HOLDING_EMPTY;
+    }
+    if base::bit(Settings::IER_MODEM, settings.ier) & registers::any_change(changes) {
+        return MODEM;
+    }
+    NO_CAUSE
+}
+
+pub fn iir(settings: Settings, receiver: Receiver, transmitter: Transmitter, changes: u8) -> u8
+    ensures { λ r. ⌜ r ≡ iirOf settings receiver transmitter changes ⌝ }
+{
+    let named = cause(settings, receiver, transmitter, changes);
+    named + base::pick_byte(settings.is_fifo(), FIFO_MARK, 0)
+}
+
+pub fn line(settings: Settings, receiver: Receiver, transmitter: Transmitter, changes: u8) -> bool
+    ensures { λ r. ⌜ r ≡ lineOf settings receiver transmitter changes ⌝ }
+{
+    let named = cause(settings, receiver, transmitter, changes);
+    !(named == NO_CAUSE) & base::bit(Settings::MCR_LINE, settings.mcr)
+}
