@@ -20,23 +20,14 @@ fn numbered(records: usize, n: u64) -> usize
     records
 }
 
-fn ran(bench: Bench, records: usize, bytes: usize, written: usize) -> Ran
-    ensures { λ r. ⌜ r ≡ record { bench = bench; records = records; used = min (4 * records) bytes; written = written } ⌝ }
+// The bytes of so many records, of which the input may cut off the last.
+fn used(records: usize, bytes: usize) -> usize
+    ensures { λ r. ⌜ r ≡ min (4 * records) bytes ⌝ }
 {
     if records <= bytes / 4 {
-        return Ran {
-            bench,
-            records,
-            used: 4 * records,
-            written,
-        };
+        return 4 * records;
     }
-    Ran {
-        bench,
-        records,
-        used: bytes,
-        written,
-    }
+    bytes
 }
 
 // The digits of n before its last, which `front` has already unless n is the first of its ten: nine times of ten nothing is divided.
@@ -83,5 +74,11 @@ pub fn run(mut bench: Bench, n: u64, input: &[u8], last: bool, out: &mut [u8]) -
             k += 1;
         }
     }
-    ran(bench, k, input.len(), place)
+    let used = used(k, input.len());
+    Ran {
+        bench,
+        records: k,
+        used,
+        written: place,
+    }
 }

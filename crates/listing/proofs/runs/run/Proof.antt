@@ -138,8 +138,8 @@ loop-again-2 c =
       inl (until (c .before .before .before .before .before .before .before .before .before .before .before .before .before .before .before .before)),
     )
 
-ran-requires : tie.Need-ran-requires Inv-loop μ-loop
-ran-requires c κs = tt
+used-requires : tie.Need-used-requires Inv-loop μ-loop
+used-requires c κs = tt
 
 same-length : tie.Need-same-length Inv-loop μ-loop
 same-length c = c .before .before .loop .inv .1 .same
@@ -147,7 +147,7 @@ same-length c = c .before .before .loop .inv .1 .same
 returns : tie.Need-returns Inv-loop μ-loop
 returns c =
     let i = c .before .before .loop in
-    rw (c .ran .ensures) (ended _ _ _ _ _ _ _ _ _ _ (i .inv .1) (i .inv .3) (i .inv .0) (c .before .loop-test .left))
+    rw (c .used .ensures) (ended _ _ _ _ _ _ _ _ _ _ (i .inv .1) (i .inv .3) (i .inv .0) (c .before .loop-test .left))
 
 pub run-spec : {M : Type 1} → statement M
 run-spec =
@@ -178,6 +178,6 @@ run-spec =
     add-k
     loop-less-2
     loop-again-2
-    ran-requires
+    used-requires
     same-length
     returns)
