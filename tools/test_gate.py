@@ -23,6 +23,7 @@ class Gate(Room):
         super().setUp()
         self.script("bin/rt", RT)
         self.script("tools/checks/10-good", "#!/bin/sh\necho good\n")
+        self.script("second/build", '#!/bin/sh\necho building; echo built >>"$1/second"\n')
         self.script("tools/programs/10-run", "#!/bin/sh\necho ran\n")
         self.script("tools/reading", '#!/bin/sh\necho "reading $*"\n')
         self.write("crates.txt", "lamp:\n")
@@ -54,6 +55,19 @@ class Gate(Room):
         self.assertEqual((status, said[-1]), (0, VERDICT))
         order = [said.index(line) for line in ("reading --check", "good", "proving", "ran", VERDICT)]
         self.assertEqual(order, sorted(order))
+
+    def test_second_program_is_built_once_for_every_check(self):
+        for name in ("tools/checks/20-second", "tools/programs/20-second"):
+            self.script(name, '#!/bin/sh\ncat "$HAILSTOAT_SECOND/second"\n')
+        _, said = self.run_it()
+        self.assertEqual([said.count(line) for line in ("building", "built")], [1, 2])
+
+    def test_second_program_that_cannot_be_built_stops_it(self):
+        self.script("second/build", "#!/bin/sh\nexit 1\n")
+        status, said = self.run_it()
+        self.assertEqual(status, 1)
+        self.assertRegex(said[-1], "^tools/test: failed: second/build ")
+        self.assertNotIn("good", said)
 
     def test_what_is_skipped_is_told_right_before_the_verdict(self):
         self.script("tools/programs/20-half", '#!/bin/sh\necho "the lamp" >>"$HAILSTOAT_SKIPPED"\n')

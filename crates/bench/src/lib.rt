@@ -8,6 +8,7 @@ mod seats;
 mod steps;
 
 pub use seats::chair;
+pub use seats::reset_all;
 ghost use mathlib.Core.Path.{_≡_};
 ghost use Rattle.bench.specs.Seats.{powerUp};
 

@@ -6,7 +6,7 @@ ghost use mathlib.Core.List.{map};
 ghost use Rattle.seat.specs.Seats.{reset};
 ghost use Rattle.bench.specs.Seats.{chair as Seats·chair};
 
-pub(crate) fn reset_all(mut s: [Seat; SEATS]) -> [Seat; SEATS]
+pub fn reset_all(mut s: [Seat; SEATS]) -> [Seat; SEATS]
     ensures { λ r. ⌜ r ≡ map reset s ⌝ }
 {
     let mut i: usize = 0;

@@ -163,6 +163,7 @@ pub bench-once : (M : Type 1) → BenchOnce M
 bench-once M =
     record {
       bench·chair = value _ refl (λ κ a v w. refl);
+      bench·reset-all = value _ refl (λ κ a v w. refl);
       bench·Bench·power-up = value _ refl (λ κ a v w. refl);
       bench·Bench·step = value _ refl (λ κ a v w. refl);
       bench·Bench·step-short = value _ refl (λ κ a v w. refl);
@@ -176,7 +177,6 @@ listing-once M =
     record {
       text·put-front = told _ refl (λ κ a r s v w p q. (p .0 ∙ sym (q .0), λ i. ((p .1 ∙ sym (q .1)) i, (tt, tt))));
       text·put-after = told _ refl (λ κ a r s v w p q. (p .next ∙ sym (q .next), λ i. ((p .bytes ∙ sym (q .bytes)) i, (tt, (tt, (tt, (tt, (tt, tt))))))));
-      listing·put-line = told _ refl (λ κ a r s v w p q. (p .next ∙ sym (q .next), λ i. ((p .bytes ∙ sym (q .bytes)) i, (tt, (tt, (tt, (tt, tt)))))));
       listing·run = told _ refl (λ κ a r s v w p q.
           let same = runs-one _ _ _ _ _ _ _ _ _ p q in
           (same .0, λ i. (tt, (tt, (tt, (tt, (same .1 i, tt)))))));

@@ -166,6 +166,7 @@ pub record RecordsOnce (M : Type 1) : Type 2 where
 
 pub record BenchOnce (M : Type 1) : Type 2 where
   pub bench·chair : Once M bench.chair.ended bench.chair.clauses bench.chair.spec
+  pub bench·reset-all : Once M bench.reset_all.ended bench.reset_all.clauses bench.reset_all.spec
   pub bench·Bench·power-up : Once M bench.Bench.power_up.ended bench.Bench.power_up.clauses bench.Bench.power_up.spec
   pub bench·Bench·step : Once M bench.Bench.step.ended bench.Bench.step.clauses bench.Bench.step.spec
   pub bench·Bench·step-short : Once M bench.Bench.step_short.ended bench.Bench.step_short.clauses bench.Bench.step_short.spec
@@ -178,7 +179,6 @@ pub record BenchOnce (M : Type 1) : Type 2 where
 pub record ListingOnce (M : Type 1) : Type 2 where
   pub text·put-front : Once M text.put_front.ended text.put_front.clauses text.put_front.spec
   pub text·put-after : Once M text.put_after.ended text.put_after.clauses text.put_after.spec
-  pub listing·put-line : Once M listing.put_line.ended listing.put_line.clauses listing.put_line.spec
   pub listing·run : Once M listing.run.ended listing.run.clauses listing.run.spec
 
 -- ---- lesson: a text, with the buffer that is lent back

@@ -19,6 +19,7 @@ use ghost.Atoms.{Atoms, sem}
 use types.Kit.{Given, Item, Post, Seq, Step, Go, runs, atRet, ‵, _$_, !, by, step, move, keep, rewrite}
 use types.Run.{look, look-raw, init, store, store-raw, forget, stop, hop, fld, from, load, lit, bin, un, addr, of-opd, assigns, returns, free1, free0}
 use types.Part.{whole, sub, look-in}
+use Rattle.records.specs.Events.{seatCount}
 use Rattle.bench.specs.Seats.{chair}
 use Rattle.embed.specs.Bytes.{seatBytes, seatsBytes}
 
@@ -35,7 +36,7 @@ offset-fits n = omega arith
 cast-ok : (n : ℕ) → n < 2 ^ 8 → Dom (op1Chk (cast unsigned unsigned w64) (vint w8 n))
 cast-ok n fits = record { fits = wide n fits }
 
-rem-ok : (n : ℕ) → Dom (op2Chk (rem unsigned) (vint w64 n) (vint w64 8))
+rem-ok : (n : ℕ) → Dom (op2Chk (rem unsigned) (vint w64 n) (vint w64 seatCount))
 rem-ok n = omega arith
 
 mul-ok : (n : ℕ) → Dom (op2Chk (mul unsigned) (vint w64 (chair n)) (vint w64 seatBytes))
@@ -76,7 +77,7 @@ module _ {M : Type 1} {𝓤 : URA M} {H : Heap 𝓤} {A : Atoms 𝓤} (W : Given
       (bare τK l₁₃ (bare τS l₁₂ (found (bare played l₈) (bare (tyInt w32) l₀) Γ)))
       (runs Cs Λ E rest q)
       (bare τK l₁₃ (bare τS l₁₂ (unfound Γ)))
-      (runs Cs Λ E (seq (assign (place 9 []) (op1 (cast unsigned unsigned w64) (copy (place 3 [])))) (seq (assign (place 6 []) (op2 (rem unsigned) (copy (place 9 [])) (int w64 8)))
+      (runs Cs Λ E (seq (assign (place 9 []) (op1 (cast unsigned unsigned w64) (copy (place 3 [])))) (seq (assign (place 6 []) (op2 (rem unsigned) (copy (place 9 [])) (int w64 seatCount)))
       (seq (assign (place 9 []) (op2 (mul unsigned) (copy (place 6 [])) (int w64 seatBytes))) (seq (assign (place 10 []) (addrOf (place 1 (deref τB ∷ field 0 ∷ []))))
       (seq (assign (place 11 []) (op2 offset (copy (place 10 [])) (copy (place 9 [])))) (seq (assign (place 7 []) (addrOf (place 11 (deref τS ∷ [])))) rest)))))) q)
   finds fits held-typed first lies = step (λ t.

@@ -1,9 +1,9 @@
 -- The run's loop, one record at a time: what holds after k records, and how the run ends.
 use Prim.Native.Nat.{ℕ, suc, _+_, _-_, _*_, _≤_, _<_, min}
-use mathlib.Core.Path.{_≡_, refl, sym, ap, subst, _∙_}
+use mathlib.Core.Path.{_≡_, refl, sym, ap, _∙_}
 use mathlib.Core.Bool.{Bool, true, false, and-false}
 use mathlib.Core.List.{List, [], _∷_, _++_, append-nil}
-use mathlib.Core.Logic.{⊎-elim}
+use mathlib.Core.Logic.{_⊎_, inl, inr, ⊎-elim}
 use native.Mathlib.Omega.{arith}
 use native.Mathlib.Numerals.{add-one}
 use native.Mathlib.Nat.{add-zero, zero-add, sub-zero, eq-or-lt-of-le}
@@ -11,6 +11,7 @@ use lib.Dec.{ltb}
 use lib.ListN.{length, take, drop, getD, length-append, drop-of-length-le}
 use lib.Seq.{sets, length-sets, take-suc, drop-cons, length-take-le}
 use borrow.Author.Tests.{le-ltb, lt-ltb, le-leb, lt-leb, leb-true, leb-false}
+use Rattle.base.specs.declared.Answer.{Answer}
 use Rattle.base.specs.Pick.{pick}
 use Rattle.base.specs.PickLaws.{pick-true, pick-false}
 use Rattle.records.specs.Events.{Record, short}
@@ -18,9 +19,9 @@ use Rattle.bench.specs.Runs.{afterAll}
 use Rattle.bench.specs.RunLaws.{after-parts}
 use Rattle.bench.specs.Steps.{outcome}
 use Rattle.bench.specs.declared.Bench.{Bench}
-use Rattle.bench.specs.declared.Outcome.{Outcome}
-use Rattle.text.specs.Line.{longest, Puts}
-use Rattle.text.specs.LineLaws.{line-some}
+use Rattle.text.specs.Front.{front, lineAfter, rest}
+use Rattle.text.specs.Line.{longest, Put, Puts}
+use Rattle.text.specs.LineLaws.{line-some, puts-after}
 use Rattle.text.specs.StoreLaws.{sets-append}
 use Rattle.listing.specs.Run.{lineOf, listing, answered, fits, numberEnd, recordsOf, Runs}
 use Rattle.listing.specs.RunLaws.{listing-parts, record-count, record-inside}
@@ -37,12 +38,11 @@ unfolding pick
 some-room true place size ne = refl
 some-room false place size ne = absurd (ne refl)
 
--- what a run's test tells of the record that is next: it is there, it begins inside the input, and its number fits 64 bits
-pub ahead : (last : Bool) (s : List ℕ) (n k count records : ℕ) → k < count → count ≡ min records (numberEnd - n) → records ≡ recordCount last (length s)
-    → (k < length (recordsOf last s)) × (4 * k < length s) × (n + k < numberEnd)
-ahead last s n k count records less is all =
-    let there : k < recordCount last (length s) = omega arith in
-    (omega (arith, record-count last s), record-inside last (length s) k there, omega arith)
+-- a line put behind the digits before its last is the record's, where answer and output are its own
+pub told-put : (b : Bench) (r : Record) (l : List ℕ) (n : ℕ) (a : Answer) (o : Bool) (d d′ : List ℕ) (w next : ℕ) → l ≡ front n → n < numberEnd
+    → (a ≡ outcome b r .answer) × (o ≡ outcome b r .output) → Put (lineAfter l n a o) (length l + rest) d d′ w next
+    → Puts n (outcome b r .answer) (outcome b r .output) d d′ w next
+told-put b r l n a o d d′ w next is small told p = rw (← told .0, ← told .1) (puts-after l n a o d d′ w next is (omega arith) p)
 
 -- what holds after k of the records rs, of which the first has number n, from the bench b₀ and the buffer d₀
 pub record Turn (b₀ : Bench) (n : ℕ) (rs : List Record) (d₀ : List ℕ) (b : Bench) (d : List ℕ) (w k : ℕ) : Type 0 where
@@ -66,13 +66,15 @@ start b n rs d = record {
   short = omega arith;
 }
 
-module _ (b₀ : Bench) (n : ℕ) (rs : List Record) (d₀ : List ℕ) (b : Bench) (d d′ : List ℕ) (w k : ℕ) (r : Record) (next : ℕ) (o : Outcome) (came : o ≡ outcome b r)
-    (t : Turn b₀ n rs d₀ b d w k) (p : Puts (n + k) (o .answer) (o .output) d d′ w next) (more : k < length rs) (is : getD rs k short ≡ r) where
+-- the next line finds no room: so many are answered, and there was less room than the longest lines take
+pub record Full (b₀ : Bench) (n : ℕ) (rs : List Record) (d₀ : List ℕ) (k : ℕ) : Type 0 where
+  pub told : answered b₀ n rs (length d₀) ≡ k
+  pub narrow : longest * length rs ≤ length d₀ → ⊥
+
+module _ (b₀ : Bench) (n : ℕ) (rs : List Record) (d₀ : List ℕ) (b : Bench) (d d′ : List ℕ) (w k : ℕ) (r : Record) (next : ℕ) (t : Turn b₀ n rs d₀ b d w k)
+    (p : Puts (n + k) (outcome b r .answer) (outcome b r .output) d d′ w next) (more : k < length rs) (is : getD rs k short ≡ r) where
   abbrev size : ℕ
   size = length (lineOf b (n + k) r)
-
-  h : Puts (n + k) (outcome b r .answer) (outcome b r .output) d d′ w next
-  h = subst (λ (x : Outcome). Puts (n + k) (x .answer) (x .output) d d′ w next) came p
 
   one-more : take (k + 1) rs ≡ take k rs ++ (r ∷ [])
   one-more = rw (add-one k, ← is) (take-suc rs k short more)
@@ -91,16 +93,16 @@ module _ (b₀ : Bench) (n : ℕ) (rs : List Record) (d₀ : List ℕ) (b : Benc
 
   module _ (moved : next ≡ w → ⊥) (small : n + k < numberEnd) where
     yes : roomAt b (n + k) r d w ≡ true
-    yes = some-room (roomAt b (n + k) r d w) w size (λ e. moved (h .next ∙ e))
+    yes = some-room (roomAt b (n + k) r d w) w size (λ e. moved (p .next ∙ e))
 
     ends : w + size ≤ length d
     ends = leb-true (w + size) (length d) yes
 
     next-is : next ≡ w + size
-    next-is = h .next ∙ pick-true _ _ _ yes
+    next-is = p .next ∙ pick-true _ _ _ yes
 
     bytes-is : d′ ≡ sets d w (lineOf b (n + k) r)
-    bytes-is = h .bytes ∙ pick-true _ _ _ yes
+    bytes-is = p .bytes ∙ pick-true _ _ _ yes
 
     goes-on : answered b (n + k) (r ∷ drop (suc k) rs) (length d₀ - w)
         ≡ suc (answered (outcome b r .bench) (suc (n + k)) (drop (suc k) rs) (length d₀ - w - size))
@@ -112,8 +114,8 @@ module _ (b₀ : Bench) (n : ℕ) (rs : List Record) (d₀ : List ℕ) (b : Benc
         rw (lt-ltb (n + k) numberEnd small) (le-leb size (length d₀ - w) (omega arith)) in
         pick-true _ _ _ it-fits
 
-    after-it : Turn b₀ n rs d₀ (outcome b r .bench) d′ next (k + 1)
-    after-it = record {
+    pub turn : Turn b₀ n rs d₀ (outcome b r .bench) d′ next (k + 1)
+    turn = record {
       bench = sym bench-more;
       written = rw (listing-more, length-append, ← t .written) next-is;
       bytes = rw (listing-more, sets-append (listing b₀ n (take k rs)), zero-add, ← t .bytes, ← t .written) bytes-is;
@@ -127,23 +129,20 @@ module _ (b₀ : Bench) (n : ℕ) (rs : List Record) (d₀ : List ℕ) (b : Benc
           ∙ rw (next-is, e1, e2, add-one k);
       same = rw (bytes-is, length-sets) (t .same);
       inside = let f : w + size ≤ length d = ends in rw next-is (omega (arith, t .same));
-      short = let f : size ≤ longest = h .short in rw next-is (omega (arith, t .short));
+      short = let f : size ≤ longest = p .short in rw next-is (omega (arith, t .short));
     }
-
-    pub turn : Turn b₀ n rs d₀ (o .bench) d′ next (k + 1)
-    turn = subst (λ (x : Outcome). Turn b₀ n rs d₀ (x .bench) d′ next (k + 1)) (sym came) after-it
 
   -- where the place did not move, the run ends with this record left
   module _ (still : next ≡ w) where
     no : roomAt b (n + k) r d w ≡ false
-    no = no-room (roomAt b (n + k) r d w) w size (line-some (n + k) _ _) (sym (h .next) ∙ still)
+    no = no-room (roomAt b (n + k) r d w) w size (line-some (n + k) _ _) (sym (p .next) ∙ still)
 
-    pub kept : d′ ≡ d
-    kept = h .bytes ∙ pick-false _ _ _ no
+    kept : d′ ≡ d
+    kept = p .bytes ∙ pick-false _ _ _ no
 
-    pub full : answered b₀ n rs (length d₀) ≡ k
+    left-out : answered b₀ n rs (length d₀) ≡ k
     unfolding answered
-    full =
+    left-out =
         let e : length d ≡ length d₀ = t .same in
         let f : length d < w + size = leb-false (w + size) (length d) no in
         let i : w ≤ length d₀ = t .inside in
@@ -151,16 +150,34 @@ module _ (b₀ : Bench) (n : ℕ) (rs : List Record) (d₀ : List ℕ) (b : Benc
         rw (lt-leb size (length d₀ - w) (omega arith)) (and-false (ltb (n + k) numberEnd)) in
         t .left ∙ rw (next-up, pick-false _ _ _ it-does-not) (add-zero k)
 
-    -- and there was less room than the longest lines take
-    pub too-short : longest * length rs ≤ length d₀ → ⊥
-    too-short long =
+    pub full : Turn b₀ n rs d₀ b d′ w k × Full b₀ n rs d₀ k
+    full =
         let e : length d ≡ length d₀ = t .same in
         let f : length d < w + size = leb-false (w + size) (length d) no in
-        let g : size ≤ longest = h .short in
-        omega (arith, t .short)
+        let g : size ≤ longest = p .short in (
+          rw kept t,
+          record { told = left-out; narrow = λ long. omega (arith, t .short) },
+        )
 
--- the end of the records, or of the numbers
-pub over : (b₀ : Bench) (n : ℕ) (rs : List Record) (d₀ : List ℕ) (b : Bench) (d : List ℕ) (w k : ℕ)
+-- ---- how far a run goes: to the last record or the last number, or no further than it came, for want of room
+
+abbrev pub Until : Bench → ℕ → List Record → List ℕ → ℕ → ℕ → Type 0
+Until b₀ n rs d₀ end k = (end ≡ min (length rs) (numberEnd - n)) ⊎ ((end ≡ k) × Full b₀ n rs d₀ k)
+
+-- while it goes on, nothing has wanted room
+pub going : (b₀ : Bench) (n : ℕ) (rs : List Record) (d₀ : List ℕ) (end k : ℕ) → Until b₀ n rs d₀ end k → k < end → end ≡ min (length rs) (numberEnd - n)
+going b₀ n rs d₀ end k (inl e) less = e
+going b₀ n rs d₀ end k (inr f) less = absurd (omega (arith, f .0))
+
+-- and then the next record is there, it begins inside the input, and its number fits 64 bits
+pub ahead : (last : Bool) (s : List ℕ) (n end k : ℕ) → end ≡ min (length (recordsOf last s)) (numberEnd - n) → k < end
+    → (k < length (recordsOf last s)) × (4 * k < length s) × (n + k < numberEnd)
+ahead last s n end k e less =
+    let there : k < recordCount last (length s) = omega (arith, record-count last s) in
+    (omega arith, record-inside last (length s) k there, omega arith)
+
+-- at the end of the records, or of the numbers, all are answered that could be
+over : (b₀ : Bench) (n : ℕ) (rs : List Record) (d₀ : List ℕ) (b : Bench) (d : List ℕ) (w k : ℕ)
     → Turn b₀ n rs d₀ b d w k → k ≡ min (length rs) (numberEnd - n) → answered b₀ n rs (length d₀) ≡ k
 unfolding answered
 over b₀ n rs d₀ b d w k t at-end =
@@ -174,27 +191,24 @@ over b₀ n rs d₀ b d w k t at-end =
     t .left ∙ rw (drop-cons rs k short less, it-does-not, pick-false) (add-zero k))
     (eq-or-lt-of-le within)
 
--- the answer of a run that ends after k records
-pub finished : (b₀ : Bench) (n : ℕ) (s : List ℕ) (last : Bool) (d₀ : List ℕ) (b : Bench) (d d′ : List ℕ) (w k : ℕ)
-    → Turn b₀ n (recordsOf last s) d₀ b d w k → answered b₀ n (recordsOf last s) (length d₀) ≡ k → d′ ≡ d
-    → (longest * length (recordsOf last s) ≤ length d₀ → n + length (recordsOf last s) ≤ numberEnd → k ≡ length (recordsOf last s))
-    → Runs b₀ n s last d₀ d′ (record { bench = b; records = k; used = min (4 * k) (length s); written = w })
-finished b₀ n s last d₀ b d d′ w k t e same enough = record {
-  records = sym e;
-  used = refl;
-  bench = rw e (t .bench);
-  written = rw e (t .written);
-  bytes = rw e (same ∙ t .bytes);
-  inside = t .inside;
-  enough = enough;
-}
+module _ (b₀ : Bench) (n : ℕ) (s : List ℕ) (last : Bool) (d₀ : List ℕ) (b : Bench) (d : List ℕ) (w end k : ℕ) (t : Turn b₀ n (recordsOf last s) d₀ b d w k) where
+  -- the answer of a run that ends after k records
+  finished : answered b₀ n (recordsOf last s) (length d₀) ≡ k
+      → (longest * length (recordsOf last s) ≤ length d₀ → n + length (recordsOf last s) ≤ numberEnd → k ≡ length (recordsOf last s))
+      → Runs b₀ n s last d₀ d (record { bench = b; records = k; used = min (4 * k) (length s); written = w })
+  finished e enough = record {
+    records = sym e;
+    used = refl;
+    bench = rw e (t .bench);
+    written = rw e (t .written);
+    bytes = rw e (t .bytes);
+    inside = t .inside;
+    enough = enough;
+  }
 
--- the answer of a run whose next record, whatever way its outcome came, finds no room for its line
-pub stopped : (b₀ : Bench) (n : ℕ) (s : List ℕ) (last : Bool) (d₀ : List ℕ) (b : Bench) (d d′ : List ℕ) (w k next : ℕ) (r : Record) (o : Outcome)
-    → o ≡ outcome b r → Turn b₀ n (recordsOf last s) d₀ b d w k → Puts (n + k) (o .answer) (o .output) d d′ w next
-    → k < length (recordsOf last s) → getD (recordsOf last s) k short ≡ r → next ≡ w
-    → Runs b₀ n s last d₀ d′ (record { bench = b; records = k; used = min (4 * k) (length s); written = w })
-stopped b₀ n s last d₀ b d d′ w k next r o came t p more is still =
-    finished b₀ n s last d₀ b d d′ w k t (full _ _ _ _ _ _ _ _ _ _ _ o came t p more is still)
-    (kept _ _ _ _ _ _ _ _ _ _ _ o came t p more is still)
-    (λ long fit. absurd (too-short _ _ _ _ _ _ _ _ _ _ _ o came t p more is still long))
+  pub ended : Until b₀ n (recordsOf last s) d₀ end k → k ≤ end → end ≤ k
+      → Runs b₀ n s last d₀ d (record { bench = b; records = k; used = min (4 * k) (length s); written = w })
+  ended (inl e) within over-it =
+      let at-end : k ≡ min (length (recordsOf last s)) (numberEnd - n) = omega arith in
+      finished (over b₀ n (recordsOf last s) d₀ b d w k t at-end) (λ long fit. at-end ∙ omega arith)
+  ended (inr f) within over-it = finished (f .1 .told) (λ long fit. absurd (f .1 .narrow long))

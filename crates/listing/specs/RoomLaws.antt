@@ -1,4 +1,4 @@
--- How much finds room: a line that fits is put, and a run answers as many records as fit, no fewer and no more.
+-- How much finds room: a run answers as many records as fit, no fewer and no more.
 use Prim.Native.Nat.{ℕ, zero, suc, _+_, _-_, _*_, _≤_, _<_}
 use mathlib.Core.Bool.{Bool, true, false}
 use mathlib.Core.List.{List, [], _∷_, _++_}
@@ -7,34 +7,15 @@ use mathlib.Core.Logic.{⊎-elim}
 use native.Mathlib.Omega.{arith}
 use lib.Dec.{ltb, leb}
 use lib.ListN.{length, take, drop, length-append, drop-of-length-le}
-use lib.Seq.{sets}
 use borrow.Author.Tests.{lt-ltb, le-leb, lt-leb, leb-true, ltb-true, ltb-false}
 use Rattle.base.specs.PickLaws.{pick-true, pick-false, pick-cases, both-hold, either-way}
-use Rattle.base.specs.declared.Answer.{Answer}
 use Rattle.records.specs.Events.{Record}
 use Rattle.bench.specs.Steps.{outcome}
 use Rattle.bench.specs.declared.Bench.{Bench}
-use Rattle.text.specs.Line.{line, Puts}
 use Rattle.listing.specs.Run.{recordsOf, lineOf, listing, fits, answered, numberEnd, Runs}
 use Rattle.listing.specs.RunLaws.{record-count, record-inside}
 use Rattle.listing.specs.PartLaws.{records-left}
 use Rattle.listing.specs.declared.Ran.{Ran}
-
--- ---- one line
-
-module _ (n : ℕ) (a : Answer) (o : Bool) (d d′ : List ℕ) (place r : ℕ) (p : Puts n a o d d′ place r) where
-  -- room for exactly the line is enough
-  pub line-put : place + length (line n a o) ≤ length d → (r ≡ place + length (line n a o)) × (d′ ≡ sets d place (line n a o))
-  line-put room =
-      let yes : leb (place + length (line n a o)) (length d) ≡ true = le-leb _ _ room in
-      (p .next ∙ pick-true _ _ _ yes, p .bytes ∙ pick-true _ _ _ yes)
-
-  pub line-left : length d < place + length (line n a o) → (r ≡ place) × (d′ ≡ d)
-  line-left full =
-      let no : leb (place + length (line n a o)) (length d) ≡ false = lt-leb _ _ full in
-      (p .next ∙ pick-false _ _ _ no, p .bytes ∙ pick-false _ _ _ no)
-
--- ---- a run
 
 -- so many records whose lines have room, and whose numbers fit 64 bits, are answered: no fewer
 pub answered-most : (k : ℕ) (b : Bench) (n : ℕ) (rs : List Record) (room : ℕ) → k ≤ length rs → n + k ≤ numberEnd

@@ -6,7 +6,7 @@ use seat::Seat;
 ghost use mathlib.Core.Path.{_≡_};
 ghost use Prim.Native.Nat.{_<_};
 ghost use lib.ListN.{length};
-ghost use Rattle.records.specs.Events.{whole, short};
+ghost use Rattle.records.specs.Events.{whole};
 ghost use Rattle.records.specs.Parts.{parted};
 ghost use Rattle.listing.specs.Places.{recordAt, recordCount};
 ghost use Rattle.listing.specs.Held.{heldRecord, Holds};
@@ -31,20 +31,6 @@ pub(crate) fn record_count(bytes: usize, last: bool) -> usize
     bytes / 4
 }
 
-fn held_short() -> Held
-    ensures { λ r. ⌜ Holds r short ⌝ }
-{
-    Held {
-        short: true,
-        resets: false,
-        chair: bench::chair(0),
-        kind: 0,
-        seat: 0,
-        number: 0,
-        value: 0,
-    }
-}
-
 fn held_whole(kind: u8, seat: u8, number: u8, value: u8) -> Held
     ensures { λ r. ⌜ Holds r (whole kind seat number value) ⌝ }
 {
@@ -65,7 +51,15 @@ pub(crate) fn record_at(input: &[u8], at: usize) -> Held
     ensures { λ r. ⌜ Holds r (recordAt (now (input .entry)) at) ⌝ }
 {
     if input.len() - at < 4 {
-        return held_short();
+        return Held {
+            short: true,
+            resets: false,
+            chair: 0,
+            kind: 0,
+            seat: 0,
+            number: 0,
+            value: 0,
+        };
     }
     held_whole(input[at], input[at + 1], input[at + 2], input[at + 3])
 }

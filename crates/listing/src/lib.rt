@@ -1,10 +1,8 @@
 // Records in, lines out: the listing of a run of records, byte for byte.
 mod held;
-mod lines;
 mod runs;
 
 use bench::Bench;
-pub use lines::put_line;
 pub use runs::run;
 
 // What a run leaves: the bench after it, the records that it answered, the bytes of the input that they were, and the bytes

@@ -20,23 +20,14 @@ fn numbered(records: usize, n: u64) -> usize
     records
 }
 
-fn ran(bench: Bench, records: usize, bytes: usize, written: usize) -> Ran
-    ensures { λ r. ⌜ r ≡ record { bench = bench; records = records; used = min (4 * records) bytes; written = written } ⌝ }
+// The bytes of so many records, of which the input may cut off the last.
+fn used(records: usize, bytes: usize) -> usize
+    ensures { λ r. ⌜ r ≡ min (4 * records) bytes ⌝ }
 {
     if records <= bytes / 4 {
-        return Ran {
-            bench,
-            records,
-            used: 4 * records,
-            written,
-        };
+        return 4 * records;
     }
-    Ran {
-        bench,
-        records,
-        used: bytes,
-        written,
-    }
+    bytes
 }
 
 // The digits of n before its last, which `front` has already unless n is the first of its ten: nine times of ten nothing is divided.
@@ -55,48 +46,39 @@ fn keep_front(front: &mut [u8; 20], digits: usize, n: u64) -> usize
 pub fn run(mut bench: Bench, n: u64, input: &[u8], last: bool, out: &mut [u8]) -> Ran
     ensures { λ r. ⌜ Runs bench n (now (input .entry)) last (now (out .entry)) (now (out .exit)) r ⌝ }
 {
-    let count = numbered(held::record_count(input.len(), last), n);
+    let mut end = numbered(held::record_count(input.len(), last), n);
     let mut k: usize = 0;
     let mut place: usize = 0;
     let mut front = [0u8; 20];
     let mut digits = text::put_front(&mut front, n);
-    while k < count {
+    while k < end {
         let m = n + k as u64;
         digits = keep_front(&mut front, digits, m);
         let held = held::record_at(input, 4 * k);
-        if held.resets {
-            let met = bench.reset();
-            let answer = met.answer;
-            let next = text::put_after(&mut *out, place, &front[..digits], m, answer, met.output);
-            if next == place {
-                return ran(bench, k, input.len(), place);
-            }
-            let after = met.bench;
-            bench = after;
-            place = next;
-            k += 1;
-            continue;
-        }
         let at = held.chair;
         let met = held::meet(bench.seats[at], bench.controller, held);
         let moved = met.controller;
+        let high = moved.output();
         let answer = met.answer;
-        let next = text::put_after(
-            &mut *out,
-            place,
-            &front[..digits],
-            m,
-            answer,
-            moved.output(),
-        );
+        let next = text::put_after(&mut *out, place, &front[..digits], m, answer, high);
         if next == place {
-            return ran(bench, k, input.len(), place);
+            end = k;
+        } else {
+            if held.resets {
+                bench.seats = bench::reset_all(bench.seats);
+            }
+            let stood = met.seat;
+            bench.seats[at] = stood;
+            bench.controller = moved;
+            place = next;
+            k += 1;
         }
-        let stood = met.seat;
-        bench.seats[at] = stood;
-        bench.controller = moved;
-        place = next;
-        k += 1;
     }
-    ran(bench, k, input.len(), place)
+    let used = used(k, input.len());
+    Ran {
+        bench,
+        records: k,
+        used,
+        written: place,
+    }
 }

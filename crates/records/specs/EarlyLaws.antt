@@ -1,13 +1,14 @@
 -- What decoding refuses, and what it leaves to the rooms.
 use Prim.Native.Nat.{ℕ, _<_, _≤_}
 use mathlib.Core.Bool.{true}
-use mathlib.Core.Path.{_≡_, refl}
+use mathlib.Core.List.{List, [], append-nil}
+use mathlib.Core.Path.{_≡_, refl, subst}
 use native.Mathlib.Omega.{arith}
-use lib.ListN.{take}
+use lib.ListN.{take, drop}
 use borrow.Author.Tests.{lt-ltb, le-ltb, le-leb, lt-leb}
 use Rattle.base.specs.Pick.{pick}
-use Rattle.base.specs.Refusals.{refusalOrder, firstOf, refusalBy}
-use Rattle.base.specs.RefusalLaws.{follows, firstHeld, in-order}
+use Rattle.base.specs.Refusals.{Ground, refusalOrder, firstOf, refusalBy}
+use Rattle.base.specs.RefusalLaws.{follows, follows-parts, firstHeld, in-order}
 use Rattle.records.specs.Events.{Record, whole, short, seatCount, earlyGrounds, early}
 
 -- "The order is 4, 3, 1, 2": the first three are decoding's
@@ -17,8 +18,9 @@ early-in-turn short = refl
 
 -- and so they follow the order
 early-ordered : (r : Record) → follows refusalOrder (earlyGrounds r) ≡ true
-early-ordered (whole kind seat number value) = refl
-early-ordered short = refl
+early-ordered r =
+    subst (λ (l : List Ground). follows refusalOrder l ≡ true) (append-nil (earlyGrounds r))
+    (follows-parts (take 3 refusalOrder) (drop 3 refusalOrder) (earlyGrounds r) [] (early-in-turn r) refl)
 
 -- the number is that of the first that holds
 pub early-held : (r : Record) → early r ≡ firstHeld (earlyGrounds r)

@@ -1,4 +1,4 @@
--- One record on the seat that it names and the controller beside it, which is how the code has it: a master reset alone touches more.
+-- One record on one seat and the controller beside it, which is how the code has it: but for a master reset no other seat is touched.
 use Prim.Native.Nat.{ℕ}
 use lib.Dec.{eqb}
 use Rattle.base.specs.Pick.{pick}
@@ -6,7 +6,7 @@ use Rattle.base.specs.declared.Answer.the-variants.{Done}
 use Rattle.base.specs.declared.Answer.the-variants as answer
 use Rattle.registers.specs.declared.SeatEvent.{SeatEvent}
 use Rattle.seat.specs.declared.Seat.{Seat}
-use Rattle.seat.specs.Seats.{line}
+use Rattle.seat.specs.Seats.{line, reset}
 use Rattle.seat.specs.Steps as seat-step
 use Rattle.controller.specs.declared.Controller.{Controller}
 use Rattle.controller.specs.declared.Stepped as controller
@@ -36,10 +36,10 @@ touched s c n e =
 abbrev pub besides : Seat → controller.Stepped → Touched
 besides s t = record { seat = s; controller = t .controller; answer = t .answer }
 
--- an event on its two parts; a master reset is not met here, and leaves both
+-- an event on its two parts; "a master reset touches all eight seats", this one among them, and leaves every line low
 unfoldable pub metParts : Seat → Controller → Event → Touched
 metParts s c (OfSeat n e) = touched s c n e
-metParts s c MasterReset = record { seat = s; controller = c; answer = Done }
+metParts s c MasterReset = record { seat = reset s; controller = settled c 0; answer = Done }
 metParts s c (ReadController port) = record { seat = s; controller = c; answer = step c (read port) .answer }
 metParts s c (WriteController port byte) = besides s (step c (write port byte))
 metParts s c Acknowledge = besides s (step c acknowledge)

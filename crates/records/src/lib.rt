@@ -27,7 +27,7 @@ pub enum Decoded {
     Refused(u8),
 }
 
-// A record works on these parts alone, but a master reset.
+// A record works on these parts alone, but a master reset, which touches the other seats too.
 pub struct Touched {
     pub seat: Seat,
     pub controller: Controller,

@@ -1,4 +1,4 @@
-// One record on the seat that it names and the controller. The bench is not needed for it, and is not moved.
+// One record on one seat and the controller. The bench is not needed for it, and is not moved.
 use crate::Decoded;
 use crate::Event;
 use crate::Touched;
@@ -33,15 +33,15 @@ fn touch_seat(seat: Seat, controller: Controller, n: u8, e: SeatEvent) -> Touche
     }
 }
 
-// A master reset is not met here, and leaves both parts.
+// Of a master reset, what it makes of this seat; every line is low after it.
 fn meet_parts(seat: Seat, controller: Controller, event: Event) -> Touched
     ensures { λ r. ⌜ r ≡ metParts seat controller event ⌝ }
 {
     match event {
         Event::OfSeat(n, e) => return touch_seat(seat, controller, n, e),
         Event::MasterReset => return Touched {
-            seat,
-            controller,
+            seat: seat.reset(),
+            controller: controller.settle(0),
             answer: Answer::Done,
         },
         Event::ReadController(port) => return Touched {

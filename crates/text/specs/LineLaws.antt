@@ -7,8 +7,9 @@ use mathlib.Core.Logic.{⊎-elim}
 use native.Mathlib.Omega.{arith}
 use lib.Dec.{leb}
 use lib.ListN.{length, length-append}
+use lib.Seq.{sets}
 use borrow.Author.Tests.{le-leb, lt-leb, leb-true, leb-false}
-use Rattle.base.specs.PickLaws.{either-way}
+use Rattle.base.specs.PickLaws.{pick-true, pick-false, either-way}
 use Rattle.base.specs.Answers.{refusalOf}
 use Rattle.base.specs.declared.Answer.{Answer}
 use Rattle.text.specs.Line.{decimal, line, longest, Put, Puts}
@@ -60,3 +61,17 @@ puts-after l n a o d d′ place r is small p =
     let few : length l + 1 ≤ 20 = omega (arith, ap length is, front-length n, decimal-length 19 n small) in
     let q : Put (line n a o) (length l + rest) d d′ place r = subst (λ (x : List ℕ). Put x (length l + rest) d d′ place r) same p in
     record { next = q .next; bytes = q .bytes; short = omega (arith, q .short, few) }
+
+-- ---- room for a line
+
+module _ (n : ℕ) (a : Answer) (o : Bool) (d d′ : List ℕ) (place r : ℕ) (p : Puts n a o d d′ place r) where
+  -- exactly as much as the line is enough
+  pub line-put : place + length (line n a o) ≤ length d → (r ≡ place + length (line n a o)) × (d′ ≡ sets d place (line n a o))
+  line-put enough =
+      let yes : leb (place + length (line n a o)) (length d) ≡ true = le-leb _ _ enough in
+      (p .next ∙ pick-true _ _ _ yes, p .bytes ∙ pick-true _ _ _ yes)
+
+  pub line-left : length d < place + length (line n a o) → (r ≡ place) × (d′ ≡ d)
+  line-left full =
+      let no : leb (place + length (line n a o)) (length d) ≡ false = lt-leb _ _ full in
+      (p .next ∙ pick-false _ _ _ no, p .bytes ∙ pick-false _ _ _ no)

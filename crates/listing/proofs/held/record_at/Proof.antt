@@ -1,5 +1,8 @@
-use Rattle.base.specs.PickLaws.{pick-true, pick-false}
+use mathlib.Core.Path.{refl}
+use Rattle.base.specs.Pick.{pick}
+use Rattle.base.specs.PickLaws.{pick-false}
 use borrow.Author.Tests.{lt-ltb, le-ltb}
+use Rattle.listing.specs.Held.{heldRecord}
 use Rattle.listing.specs.Places.{recordAt}
 use borrow.Author.Needs.{needs}
 use Rattle.listing.proofs.held.record_at.Statement.{statement}
@@ -8,12 +11,9 @@ use Rattle.listing.proofs.held.record_at.Tie as tie
 sub-if1 : tie.Need-sub-if1
 sub-if1 c = search needs
 
-held-short-requires : tie.Need-held-short-requires
-held-short-requires c κs = search needs
-
 returns : tie.Need-returns
-unfolding recordAt
-returns c = rw (pick-true _ _ _ (lt-ltb _ 4 (c .before .if1 .taken))) (c .held-short .ensures)
+unfolding recordAt heldRecord pick
+returns c = rw (lt-ltb _ 4 (c .if1 .taken)) (record { is = refl; reset = refl; at = refl })
 
 shared-slice-read-held-whole : tie.Need-shared-slice-read-held-whole
 shared-slice-read-held-whole c = search needs
@@ -48,7 +48,6 @@ record-at-spec =
     tie.close
     (tie.spec
     sub-if1
-    held-short-requires
     returns
     shared-slice-read-held-whole
     add-held-whole

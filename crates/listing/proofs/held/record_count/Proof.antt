@@ -9,11 +9,11 @@ add-result c = search needs
 
 returns : tie.Need-returns
 unfolding recordCount
-returns c = simp (c .if1 .taken, pick-true, pick-false)
+returns c = simp (c .if1 .taken, pick-true)
 
 returns-2 : tie.Need-returns-2
 unfolding recordCount
-returns-2 c = simp (c .if1 .left, pick-true, pick-false)
+returns-2 c = simp (c .if1 .left, pick-false)
 
 pub record-count-spec : {M : Type 1} → statement M
 record-count-spec = tie.close (tie.spec add-result returns returns-2)

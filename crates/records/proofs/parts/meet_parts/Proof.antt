@@ -1,5 +1,8 @@
-use mathlib.Core.Path.{ap, sym, _∙_}
+use mathlib.Core.Path.{ap, ap₂, sym, _∙_}
 use Rattle.base.specs.declared.Answer.{Answer}
+use Rattle.base.specs.declared.Answer.the-variants.{Done}
+use Rattle.seat.specs.declared.Seat.{Seat}
+use Rattle.controller.specs.declared.Controller.{Controller}
 use Rattle.records.specs.declared.Touched.{Touched}
 use Rattle.records.specs.Parts.{metParts, besides}
 use borrow.Author.Needs.{needs}
@@ -21,11 +24,18 @@ returns c =
 enum-told : tie.Need-enum-told
 enum-told c = search needs
 
+reset-requires : tie.Need-reset-requires
+reset-requires c κs = search needs
+
+settle-requires : tie.Need-settle-requires
+settle-requires c κs = search needs
+
 returns-2 : tie.Need-returns-2
 unfolding metParts
 returns-2 c =
-    let a = c .before .before .args in
-    ap (metParts (a .seat) (a .controller)) (sym (c .enum-told .given .1))
+    let a = c .before .before .before .before .args in
+    ap₂ {C = Touched} (λ (s : Seat) (k : Controller). record { seat = s; controller = k; answer = Done }) (c .before .reset .ensures) (c .settle .ensures)
+    ∙ ap (metParts (a .seat) (a .controller)) (sym (c .before .before .enum-told .given .1))
 
 enum-known-event-2 : tie.Need-enum-known-event-2
 enum-known-event-2 c = search needs
@@ -72,6 +82,8 @@ meet-parts-spec =
     touch-seat-requires
     returns
     enum-told
+    reset-requires
+    settle-requires
     returns-2
     enum-known-event-2
     read-requires
