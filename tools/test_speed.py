@@ -27,8 +27,9 @@ int main(int n, char **words) {
 # As the proved programs, it has no status of its own, and says what failed.
 PROGRAM = """\
 #!/bin/sh
+# costs {1};
 i=0; while [ $i -lt 3000 ]; do i=$((i + 1)); done
-echo proved {} "$@" >>"$MARKS"
+echo proved {0} "$@" >>"$MARKS"
 [ ! -s /dev/stdin ] || echo "$(od -An -tx1 -N4 -j32) of $(wc -c </dev/stdin)" >>"$MARKS"
 [ -z "$FAULT" ] || echo "$FAULT" >&2
 """
@@ -63,9 +64,11 @@ check) cp "$2" target/bin/ ;;
 staticlib) gcc -O0 -Iinclude -c library.c -o target/library.o && ar rc target/staticlib/libembed.a target/library.o ;;
 esac
 """
-# What counts instructions: so many for each event as the program says, and some for its start.
+# What counts instructions: so many for each event as the program says, and some for its start. The events are told by a
+# number of rounds, or are on standard input behind the eight records that set the bench up.
 COUNT = """\
 for word; do [ ! -f "$word" ] || program=$word; rounds=$word; done
+case $rounds in *[!0-9]*) rounds=$((($(wc -c) - 32) / 24)) ;; esac
 cost=$(grep -ao 'costs [0-9]*;' "$program" | tr -cd '0-9')
 count=$((1000 + 6 * rounds * cost))
 """
@@ -91,7 +94,7 @@ class Speed(Room):
         for name in ("speed", "machine.py", "find-rt", "events.c"):
             self.script(f"tools/{name}", (TOOLS / name).read_text("utf-8"))
         for name in ("bench_main", "trials"):
-            self.script(name, PROGRAM.format("here"))
+            self.script(name, PROGRAM.format("here", 60))
         self.write("include/hailstoat.h", HEADER)
         self.library(40)
 
@@ -120,7 +123,8 @@ class Speed(Room):
         self.assertEqual(status, 0)
         rows = self.rows(said)
         self.assertEqual([*rows], ["with the listing", "with the listing, the mix", "without it (trials)",
-                                   "the mix, ns", "the mix, instructions", "a read of LSR, ns", "a read of LSR, instructions"])
+                                   "the mix, ns", "the mix, instructions", "a read of LSR, ns", "a read of LSR, instructions",
+                                   "with the listing, the mix, instructions"])
         for ours, theirs, ratio in [*rows.values()][:3]:
             self.assertAlmostEqual(ours / theirs, ratio, delta=0.05 * ratio + 0.01)
         for way in ("generate 3 6000", "proved here", "listing", "proved here 3 6000", "trials 3 6000"):
@@ -133,20 +137,21 @@ class Speed(Room):
         for way in ("the mix", "a read of LSR"):
             self.assertEqual(rows[f"{way}, instructions"], [40.0])
             self.assertGreater(rows[f"{way}, ns"][0], 40)
+        self.assertEqual(rows["with the listing, the mix, instructions"], [60.0])
 
     def test_beside_an_earlier_commit(self):
         self.library(400)
         # each library has its own header
         self.write("include/hailstoat.h", "#define hailstoat_event hailstoat_earlier\n" + HEADER)
         for name in ("bench_main", "trials"):
-            self.script(name, PROGRAM.format("before"))
+            self.script(name, PROGRAM.format("before", 240))
         self.git("init", "--quiet")
         self.git("add", "--all")
         self.git("commit", "--quiet", "--message", "before")
         self.library(40)
         self.write("include/hailstoat.h", HEADER)
         for name in ("bench_main", "trials"):
-            self.script(name, PROGRAM.format("here"))
+            self.script(name, PROGRAM.format("here", 60))
         commit = subprocess.run(["git", "rev-parse", "HEAD"], cwd=self.root, stdout=subprocess.PIPE, encoding="utf-8").stdout.strip()
         status, said, asked = self.run_it("--before", "HEAD", "3", "6000")
         self.assertEqual(status, 0)
@@ -155,6 +160,7 @@ class Speed(Room):
         rows = self.rows(said)
         self.assertEqual(rows["the mix, instructions"], [400.0, 40.0, 10.0])
         self.assertEqual(rows["a read of LSR, instructions"], [400.0, 40.0, 10.0])
+        self.assertEqual(rows["with the listing, the mix, instructions"], [240.0, 60.0, 4.0])
         self.assertGreater(rows["the mix, ns"][2], 3)
         for before, ours, times, theirs, ratio in [*rows.values()][:3]:
             self.assertAlmostEqual(ours / before, times, delta=0.2 * times + 0.05)
