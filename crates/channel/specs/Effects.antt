@@ -15,7 +15,7 @@ use Rattle.registers.specs.declared.Register.{Register}
 use Rattle.registers.specs.declared.Register.the-variants.{RbrThr, Ier, IirFcr, Lcr, Mcr, Lsr, Msr, Scratch, Dll, Dlm}
 use Rattle.channel.specs.Parts.{withSettings, withReceiver, withTransmitter, withModem, fifo}
 use Rattle.registers.specs.Words.{wireAnswer}
-use Rattle.registers.specs.Registers.{kept}
+use Rattle.registers.specs.Registers.{kept, shownBy}
 use Rattle.registers.specs.Modem.{differ, changesAfter}
 use Rattle.channel.specs.Status.{lsr, msr, inputs, cause, iir}
 
@@ -36,15 +36,15 @@ msrRead c = withModem c (record { levels = c .modem .levels; changes = 0 })
 -- "read register": "the byte"
 unfoldable pub byteAt : Channel → Register → ℕ
 byteAt c RbrThr = got (c .receiver) .byte
-byteAt c Ier = c .settings .ier
+byteAt c Ier = shownBy (c .settings) Ier
 byteAt c IirFcr = iir c
-byteAt c Lcr = c .settings .lcr
-byteAt c Mcr = c .settings .mcr
+byteAt c Lcr = shownBy (c .settings) Lcr
+byteAt c Mcr = shownBy (c .settings) Mcr
 byteAt c Lsr = lsr c
 byteAt c Msr = msr c
-byteAt c Scratch = c .settings .scratch
-byteAt c Dll = c .settings .dll
-byteAt c Dlm = c .settings .dlm
+byteAt c Scratch = shownBy (c .settings) Scratch
+byteAt c Dll = shownBy (c .settings) Dll
+byteAt c Dlm = shownBy (c .settings) Dlm
 
 -- what a read leaves: four registers change something when they are read
 unfoldable pub afterRead : Channel → Register → Channel

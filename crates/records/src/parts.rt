@@ -8,7 +8,7 @@ use registers::SeatEvent;
 use seat::Seat;
 ghost use mathlib.Core.Path.{_≡_};
 ghost use Rattle.records.specs.Events.{whole, short};
-ghost use Rattle.records.specs.Parts.{touched, metParts, parted};
+ghost use Rattle.records.specs.Parts.{touched, besides, metParts, parted};
 
 // A seat that refuses leaves the controller unasked. What its step gave is kept either way: the old seat need not be kept beside it.
 fn touch_seat(seat: Seat, controller: Controller, n: u8, e: SeatEvent) -> Touched
@@ -33,6 +33,19 @@ fn touch_seat(seat: Seat, controller: Controller, n: u8, e: SeatEvent) -> Touche
     }
 }
 
+// The controller is asked, and the seat is not.
+fn beside(seat: Seat, stepped: controller::Stepped) -> Touched
+    ensures { λ r. ⌜ r ≡ besides seat stepped ⌝ }
+{
+    let controller = stepped.controller;
+    let answer = stepped.answer;
+    Touched {
+        seat,
+        controller,
+        answer,
+    }
+}
+
 // Of a master reset, what it makes of this seat; every line is low after it.
 fn meet_parts(seat: Seat, controller: Controller, event: Event) -> Touched
     ensures { λ r. ⌜ r ≡ metParts seat controller event ⌝ }
@@ -49,26 +62,8 @@ fn meet_parts(seat: Seat, controller: Controller, event: Event) -> Touched
             controller,
             answer: controller.read(port),
         },
-        Event::WriteController(port, byte) => {
-            let stepped = controller.write(port, byte);
-            let next = stepped.controller;
-            let answer = stepped.answer;
-            return Touched {
-                seat,
-                controller: next,
-                answer,
-            };
-        }
-        Event::Acknowledge => {
-            let stepped = controller.acknowledge();
-            let next = stepped.controller;
-            let answer = stepped.answer;
-            return Touched {
-                seat,
-                controller: next,
-                answer,
-            };
-        }
+        Event::WriteController(port, byte) => return beside(seat, controller.write(port, byte)),
+        Event::Acknowledge => return beside(seat, controller.acknowledge()),
     }
 }
 

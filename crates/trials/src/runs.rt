@@ -18,7 +18,7 @@ fn add_seen(digest: u32, answer: Answer, controller: Controller) -> u32 {
 }
 
 // The bench is the one that the stream starts from. It stays where it is: an event is given the seat that it names and the controller, and
-// both are stored back.
+// both are stored back; of a master reset, over seats that are all reset.
 pub(crate) fn digest(seed: u32, count: u64, set: u8, mut bench: Bench) -> u32 {
     let rows = streams::script_rows();
     let mut stream = Stream::start(seed, set);
@@ -27,13 +27,6 @@ pub(crate) fn digest(seed: u32, count: u64, set: u8, mut bench: Bench) -> u32 {
         let made = stream.next(&rows);
         stream = made.stream;
         let record = made.record;
-        if record.kind == Decoded::MASTER_RESET {
-            let outcome = bench.reset();
-            bench = outcome.bench;
-            let answer = outcome.answer;
-            sum = add_seen(sum, answer, bench.controller);
-            continue;
-        }
         let at = bench::chair(record.seat);
         let seat = bench.seats[at];
         let touched = records::step_parts(
@@ -44,6 +37,9 @@ pub(crate) fn digest(seed: u32, count: u64, set: u8, mut bench: Bench) -> u32 {
             record.number,
             record.value,
         );
+        if record.kind == Decoded::MASTER_RESET {
+            bench.seats = bench::reset_all(bench.seats);
+        }
         let stood = touched.seat;
         bench.seats[at] = stood;
         let moved = touched.controller;

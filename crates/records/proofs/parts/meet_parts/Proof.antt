@@ -56,11 +56,14 @@ enum-known-event-3 c = search needs
 write-requires : tie.Need-write-requires
 write-requires c κs = search needs
 
+beside-requires : tie.Need-beside-requires
+beside-requires c κs = search needs
+
 returns-4 : tie.Need-returns-4
 unfolding metParts
 returns-4 c =
     let a = c .before .before .before .before .before .args in
-    ap (besides (a .seat)) (c .before .write .ensures) ∙ ap (metParts (a .seat) (a .controller)) (sym (c .before .before .before .event3 .given .1))
+    c .beside .ensures ∙ ap (besides (a .seat)) (c .before .write .ensures) ∙ ap (metParts (a .seat) (a .controller)) (sym (c .before .before .before .event3 .given .1))
 
 enum-told-2 : tie.Need-enum-told-2
 enum-told-2 c = search needs
@@ -68,11 +71,14 @@ enum-told-2 c = search needs
 acknowledge-requires : tie.Need-acknowledge-requires
 acknowledge-requires c κs = search needs
 
+beside-requires-2 : tie.Need-beside-requires-2
+beside-requires-2 c κs = search needs
+
 returns-5 : tie.Need-returns-5
 unfolding metParts
 returns-5 c =
     let a = c .before .before .before .before .args in
-    ap (besides (a .seat)) (c .before .acknowledge .ensures) ∙ ap (metParts (a .seat) (a .controller)) (sym (c .before .before .enum-told2 .given .1))
+    c .beside2 .ensures ∙ ap (besides (a .seat)) (c .before .acknowledge .ensures) ∙ ap (metParts (a .seat) (a .controller)) (sym (c .before .before .enum-told2 .given .1))
 
 pub meet-parts-spec : {M : Type 1} → statement M
 meet-parts-spec =
@@ -90,7 +96,9 @@ meet-parts-spec =
     returns-3
     enum-known-event-3
     write-requires
+    beside-requires
     returns-4
     enum-told-2
     acknowledge-requires
+    beside-requires-2
     returns-5)

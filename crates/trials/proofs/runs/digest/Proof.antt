@@ -26,21 +26,6 @@ slice-aggregate-next c = search needs
 next-requires : tie.Need-next-requires Inv-loop μ-loop
 next-requires c κs = search needs
 
-reset-requires : tie.Need-reset-requires Inv-loop μ-loop
-reset-requires c κs = search needs
-
-add-seen-requires : tie.Need-add-seen-requires Inv-loop μ-loop
-add-seen-requires c κs = search needs
-
-add-counter : tie.Need-add-counter Inv-loop μ-loop
-add-counter c = omega arith
-
-loop-less : tie.Need-loop-less Inv-loop μ-loop
-loop-less c = search needs
-
-loop-again : tie.Need-loop-again Inv-loop μ-loop
-loop-again c = search needs
-
 chair-requires : tie.Need-chair-requires Inv-loop μ-loop
 chair-requires c κs = search needs
 
@@ -53,23 +38,26 @@ element-copy-out-seat c = search needs
 step-parts-requires : tie.Need-step-parts-requires Inv-loop μ-loop
 step-parts-requires c κs = search needs
 
+reset-all-requires : tie.Need-reset-all-requires Inv-loop μ-loop
+reset-all-requires c κs = search needs
+
 mul-stood : tie.Need-mul-stood Inv-loop μ-loop
 mul-stood c = search needs
 
 element-set-from-stood : tie.Need-element-set-from-stood Inv-loop μ-loop
 element-set-from-stood c = search needs
 
-add-seen-requires-2 : tie.Need-add-seen-requires-2 Inv-loop μ-loop
-add-seen-requires-2 c κs = search needs
+add-seen-requires : tie.Need-add-seen-requires Inv-loop μ-loop
+add-seen-requires c κs = search needs
 
-add-counter-2 : tie.Need-add-counter-2 Inv-loop μ-loop
-add-counter-2 c = omega arith
+add-counter : tie.Need-add-counter Inv-loop μ-loop
+add-counter c = omega arith
 
-loop-less-2 : tie.Need-loop-less-2 Inv-loop μ-loop
-loop-less-2 c = search needs
+loop-less : tie.Need-loop-less Inv-loop μ-loop
+loop-less c = search needs
 
-loop-again-2 : tie.Need-loop-again-2 Inv-loop μ-loop
-loop-again-2 c = search needs
+loop-again : tie.Need-loop-again Inv-loop μ-loop
+loop-again c = search needs
 
 returns : tie.Need-returns Inv-loop μ-loop
 returns c = search needs
@@ -85,19 +73,15 @@ digest-spec =
     loop-holds
     slice-aggregate-next
     next-requires
-    reset-requires
-    add-seen-requires
-    add-counter
-    loop-less
-    loop-again
     chair-requires
     mul-seat
     element-copy-out-seat
     step-parts-requires
+    reset-all-requires
     mul-stood
     element-set-from-stood
-    add-seen-requires-2
-    add-counter-2
-    loop-less-2
-    loop-again-2
+    add-seen-requires
+    add-counter
+    loop-less
+    loop-again
     returns)
