@@ -3,13 +3,18 @@ use mathlib.Core.Logic.{inl, inr}
 use mathlib.Core.Path.{_≡_, refl, sym, ap, _∙_}
 use native.Mathlib.Omega.{arith}
 use native.Mathlib.Nat.{add-zero, add-assoc}
-use lib.ListN.{length}
+use lib.ListN.{length, getD}
+use Rattle.records.specs.Events.{short}
 use Rattle.records.specs.Parts.{parted}
 use Rattle.bench.specs.declared.Bench.{Bench}
+use Rattle.bench.specs.Steps.{outcome}
 use Rattle.bench.specs.PartLaws.{parts-told, either-stored}
+use Rattle.text.specs.Line.{Puts}
 use Rattle.listing.specs.Kept.{Stays}
 use Rattle.listing.specs.KeptLaws.{fronts-put, fronts-stay, fronts-count}
 use Rattle.listing.specs.Run.{recordsOf, numberEnd}
+use Rattle.seat.specs.Seats.{noSeat}
+use Rattle.listing.specs.Places.{recordAt}
 use Rattle.listing.specs.RunLaws.{record-place, record-count}
 use Rattle.listing.proofs.Turn.{Turn, Until, told-put, start, turn, full, going, ahead, ended}
 use Rattle.listing.proofs.runs.run.Statement.{statement}
@@ -84,21 +89,35 @@ slice-aggregate-put-after c = fronts-count _ _ _ (c .before .before .before .bef
 put-after-requires : tie.Need-put-after-requires Inv-loop μ-loop
 put-after-requires c κs = tt
 
+-- ---- what is known once the line is put, or left out for want of room
+
+-- what the record made of its parts
+met : (c : tie.After-slice-known2 Inv-loop μ-loop)
+    → (let i = c .before .before .before .before .before .before .before .before .before .before .before .before .before .before .loop in
+    c .before .before .before .before .before .before .before .meet .result ≡ parted (getD (i .bench .seats) (c .before .before .before .before .before .before .before .before .before .before .record-at .result .chair) noSeat) (i .bench .controller) (recordAt (c .before .before .before .before .before .before .before .before .before .before .before .before .before .before .before .before .before .before .before .before .before .args .input .now) (4 * i .k)))
+met c = c .before .before .before .before .before .before .before .meet .ensures ∙ ap (parted _ _) (c .before .before .before .before .before .before .before .before .before .before .record-at .ensures .is)
+
+-- its line, as the run is asked for it
+put : (c : tie.After-slice-known2 Inv-loop μ-loop)
+    → (let a = c .before .before .before .before .before .before .before .before .before .before .before .before .before .before .before .before .before .before .before .before .before .args in let i = c .before .before .before .before .before .before .before .before .before .before .before .before .before .before .loop in let o = outcome (i .bench) (recordAt (a .input .now) (4 * i .k)) in
+    Puts (a .n + i .k) (o .answer) (o .output) (i .out) (c .before .before .put-after .last .0) (i .place) (c .before .before .put-after .result))
+put c =
+    told-put _ _ _ _ _ _ _ _ _ _ (c .before .before .before .before .before .before .before .before .before .before .before .keep-front .ensures .shown) (next (c .before .before .before .before .before .before .before .before .before .before .before .before .before) .2)
+    (parts-told _ _ _ _ _ _ refl (c .before .before .before .before .before .before .before .before .before .before .record-at .ensures .at) (met c) (c .before .before .before .before .before .output .ensures)) (c .before .before .put-after .ensures)
+
+-- and that it is the next of the input's records
+stands : (c : tie.After-slice-known2 Inv-loop μ-loop)
+    → (let a = c .before .before .before .before .before .before .before .before .before .before .before .before .before .before .before .before .before .before .before .before .before .args in let k = c .before .before .before .before .before .before .before .before .before .before .before .before .before .before .loop .k in getD (recordsOf (a .last) (a .input .now)) k short ≡ recordAt (a .input .now) (4 * k))
+stands c = let a = c .before .before .before .before .before .before .before .before .before .before .before .before .before .before .before .before .before .before .before .before .before .args in record-place (a .last) (a .input .now) _ (next (c .before .before .before .before .before .before .before .before .before .before .before .before .before) .0)
+
 loop-less : tie.Need-loop-less Inv-loop μ-loop
 loop-less c = omega (arith, c .before .before .before .before .before .before .before .before .before .before .before .before .before .before .loop-test .taken)
 
 loop-again : tie.Need-loop-again Inv-loop μ-loop
 loop-again c =
-    let a = c .before .before .before .before .before .before .before .before .before .before .before .before .before .before .before .before .before .before .before .before .before .before .args in
     let i = c .before .before .before .before .before .before .before .before .before .before .before .before .before .before .before .loop in
-    let h = next (c .before .before .before .before .before .before .before .before .before .before .before .before .before .before) in
     let kept = c .before .before .before .before .before .before .before .before .before .before .before .before .keep-front .ensures in
-    let held = c .before .before .before .before .before .before .before .before .before .before .before .record-at .ensures in
-    let is = c .before .before .before .before .before .before .before .before .meet .ensures ∙ ap (parted _ _) (held .is) in
-    let told = parts-told (i .bench) _ _ _ _ _ refl (held .at) is (c .before .before .before .before .before .before .output .ensures) in
-    let put = told-put (i .bench) _ _ _ _ _ _ _ _ _ (kept .shown) (h .2) told (c .before .before .before .put-after .ensures) in
-    let place = record-place (a .last) (a .input .now) (i .k) (h .0) in
-    let stop = full _ _ _ _ _ _ _ _ _ _ _ (i .inv .1) put (h .0) place (c .if1 .taken) in
+    let stop = full _ _ _ _ _ _ _ _ _ _ _ (i .inv .1) (put (c .before)) (next (c .before .before .before .before .before .before .before .before .before .before .before .before .before .before) .0) (stands (c .before)) (c .if1 .taken) in
     (omega arith, stop .0, record { size = kept .size; fronts = λ within. kept }, inr (refl, stop .1))
 
 reset-all-requires : tie.Need-reset-all-requires Inv-loop μ-loop
@@ -121,20 +140,15 @@ loop-again-2 c =
     let a = c .before .before .before .before .before .before .before .before .before .before .before .before .before .before .before .before .before .before .before .before .before .before .before .before .args in
     let i = c .before .before .before .before .before .before .before .before .before .before .before .before .before .before .before .before .before .loop in
     let h = next (c .before .before .before .before .before .before .before .before .before .before .before .before .before .before .before .before) in
-    let kept = c .before .before .before .before .before .before .before .before .before .before .before .before .before .before .keep-front .ensures in
     let held = c .before .before .before .before .before .before .before .before .before .before .before .before .before .record-at .ensures in
-    let is = c .before .before .before .before .before .before .before .before .before .before .meet .ensures ∙ ap (parted _ _) (held .is) in
-    let told = parts-told (i .bench) _ _ _ _ _ refl (held .at) is (c .before .before .before .before .before .before .before .before .output .ensures) in
-    let put = told-put (i .bench) _ _ _ _ _ _ _ _ _ (kept .shown) (h .2) told (c .before .before .before .before .before .put-after .ensures) in
-    let place = record-place (a .last) (a .input .now) (i .k) (h .0) in
-    let turned = turn _ _ _ _ _ _ _ _ _ _ _ (i .inv .1) put (h .0) place (c .before .before .if1 .left) (h .2) in
+    let turned = turn _ _ _ _ _ _ _ _ _ _ _ (i .inv .1) (put (c .before .before .before)) (h .0) (stands (c .before .before .before)) (c .before .before .if1 .left) (h .2) in
     let stored =
-    either-stored (i .bench) (c .before .if2 .bench) _ _ _ _ refl (held .at) is (c .before .if2 .came)
+    either-stored (i .bench) (c .before .if2 .bench) _ _ _ _ refl (held .at) (met (c .before .before .before)) (c .before .if2 .came)
     (λ p. (sym (held .reset) ∙ p .0 .taken, ap (λ (b : Bench). b .seats) (p .3) ∙ p .2 .ensures))
     (λ p. (sym (held .reset) ∙ p .0 .left, ap (λ (b : Bench). b .seats) (p .1))) in (
       omega (arith, c .before .before .before .before .before .before .before .before .before .before .before .before .before .before .before .before .loop-test .taken),
       rw stored turned,
-      rw (← add-assoc (a .n) (i .k) 1) (fronts-stay _ _ _ kept),
+      rw (← add-assoc (a .n) (i .k) 1) (fronts-stay _ _ _ (c .before .before .before .before .before .before .before .before .before .before .before .before .before .before .keep-front .ensures)),
       inl (until (c .before .before .before .before .before .before .before .before .before .before .before .before .before .before .before .before)),
     )
 
