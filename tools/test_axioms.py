@@ -1,11 +1,11 @@
-"""Tests of tools/programs/10-axioms: what a crate assumes is what the page has, no more and no less."""
+"""Tests of tools/after/10-axioms: what a crate assumes is what the page has, no more and no less."""
 import subprocess
 import unittest
 from pathlib import Path
 
 from room import Room
 
-SCRIPT = Path(__file__).parent / "programs/10-axioms"
+SCRIPT = Path(__file__).parent / "after/10-axioms"
 PROVED = "logic=proved functions=2 sum=9 native=nat logic-built=trusted libraries-built=trusted\n"
 PAGE = "| Program | Assumes |\n|---|---|\n| `lamp_main` | libc 2, os 1 |\n"
 ASSUMED = "axioms libc: libc::read, libc::write (2 of the 50 declared)\naxioms os: os::c::arg (1 of the 10 declared)\n"
@@ -14,14 +14,14 @@ ASSUMED = "axioms libc: libc::read, libc::write (2 of the 50 declared)\naxioms o
 class Axioms(Room):
     def setUp(self):
         super().setUp()
-        self.script("tools/programs/10-axioms", SCRIPT.read_text("utf-8"))
+        self.script("tools/after/10-axioms", SCRIPT.read_text("utf-8"))
         self.write("crates.txt", "# rooms\nlamp:\nlamp_main: lamp libc os\n")
         self.write("docs/TRUST.md", PAGE)
         self.write("target/log/lamp.out", PROVED)
         self.write("target/log/lamp_main.out", ASSUMED + PROVED)
 
     def run_it(self):
-        done = subprocess.run([self.root / "tools/programs/10-axioms"], stderr=subprocess.PIPE, encoding="utf-8")
+        done = subprocess.run([self.root / "tools/after/10-axioms"], stderr=subprocess.PIPE, encoding="utf-8")
         return done.returncode, done.stderr
 
     def fails(self, words):

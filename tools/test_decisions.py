@@ -1,19 +1,19 @@
-"""Tests of tools/checks/08-decisions: an entry without one of its parts fails, and so does a gap in the numbers."""
+"""Tests of tools/before/08-decisions: an entry without one of its parts fails, and so does a gap in the numbers."""
 import subprocess
 import unittest
 from pathlib import Path
 
 from room import Room
 
-SCRIPT = Path(__file__).parent / "checks/08-decisions"
+SCRIPT = Path(__file__).parent / "before/08-decisions"
 ENTRY = "**{}. Which lamp.** Two are at hand. *Choice:* the red one.\n*Why:* it burns. *Turned down:* the green one.\n\n"
 
 
 class Decisions(Room):
     def run_it(self, *entries):
-        self.script("tools/checks/08-decisions", SCRIPT.read_text("utf-8"))
+        self.script("tools/before/08-decisions", SCRIPT.read_text("utf-8"))
         self.write("docs/DECISIONS.md", "# Decisions\n\n## Lamps\n\n" + "".join(entries))
-        done = subprocess.run([self.root / "tools/checks/08-decisions"], stderr=subprocess.PIPE, encoding="utf-8")
+        done = subprocess.run([self.root / "tools/before/08-decisions"], stderr=subprocess.PIPE, encoding="utf-8")
         return done.returncode, done.stderr
 
     def test_whole_entries(self):

@@ -1,11 +1,11 @@
-"""Tests of tools/programs/20-edits: an edit counts where its closed statement is computed to be false, and nowhere else."""
+"""Tests of tools/after/20-edits: an edit counts where its closed statement is computed to be false, and nowhere else."""
 import subprocess
 import unittest
 from pathlib import Path
 
 from room import Room
 
-SCRIPT = Path(__file__).parent / "programs/20-edits"
+SCRIPT = Path(__file__).parent / "after/20-edits"
 LOG = "target/must-fail/lamp/dark_twin/.log"
 AT = "target/must-fail/lamp/dark_twin/proofs/Slips.antt:9:8: error: `is-lit`: "
 
@@ -41,7 +41,7 @@ SYNTAX = """specs/Lamp.antt:3:9: error: Parse: expected a term
 class Edits(Room):
     def setUp(self):
         super().setUp()
-        self.script("tools/programs/20-edits", SCRIPT.read_text("utf-8"))
+        self.script("tools/after/20-edits", SCRIPT.read_text("utf-8"))
         self.edit("refuted: is-lit\n")
         self.write("crates/lamp/proofs/Slips.antt", SLIPS)
 
@@ -49,7 +49,7 @@ class Edits(Room):
         self.write("crates/lamp/must-fail/dark_twin.edit", line + TWIN)
 
     def run_it(self):
-        done = subprocess.run([self.root / "tools/programs/20-edits"], stdout=subprocess.PIPE, stderr=subprocess.PIPE,
+        done = subprocess.run([self.root / "tools/after/20-edits"], stdout=subprocess.PIPE, stderr=subprocess.PIPE,
                               encoding="utf-8")
         return done.returncode, done.stderr
 

@@ -22,9 +22,9 @@ class Gate(Room):
     def setUp(self):
         super().setUp()
         self.script("bin/rt", RT)
-        self.script("tools/checks/10-good", "#!/bin/sh\necho good\n")
+        self.script("tools/before/10-good", "#!/bin/sh\necho good\n")
         self.script("second/build", '#!/bin/sh\necho building; echo built >>"$1/second"\n')
-        self.script("tools/programs/10-run", "#!/bin/sh\necho ran\n")
+        self.script("tools/after/10-run", "#!/bin/sh\necho ran\n")
         self.script("tools/reading", '#!/bin/sh\necho "reading $*"\n')
         self.write("crates.txt", "lamp:\n")
         self.write("crates/lamp/src/lib.rt", "")
@@ -57,7 +57,7 @@ class Gate(Room):
         self.assertEqual(order, sorted(order))
 
     def test_second_program_is_built_once_for_every_check(self):
-        for name in ("tools/checks/20-second", "tools/programs/20-second"):
+        for name in ("tools/before/20-second", "tools/after/20-second"):
             self.script(name, '#!/bin/sh\ncat "$HAILSTOAT_SECOND/second"\n')
         _, said = self.run_it()
         self.assertEqual([said.count(line) for line in ("building", "built")], [1, 2])
@@ -70,7 +70,7 @@ class Gate(Room):
         self.assertNotIn("good", said)
 
     def test_what_is_skipped_is_told_right_before_the_verdict(self):
-        self.script("tools/programs/20-half", '#!/bin/sh\necho "the lamp" >>"$HAILSTOAT_SKIPPED"\n')
+        self.script("tools/after/20-half", '#!/bin/sh\necho "the lamp" >>"$HAILSTOAT_SKIPPED"\n')
         _, said = self.run_it()
         self.assertTrue(said[-4].startswith("skipped: the quotations against document 01"))
         self.assertTrue(said[-3].startswith("skipped: the quotations against document 02"))
@@ -105,15 +105,15 @@ class Gate(Room):
 
     def test_each_failure_stops_it(self):
         self.stops(f"failed: {self.root}/bin/rt fmt --check", UNTIDY="1")
-        self.script("tools/programs/05-bad", "#!/bin/sh\nexit 3\n")
-        self.stops("failed: tools/programs/05-bad")
-        self.script("tools/checks/05-bad", "#!/bin/sh\nexit 3\n")
-        self.stops("failed: tools/checks/05-bad")
-        (self.root / "tools/checks/05-bad").chmod(0o644)
-        self.stops("tools/checks/05-bad is not executable")
+        self.script("tools/after/05-bad", "#!/bin/sh\nexit 3\n")
+        self.stops("failed: tools/after/05-bad")
+        self.script("tools/before/05-bad", "#!/bin/sh\nexit 3\n")
+        self.stops("failed: tools/before/05-bad")
+        (self.root / "tools/before/05-bad").chmod(0o644)
+        self.stops("tools/before/05-bad is not executable")
         self.write("crates/lost/src/lib.rt", "")
         self.stops("crates.txt does not list crates/lost")
-        self.script("tools/programs/10-run", "#!/bin/sh\necho ran\n")
+        self.script("tools/after/10-run", "#!/bin/sh\necho ran\n")
         self.script("tools/reading", "#!/bin/sh\nexit 1\n")
         self.stops("failed: tools/reading --check")
 

@@ -1,4 +1,4 @@
-"""tools/checks/06-statements on a small tree."""
+"""tools/before/06-statements on a small tree."""
 import importlib.machinery
 import importlib.util
 import unittest
@@ -6,7 +6,7 @@ from pathlib import Path
 
 from room import Room
 
-PATH = Path(__file__).parent / "checks/06-statements"
+PATH = Path(__file__).parent / "before/06-statements"
 LOADER = importlib.machinery.SourceFileLoader("statements", str(PATH))
 check = importlib.util.module_from_spec(importlib.util.spec_from_loader("statements", LOADER))
 LOADER.exec_module(check)

@@ -1,4 +1,4 @@
--- A line for every public call, room by room: its contract leaves no second outcome. The line's name is the call's, and tools/checks/05-once
+-- A line for every public call, room by room: its contract leaves no second outcome. The line's name is the call's, and tools/before/05-once
 -- fails where a call has no line. Programs, which nothing calls, have none.
 use Rattle.base.proofs as base
 use Rattle.queue.proofs as queue
