@@ -1,6 +1,5 @@
 -- One event on a seat: refused, or done.
-use lib.Dec.{eqb}
-use Rattle.base.specs.Pick.{pick}
+use Rattle.base.specs.Refusals.{joined}
 use Rattle.base.specs.declared.Answer.the-variants.{Done, Refused}
 use Rattle.channel.specs.declared.Channel.{Channel}
 use Rattle.channel.specs.declared.Stepped.{Stepped}
@@ -21,5 +20,4 @@ effect c Time = record { channel = afterTime c; answer = timeAnswer c }
 
 -- "The answer of every refusal is FFF and nothing changes."
 unfoldable pub stepped : Channel → SeatEvent → Stepped
-stepped c e =
-    pick (eqb (refusal (c .settings) e) 0) (effect c e) (record { channel = c; answer = Refused (refusal (c .settings) e) })
+stepped c e = joined (refusal (c .settings) e) (effect c e) (λ number. record { channel = c; answer = Refused number })

@@ -4,7 +4,7 @@ use mathlib.Core.Bool.{Bool, false, not, _&&_, _||_}
 use mathlib.Core.List.{List, [], _∷_}
 use lib.Dec.{eqb, ltb}
 use Rattle.base.specs.Bits.{bit}
-use Rattle.base.specs.Refusals.{Ground, refusalBy}
+use Rattle.base.specs.Refusals.{SeatAbove, NumberAbove, NotReady, NotServed, Ground, refusalBy}
 use Rattle.controller.specs.State.{ready, begun, awaitsIcw4}
 use Rattle.controller.specs.Signals.{Signal, levels, read, write, acknowledge}
 use Rattle.controller.specs.Words.{isIcw1, isOcw3}
@@ -45,13 +45,13 @@ notServed s acknowledge = false
 -- the grounds of each signal: "register above 7, port above 1" of a read and a write; "controller not ready"; of a write, "not served"
 unfoldable pub grounds : Setup → Signal → List Ground
 grounds s (levels high) = []
-grounds s (read port) = record { number = 2; holds = portAbove (read port) } ∷ record { number = 8; holds = notReady s (read port) } ∷ []
+grounds s (read port) = record { number = NumberAbove; holds = portAbove (read port) } ∷ record { number = NotReady; holds = notReady s (read port) } ∷ []
 grounds s (write port b) =
-    record { number = 2; holds = portAbove (write port b) }
-    ∷ record { number = 8; holds = notReady s (write port b) }
-    ∷ record { number = 9; holds = notServed s (write port b) }
+    record { number = NumberAbove; holds = portAbove (write port b) }
+    ∷ record { number = NotReady; holds = notReady s (write port b) }
+    ∷ record { number = NotServed; holds = notServed s (write port b) }
     ∷ []
-grounds s acknowledge = record { number = 8; holds = notReady s acknowledge } ∷ []
+grounds s acknowledge = record { number = NotReady; holds = notReady s acknowledge } ∷ []
 
 -- the number that a controller gives, 0 for none
 unfoldable pub refusal : Setup → Signal → ℕ
@@ -59,4 +59,4 @@ refusal s signal = refusalBy (grounds s signal)
 
 -- "line above 7 gives refusal 1"
 unfoldable pub placeRefusal : ℕ → ℕ
-placeRefusal n = refusalBy (record { number = 1; holds = lineAbove n } ∷ [])
+placeRefusal n = refusalBy (record { number = SeatAbove; holds = lineAbove n } ∷ [])

@@ -1,7 +1,6 @@
 -- One signal: its effect where it is not refused, and the two joined.
 use Prim.Native.Nat.{ℕ}
-use lib.Dec.{eqb}
-use Rattle.base.specs.Pick.{pick}
+use Rattle.base.specs.Refusals.{joined}
 use Rattle.base.specs.declared.Answer.{Answer}
 use Rattle.base.specs.declared.Answer.the-variants.{Byte, Done, Place, Refused}
 use Rattle.rank.specs.Rank.{place}
@@ -21,9 +20,8 @@ effect c acknowledge = acknowledged c
 
 -- "The answer of every refusal is FFF and nothing changes."
 unfoldable pub step : Controller → Signal → Stepped
-step c signal =
-    pick (eqb (refusal (c .setup) signal) 0) (effect c signal) (record { controller = c; answer = Refused (refusal (c .setup) signal) })
+step c signal = joined (refusal (c .setup) signal) (effect c signal) (λ number. record { controller = c; answer = Refused number })
 
 -- "a line's place in turn (the number of lines ranked above it; line above 7 gives refusal 1)"
 unfoldable pub placed : Controller → ℕ → Answer
-placed c n = pick (eqb (placeRefusal n) 0) (Place (place (c .operation .first) n)) (Refused (placeRefusal n))
+placed c n = joined (placeRefusal n) (Place (place (c .operation .first) n)) Refused

@@ -4,6 +4,7 @@ use mathlib.Core.List.{List, [], _∷_, _++_}
 use mathlib.Core.Path.{_≡_}
 use lib.Dec.{eqb}
 use Rattle.base.specs.Pick.{pick}
+use Rattle.base.specs.Refusals.{NotListed}
 use Rattle.base.specs.declared.Answer.{Answer}
 use Rattle.base.specs.declared.Answer.the-variants.{Divisor, Refused}
 
@@ -45,8 +46,8 @@ hertz (suc (suc (suc clock))) = 0
 -- the divisor in the first row whose rate is the one asked, of a list of rates and the list of their divisors;
 -- where there is no such row, "rate or clock not in the divisor list": refusal 10
 unfoldable pub look : ℕ → List ℕ → List ℕ → Answer
-look rate [] ds = Refused 10
-look rate (r ∷ rs) [] = Refused 10
+look rate [] ds = Refused NotListed
+look rate (r ∷ rs) [] = Refused NotListed
 look rate (r ∷ rs) (d ∷ ds) = pick (eqb r rate) (Divisor d) (look rate rs ds)
 
 -- "Also public": "the divisor list", asked by a rate in tenths of a baud and the number of a clock

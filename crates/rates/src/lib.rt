@@ -90,9 +90,6 @@ const THIRD: [u16; 17] = [
     5,
 ];
 
-// "rate or clock not in the divisor list"
-const NOT_LISTED: u8 = 10;
-
 // The row of a rate; of one that is not listed, the number of rows.
 fn row(rate: u32) -> usize
     ensures { λ r. ⌜ r ≡ rowOf rate (ratesOf 0) ⌝ }
@@ -107,6 +104,7 @@ fn row(rate: u32) -> usize
     i
 }
 
+// "rate or clock not in the divisor list": refused.
 pub fn divisor(rate: u32, clock: u8) -> Answer
     ensures { λ r. ⌜ r ≡ divisorOf rate clock ⌝ }
 {
@@ -115,18 +113,18 @@ pub fn divisor(rate: u32, clock: u8) -> Answer
         0 => if i < FIRST.len() {
             Answer::Divisor(FIRST[i])
         } else {
-            Answer::Refused(NOT_LISTED)
+            Answer::Refused(Answer::NOT_LISTED)
         },
         1 => if i < SECOND.len() {
             Answer::Divisor(SECOND[i])
         } else {
-            Answer::Refused(NOT_LISTED)
+            Answer::Refused(Answer::NOT_LISTED)
         },
         2 => if i < THIRD.len() {
             Answer::Divisor(THIRD[i])
         } else {
-            Answer::Refused(NOT_LISTED)
+            Answer::Refused(Answer::NOT_LISTED)
         },
-        _ => Answer::Refused(NOT_LISTED),
+        _ => Answer::Refused(Answer::NOT_LISTED),
     }
 }

@@ -4,7 +4,7 @@ use mathlib.Core.Bool.{Bool, true, false, _&&_}
 use mathlib.Core.List.{List, [], _∷_}
 use lib.Dec.{ltb, leb, eqb}
 use Rattle.base.specs.Pick.{pick}
-use Rattle.base.specs.Refusals.{Ground, refusalBy}
+use Rattle.base.specs.Refusals.{SeatAbove, KindAbove, Short, Ground, refusalBy, joined}
 use Rattle.registers.specs.declared.SeatEvent.the-variants.{Read, Write, Arrival, Levels, Time}
 use Rattle.records.specs.declared.Event.{Event}
 use Rattle.records.specs.declared.Event.the-variants.{OfSeat, MasterReset, ReadController, WriteController, Acknowledge}
@@ -36,8 +36,8 @@ seatAbove seat = leb seatCount seat
 -- order, "register above 7, port above 1", is the rooms' own
 abbrev pub earlyGrounds : Record → List Ground
 earlyGrounds (whole kind seat number value) =
-    record { number = 3; holds = kindAbove kind } ∷ record { number = 1; holds = usesSeat kind && seatAbove seat } ∷ []
-earlyGrounds short = record { number = 4; holds = true } ∷ []
+    record { number = KindAbove; holds = kindAbove kind } ∷ record { number = SeatAbove; holds = usesSeat kind && seatAbove seat } ∷ []
+earlyGrounds short = record { number = Short; holds = true } ∷ []
 
 unfoldable pub early : Record → ℕ
 early r = refusalBy (earlyGrounds r)
@@ -66,7 +66,7 @@ event short = Acknowledge
 
 -- a record decoded: refused by itself, or taken as its event
 unfoldable pub decoded : Record → Decoded
-decoded r = pick (eqb (early r) 0) (Taken (event r)) (Refused (early r))
+decoded r = joined (early r) (Taken (event r)) Refused
 
 -- the number of the refusal, "0 for none"
 unfoldable pub refusedNumber : Decoded → ℕ

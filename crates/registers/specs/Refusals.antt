@@ -4,7 +4,7 @@ use mathlib.Core.Bool.{Bool, _&&_}
 use mathlib.Core.List.{List, [], _∷_}
 use lib.Dec.{ltb, eqb}
 use Rattle.base.specs.Bits.{bit}
-use Rattle.base.specs.Refusals.{Ground, refusalBy}
+use Rattle.base.specs.Refusals.{NumberAbove, NoDivisor, BadArrival, LevelsAbove, NotServed, Ground, refusalBy}
 use Rattle.registers.specs.declared.Settings.{Settings}
 use Rattle.registers.specs.declared.SeatEvent.{SeatEvent}
 use Rattle.registers.specs.declared.SeatEvent.the-variants.{Read, Write, Arrival, Levels, Time}
@@ -30,11 +30,11 @@ loopAsked n byte = eqb n 4 && bit 4 byte
 -- the grounds of each event: a register's number; "not served"; "arrival or character time while the divisor is 0"; what an arrival may not
 -- be; and the levels
 unfoldable pub grounds : Settings → SeatEvent → List Ground
-grounds s (Read n) = record { number = 2; holds = registerAbove n } ∷ []
-grounds s (Write n byte) = record { number = 2; holds = registerAbove n } ∷ record { number = 9; holds = loopAsked n byte } ∷ []
-grounds s (Arrival marks byte) = record { number = 5; holds = noDivisor s } ∷ record { number = 6; holds = badArrival (s .lcr) marks byte } ∷ []
-grounds s (Levels levels) = record { number = 7; holds = levelsAbove levels } ∷ []
-grounds s Time = record { number = 5; holds = noDivisor s } ∷ []
+grounds s (Read n) = record { number = NumberAbove; holds = registerAbove n } ∷ []
+grounds s (Write n byte) = record { number = NumberAbove; holds = registerAbove n } ∷ record { number = NotServed; holds = loopAsked n byte } ∷ []
+grounds s (Arrival marks byte) = record { number = NoDivisor; holds = noDivisor s } ∷ record { number = BadArrival; holds = badArrival (s .lcr) marks byte } ∷ []
+grounds s (Levels levels) = record { number = LevelsAbove; holds = levelsAbove levels } ∷ []
+grounds s Time = record { number = NoDivisor; holds = noDivisor s } ∷ []
 
 -- the number that a seat gives, 0 for none
 unfoldable pub refusal : Settings → SeatEvent → ℕ
