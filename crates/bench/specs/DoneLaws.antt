@@ -9,7 +9,7 @@ use Rattle.base.specs.Pick.{pick}
 use Rattle.base.specs.PickLaws.{pick-true, pick-through}
 use Rattle.registers.specs.declared.SeatEvent.{SeatEvent}
 use Rattle.registers.specs.declared.SeatEvent.the-variants.{Read, Write, Arrival, Levels, Time}
-use Rattle.seat.specs.declared.Stepped.{Stepped}
+use Rattle.seat.specs.declared.Replied.{Replied}
 use Rattle.seat.specs.Seats.{reset}
 use Rattle.seat.specs.Steps as seat-step
 use Rattle.seat.specs.Steps.{stepped}
@@ -59,7 +59,7 @@ module _ (b : Bench) where
   unfolding met roomRefusal roomGrounds seat-step.refusal answerTo stepped
   seat-answer n e =
       pick-through (λ (o : Outcome). o .answer) (eqb (seat-step.refusal (seat b n) e) 0) _ _
-      ∙ sym (pick-through (λ (t : Stepped). t .answer) (eqb (seat-step.refusal (seat b n) e) 0) _ _)
+      ∙ sym (pick-through (λ (t : Replied). t .answer) (eqb (seat-step.refusal (seat b n) e) 0) _ _)
 
   -- "Each call touches the one seat it names": the seat after it is the seat's own step, and the answer is the seat's
   pub seat-done : length (b .seats) ≡ seatCount → (k s n v : ℕ) → k < 5 → s < seatCount

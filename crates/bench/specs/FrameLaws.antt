@@ -20,7 +20,7 @@ use Rattle.seat.specs.Steps.{stepped}
 use Rattle.seat.specs.Acts.{actedAll}
 use Rattle.records.specs.declared.Event.the-variants.{OfSeat, MasterReset, ReadController, WriteController, Acknowledge}
 use Rattle.records.specs.declared.Decoded.{Decoded}
-use Rattle.records.specs.declared.Decoded.the-variants.{Taken, Refused}
+use Rattle.records.specs.declared.Decoded.the-variants.{Taken, NoEvent}
 use Rattle.records.specs.Events.{seatCount}
 use Rattle.records.specs.TouchLaws.{touched-seat}
 use Rattle.bench.specs.declared.Bench.{Bench}
@@ -51,7 +51,7 @@ chair-own n seat = omega arith
 
 -- ---- an event on a seat
 
--- the seats after it: one place is new
+-- the seats after it: one chair is new
 pub seats-after : (b : Bench) (n : ℕ) (e : SeatEvent)
     → met b (OfSeat n e) .bench .seats ≡ set (b .seats) (chair n) (stepped (seat b n) e .seat)
 unfolding withSeat
@@ -104,7 +104,7 @@ as-many b (Taken MasterReset) = reset-length b
 as-many b (Taken (ReadController port)) = ap length (read-leaves b port)
 as-many b (Taken (WriteController port byte)) = ap length (write-leaves b port byte)
 as-many b (Taken Acknowledge) = ap length (acknowledge-leaves b)
-as-many b (Refused number) = refl
+as-many b (NoEvent number) = refl
 
 -- the seats decide what stands at each
 seat-by-seats : (a b : Bench) (n : ℕ) → a .seats ≡ b .seats → seat a n ≡ seat b n
@@ -133,4 +133,4 @@ seat-acts b all n (Taken MasterReset) = reset-seat b all n
 seat-acts b all n (Taken (ReadController port)) = seat-by-seats _ b n (read-leaves b port)
 seat-acts b all n (Taken (WriteController port byte)) = seat-by-seats _ b n (write-leaves b port byte)
 seat-acts b all n (Taken Acknowledge) = seat-by-seats _ b n (acknowledge-leaves b)
-seat-acts b all n (Refused number) = refl
+seat-acts b all n (NoEvent number) = refl

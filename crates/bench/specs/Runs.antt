@@ -6,7 +6,7 @@ use Rattle.base.specs.Pick.{pick}
 use Rattle.seat.specs.Acts.{Act, event, resets}
 use Rattle.records.specs.declared.Event.the-variants.{OfSeat, MasterReset, ReadController, WriteController, Acknowledge}
 use Rattle.records.specs.declared.Decoded.{Decoded}
-use Rattle.records.specs.declared.Decoded.the-variants.{Taken, Refused}
+use Rattle.records.specs.declared.Decoded.the-variants.{Taken, NoEvent}
 use Rattle.records.specs.Events.{Record, decoded}
 use Rattle.bench.specs.declared.Bench.{Bench}
 use Rattle.bench.specs.declared.Outcome.{Outcome}
@@ -30,7 +30,7 @@ own n (Taken MasterReset) = resets ∷ []
 own n (Taken (ReadController port)) = []
 own n (Taken (WriteController port byte)) = []
 own n (Taken Acknowledge) = []
-own n (Refused number) = []
+own n (NoEvent number) = []
 
 -- seat n's own events among these records
 abbrev pub ownAll : ℕ → List Record → List Act

@@ -16,7 +16,7 @@ use Rattle.rank.specs.Sets.{withLine}
 use Rattle.records.specs.declared.Event.{Event}
 use Rattle.records.specs.declared.Event.the-variants.{OfSeat, MasterReset, ReadController, WriteController, Acknowledge}
 use Rattle.records.specs.declared.Decoded.{Decoded}
-use Rattle.records.specs.declared.Decoded.the-variants.{Taken, Refused}
+use Rattle.records.specs.declared.Decoded.the-variants.{Taken, NoEvent}
 use Rattle.records.specs.Events.{Record, event}
 use Rattle.bench.specs.declared.Bench.{Bench}
 use Rattle.bench.specs.declared.Outcome.{Outcome}
@@ -69,4 +69,4 @@ met b e =
 -- a decoded record: its event is met, or its refusal shown
 unfoldable pub dealt : Bench → Decoded → Outcome
 dealt b (Taken e) = met b e
-dealt b (Refused n) = shown b (answer.Refused n)
+dealt b (NoEvent n) = shown b (answer.Refused n)

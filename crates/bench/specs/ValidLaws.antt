@@ -24,7 +24,7 @@ use Rattle.controller.specs.RefusalLaws.{step-done}
 use Rattle.records.specs.declared.Event.{Event}
 use Rattle.records.specs.declared.Event.the-variants.{OfSeat, MasterReset, ReadController, WriteController, Acknowledge}
 use Rattle.records.specs.declared.Decoded.{Decoded}
-use Rattle.records.specs.declared.Decoded.the-variants.{Taken, Refused}
+use Rattle.records.specs.declared.Decoded.the-variants.{Taken, NoEvent}
 use Rattle.records.specs.Events.{Record, decoded, seatCount}
 use Rattle.bench.specs.declared.Bench.{Bench}
 use Rattle.bench.specs.declared.Outcome.{Outcome}
@@ -67,7 +67,7 @@ sound-set (x ∷ l) (suc n) s all new =
     let h = both-hold (sound x) (soundSeats l) all in
     rw (h .0, sound-set l n s (h .1) new)
 
--- the seat at a place is sound, where there is one
+-- the seat in a chair is sound, where there is one
 sound-at : (l : List Seat) (n : ℕ) (d : Seat) → soundSeats l ≡ true → n < length l → sound (getD l n d) ≡ true
 unfolding soundSeats
 sound-at [] n d all inside = absurd (not-suc-le-zero inside)
@@ -123,7 +123,7 @@ module _ (b : Bench) (s : Sound b) where
   sound-dealt : (d : Decoded) → (soundSeats (dealt b d .bench .seats) ≡ true) × (controller-valid.valid (dealt b d .bench .controller) ≡ true)
   unfolding dealt
   sound-dealt (Taken e) = (seats-met e, controller-met e)
-  sound-dealt (Refused n) = (s .seats, s .controller)
+  sound-dealt (NoEvent n) = (s .seats, s .controller)
 
   sound-kept : (r : Record) → Sound (outcome b r .bench)
   sound-kept r =

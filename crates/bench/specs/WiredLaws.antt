@@ -31,7 +31,7 @@ use Rattle.controller.specs.FrameLaws.{LevelMoves, stays, level-moves}
 use Rattle.records.specs.declared.Event.{Event}
 use Rattle.records.specs.declared.Event.the-variants.{OfSeat, MasterReset, ReadController, WriteController, Acknowledge}
 use Rattle.records.specs.declared.Decoded.{Decoded}
-use Rattle.records.specs.declared.Decoded.the-variants.{Taken, Refused}
+use Rattle.records.specs.declared.Decoded.the-variants.{Taken, NoEvent}
 use Rattle.records.specs.Events.{Record, decoded, seatCount}
 use Rattle.bench.specs.declared.Bench.{Bench}
 use Rattle.bench.specs.declared.Outcome.{Outcome}
@@ -48,7 +48,7 @@ around : (n : ℕ) (l : ℕ) (h : Bool) → withLine l n h ≡ withLine l (chair
 unfolding withLine
 around n l h = ap (λ (k : ℕ). pick h (join l (2 ^ k)) (without l (2 ^ k))) (sym (mod-mod n seatCount))
 
--- no word and no acknowledge moves the levels
+-- no write and no acknowledge moves the levels
 same-levels : (c : Controller) (p b x : ℕ) → LevelMoves c (write p b) x → x ≡ c .lines .levels
 same-levels c p b x (stays signal) = refl
 
@@ -108,7 +108,7 @@ module _ (b : Bench) (w : Wired b) where
   wired-dealt : (d : Decoded) → Wired (dealt b d .bench)
   unfolding dealt
   wired-dealt (Taken e) = wired-met e
-  wired-dealt (Refused n) = w
+  wired-dealt (NoEvent n) = w
 
   pub wired-kept : (r : Record) → Wired (outcome b r .bench)
   wired-kept r = subst (λ (o : Outcome). Wired (o .bench)) (sym (outcome-dealt b r)) (wired-dealt (decoded r))

@@ -25,7 +25,7 @@ pub struct Outcome {
 }
 
 impl Bench {
-    pub fn power_up() -> Self
+    pub fn power_up() -> Bench
         ensures { λ r. ⌜ r ≡ powerUp ⌝ }
     {
         Bench {

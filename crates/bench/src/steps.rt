@@ -3,7 +3,7 @@ use crate::Bench;
 use crate::Outcome;
 use crate::seats;
 use base::Answer;
-use records::Decoded;
+use records::Event;
 ghost use mathlib.Core.Path.{_≡_};
 ghost use Rattle.controller.specs.Steps.{placed};
 ghost use Rattle.controller.specs.Turns.{outputOf};
@@ -38,7 +38,7 @@ impl Bench {
     pub fn step(mut self, kind: u8, seat: u8, number: u8, value: u8) -> Outcome
         ensures { λ r. ⌜ r ≡ outcome self (whole kind seat number value) ⌝ }
     {
-        if kind == Decoded::MASTER_RESET {
+        if kind == Event::MASTER_RESET {
             return self.reset();
         }
         let at = seats::chair(seat);

@@ -7,7 +7,7 @@ use Rattle.base.specs.Bits.{bit, digit, bits}
 use Rattle.base.specs.Answers.{valueOf}
 use Rattle.base.specs.Refusals.{firstOf, refusalBy}
 use Rattle.queue.specs.Queue.{room, entered, replaced, capacity, accepted, movedDown, taken, oldest, unmarked, anyMarked, marked}
-use Rattle.receiver.specs.Receiver.{noneQueued, received, got, shownMarks, someMarked, looked, cleared, turned, dataStands, timeoutStands}
+use Rattle.receiver.specs.Receiver.{noneQueued, received, got, shownMarks, someMarked, lsrSeen, cleared, afterModeChange, dataStands, timeoutStands}
 use Rattle.transmitter.specs.Transmitter.{noneWaiting, allSent, flagSetIf, written, emptied, enabled}
 use Rattle.registers.specs.Words.{trigger}
 use Rattle.registers.specs.Registers.{plainRegister, registerAt, fcrKept}
@@ -26,10 +26,10 @@ use Rattle.channel.specs.Steps.{effect, stepped}
 unfoldable told : Channel → List SeatEvent → List ℕ
 unfolding stepped effect valueOf registerAt plainRegister pick bit digit bits
     refusal grounds refusalBy firstOf
-    byteAt afterRead iirRead lsrRead looked got taken movedDown unmarked
+    byteAt afterRead iirRead lsrRead lsrSeen got taken movedDown unmarked
     iir iirOf cause causeOf causes firstCause lineTrouble someChange dataStands timeoutStands trigger
     lsr lsrOf msr msrOf noneQueued shownMarks someMarked oldest anyMarked marked noneWaiting allSent
-    afterWrite ierWritten enabled flagSetIf fcrWritten fcrKept fcrReceiver fcrTransmitter modeChanged cleared turned emptied
+    afterWrite ierWritten enabled flagSetIf fcrWritten fcrKept fcrReceiver fcrTransmitter modeChanged cleared afterModeChange emptied
     afterArrival received written accepted capacity room entered replaced
 told c [] = []
 told c (e ∷ es) = valueOf (stepped c e .answer) ∷ told (stepped c e .channel) es

@@ -6,7 +6,7 @@ use Rattle.base.specs.Bits.{bit}
 use Rattle.base.specs.declared.Answer.{Answer}
 use Rattle.base.specs.declared.Answer.the-variants.{Byte}
 use Rattle.receiver.specs.declared.Receiver.{Receiver}
-use Rattle.receiver.specs.Receiver.{received, got, looked, waited, fcrHeard}
+use Rattle.receiver.specs.Receiver.{received, got, lsrSeen, waited, fcrHeard}
 use Rattle.transmitter.specs.declared.Transmitter.{Transmitter}
 use Rattle.transmitter.specs.Transmitter.{written, shifted, iirSeen, ierSent, fcrSent}
 use Rattle.channel.specs.declared.Channel.{Channel}
@@ -27,7 +27,7 @@ iirRead c = withTransmitter c (iirSeen (eqb (cause c) 0x02) (c .transmitter))
 
 -- "A read clears overrun, and the marks it showed, after answering."
 unfoldable pub lsrRead : Channel → Channel
-lsrRead c = withReceiver c (looked (fifo c) (c .receiver))
+lsrRead c = withReceiver c (lsrSeen (fifo c) (c .receiver))
 
 -- "A read clears bits 0-3 after answering."
 unfoldable pub msrRead : Channel → Channel

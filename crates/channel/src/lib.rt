@@ -29,13 +29,14 @@ pub struct Channel {
     pub modem: Modem,
 }
 
+// The channel after an event, and what the event was answered with.
 pub struct Stepped {
     pub channel: Channel,
     pub answer: Answer,
 }
 
 impl Channel {
-    pub fn power_up() -> Self
+    pub fn power_up() -> Channel
         ensures { λ r. ⌜ r ≡ powerUp ⌝ }
     {
         Channel {
@@ -57,7 +58,7 @@ impl Channel {
         }
     }
 
-    pub fn master_reset(mut self) -> Self
+    pub fn master_reset(mut self) -> Channel
         ensures { λ r. ⌜ r ≡ masterReset self ⌝ }
     {
         self.settings.ier = 0;
@@ -70,29 +71,17 @@ impl Channel {
         self
     }
 
-    pub fn step(mut self, e: SeatEvent) -> Stepped
+    pub fn step(self, e: SeatEvent) -> Stepped
         ensures { λ r. ⌜ r ≡ stepped self e ⌝ }
     {
         let refused = self.settings.refusal(e);
         if refused == 0 {
             match e {
                 SeatEvent::Read(number) => return self.read(number),
-                SeatEvent::Write(number, byte) => return self.write(number, byte),
-                SeatEvent::Arrival(marks, byte) => return self.arrive(marks, byte),
-                SeatEvent::Levels(levels) => {
-                    let changes = registers::changes_after(
-                        self.modem.changes,
-                        self.modem.levels,
-                        levels,
-                    );
-                    self.modem.changes = changes;
-                    self.modem.levels = levels;
-                    return Stepped {
-                        channel: self,
-                        answer: Answer::Done,
-                    };
-                }
-                SeatEvent::Time => return self.character_time(),
+                SeatEvent::Write(number, byte) => return self.written(number, byte),
+                SeatEvent::Arrival(marks, byte) => return self.arrived(marks, byte),
+                SeatEvent::Levels(levels) => return self.levels_given(levels),
+                SeatEvent::Time => return self.time_passed(),
             }
         }
         Stepped {

@@ -11,7 +11,7 @@ ghost use Rattle.registers.specs.declared.Register.the-variants.{IirFcr};
 
 impl Channel {
     // The low digit of what is read names the cause, and decides whether the flag is cleared.
-    fn read_iir(mut self) -> Stepped
+    fn iir_read(mut self) -> Stepped
         ensures { λ r. ⌜ r ≡ readOf self IirFcr ⌝ }
     {
         let byte = status::iir(
@@ -43,11 +43,11 @@ impl Channel {
                     answer: Answer::Byte(got.byte),
                 };
             }
-            Register::IirFcr => return self.read_iir(),
+            Register::IirFcr => return self.iir_read(),
             Register::Lsr => {
                 let fifo = self.settings.is_fifo();
                 let byte = status::lsr(fifo, self.receiver, self.transmitter);
-                self.receiver = self.receiver.look(fifo);
+                self.receiver = self.receiver.lsr_read(fifo);
                 return Stepped {
                     channel: self,
                     answer: Answer::Byte(byte),

@@ -10,7 +10,7 @@ ghost use Rattle.channel.specs.Steps.{effect};
 ghost use Rattle.registers.specs.declared.SeatEvent.the-variants.{Write};
 
 impl Channel {
-    fn write_fcr(mut self, byte: u8) -> Self
+    fn fcr_written(mut self, byte: u8) -> Channel
         ensures { λ r. ⌜ r ≡ fcrWritten self byte ⌝ }
     {
         let changed = self.settings.changes_mode(byte);
@@ -23,7 +23,7 @@ impl Channel {
         self
     }
 
-    pub(crate) fn write(mut self, number: u8, byte: u8) -> Stepped
+    pub(crate) fn written(mut self, number: u8, byte: u8) -> Stepped
         ensures { λ r. ⌜ r ≡ effect self (Write number byte) ⌝ }
     {
         let register = self.settings.register(number);
@@ -46,7 +46,7 @@ impl Channel {
                 };
             }
             Register::IirFcr => return Stepped {
-                channel: self.write_fcr(byte),
+                channel: self.fcr_written(byte),
                 answer: Answer::Done,
             },
             _ => {

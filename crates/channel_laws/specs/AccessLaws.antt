@@ -18,20 +18,20 @@ use Rattle.registers.specs.Refusals.{refusal}
 use Rattle.channel.specs.Steps.{effect, stepped}
 
 -- which parts of a channel an access may change
-pub record Touched : Type 0 where
+pub record Reached : Type 0 where
   pub settings : Bool
   pub receiver : Bool
   pub transmitter : Bool
   pub modem : Bool
 
 -- a row of the table: settings, receiver, transmitter, modem
-abbrev row : Bool → Bool → Bool → Bool → Touched
+abbrev row : Bool → Bool → Bool → Bool → Reached
 row s r t m = record { settings = s; receiver = r; transmitter = t; modem = m }
 
-abbrev pub nothing : Touched
+abbrev pub nothing : Reached
 nothing = row false false false false
 
-abbrev pub byRead : Register → Touched
+abbrev pub byRead : Register → Reached
 byRead RbrThr = row false true false false
 byRead Ier = nothing
 byRead IirFcr = row false false true false
@@ -43,7 +43,7 @@ byRead Scratch = nothing
 byRead Dll = nothing
 byRead Dlm = nothing
 
-abbrev pub byWrite : Register → Touched
+abbrev pub byWrite : Register → Reached
 byWrite RbrThr = row false false true false
 byWrite Ier = row true false true false
 byWrite IirFcr = row true true true false
@@ -56,7 +56,7 @@ byWrite Dll = row true false false false
 byWrite Dlm = row true false false false
 
 -- a register number is read with LCR bit 7
-abbrev pub byEvent : Channel → SeatEvent → Touched
+abbrev pub byEvent : Channel → SeatEvent → Reached
 byEvent c (Read n) = byRead (registerAt (divisorShown c) n)
 byEvent c (Write n byte) = byWrite (registerAt (divisorShown c) n)
 byEvent c (Arrival marks byte) = row false true false false
@@ -64,7 +64,7 @@ byEvent c (Levels levels) = row false false false true
 byEvent c Time = row false true true false
 
 -- the new channel's parts where they are touched, the old one's where they are not
-abbrev pub mixed : Touched → Channel → Channel → Channel
+abbrev pub mixed : Reached → Channel → Channel → Channel
 mixed t new old =
     record {
       settings = pick (t .settings) (new .settings) (old .settings);
@@ -122,4 +122,4 @@ touches c e =
 -- where nothing may be touched, the whole channel is as it was: every read but those of RBR, IIR, LSR and MSR, and every write to LSR or MSR
 pub untouched : (c : Channel) (e : SeatEvent) → byEvent c e ≡ nothing → stepped c e .channel ≡ c
 unfolding pick
-untouched c e none = touches c e ∙ ap (λ (t : Touched). mixed t (stepped c e .channel) c) none
+untouched c e none = touches c e ∙ ap (λ (t : Reached). mixed t (stepped c e .channel) c) none

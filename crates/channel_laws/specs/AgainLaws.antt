@@ -13,8 +13,8 @@ use Rattle.base.specs.Answers.{valueOf}
 use Rattle.queue.specs.declared.Character.{Character}
 use Rattle.queue.specs.Queue.{plain, anyMarked}
 use Rattle.queue.specs.QueueLaws.{holding}
-use Rattle.receiver.specs.Receiver.{looked}
-use Rattle.receiver.specs.CallLaws.{look-fifo, look-16450}
+use Rattle.receiver.specs.Receiver.{lsrSeen}
+use Rattle.receiver.specs.CallLaws.{lsr-seen-fifo, lsr-seen-16450}
 use Rattle.channel.specs.declared.Channel.{Channel}
 use Rattle.channel.specs.declared.Stepped.{Stepped}
 use Rattle.registers.specs.declared.SeatEvent.the-variants.{Read}
@@ -107,8 +107,8 @@ module _ (c : Channel) where
       }
   unfolding lsrRead
   lsr-leaves-fifo mode ch l held =
-      ap (λ (s : Stepped). s .channel .receiver) (read-lsr c) ∙ ap (λ (m : Bool). looked m (c .receiver)) mode
-      ∙ look-fifo (c .receiver) ch l held .1
+      ap (λ (s : Stepped). s .channel .receiver) (read-lsr c) ∙ ap (λ (m : Bool). lsrSeen m (c .receiver)) mode
+      ∙ lsr-seen-fifo (c .receiver) ch l held .1
 
   -- and in 16450 mode: the queue with all its marks, and neither overrun nor kept marks
   pub lsr-leaves-16450 : fifo c ≡ false
@@ -116,7 +116,7 @@ module _ (c : Channel) where
       ≡ record { queue = c .receiver .queue; overrun = false; kept = 0; timeout = c .receiver .timeout; last = c .receiver .last }
   unfolding lsrRead
   lsr-leaves-16450 mode =
-      ap (λ (s : Stepped). s .channel .receiver) (read-lsr c) ∙ ap (λ (m : Bool). looked m (c .receiver)) mode ∙ look-16450 (c .receiver) .1
+      ap (λ (s : Stepped). s .channel .receiver) (read-lsr c) ∙ ap (λ (m : Bool). lsrSeen m (c .receiver)) mode ∙ lsr-seen-16450 (c .receiver) .1
 
   -- ---- IIR
 

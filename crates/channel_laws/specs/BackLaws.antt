@@ -24,29 +24,29 @@ use Rattle.channel_laws.specs.ReadLaws.{read-at}
 -- ---- the settings after a write: one register has a new byte, and each other keeps its own
 
 -- the registers in document 01's order, for telling one from another
-abbrev place : Register → ℕ
-place RbrThr = 0
-place Ier = 1
-place IirFcr = 2
-place Lcr = 3
-place Mcr = 4
-place Lsr = 5
-place Msr = 6
-place Scratch = 7
-place Dll = 8
-place Dlm = 9
+abbrev ordinal : Register → ℕ
+ordinal RbrThr = 0
+ordinal Ier = 1
+ordinal IirFcr = 2
+ordinal Lcr = 3
+ordinal Mcr = 4
+ordinal Lsr = 5
+ordinal Msr = 6
+ordinal Scratch = 7
+ordinal Dll = 8
+ordinal Dlm = 9
 
 -- the settings where a write to the register has put the bytes that each would keep
 abbrev rewritten : Settings → Register → ℕ → Settings
 rewritten s r byte =
     record {
-      ier = pick (eqb (place r) 1) (byte % 2 ^ 4) (s .ier);
-      fcr = pick (eqb (place r) 2) (fcrKept byte) (s .fcr);
-      lcr = pick (eqb (place r) 3) byte (s .lcr);
-      mcr = pick (eqb (place r) 4) (byte % 2 ^ 5) (s .mcr);
-      scratch = pick (eqb (place r) 7) byte (s .scratch);
-      dll = pick (eqb (place r) 8) byte (s .dll);
-      dlm = pick (eqb (place r) 9) byte (s .dlm);
+      ier = pick (eqb (ordinal r) 1) (byte % 2 ^ 4) (s .ier);
+      fcr = pick (eqb (ordinal r) 2) (fcrKept byte) (s .fcr);
+      lcr = pick (eqb (ordinal r) 3) byte (s .lcr);
+      mcr = pick (eqb (ordinal r) 4) (byte % 2 ^ 5) (s .mcr);
+      scratch = pick (eqb (ordinal r) 7) byte (s .scratch);
+      dll = pick (eqb (ordinal r) 8) byte (s .dll);
+      dlm = pick (eqb (ordinal r) 9) byte (s .dlm);
     }
 
 pub settings-after : (c : Channel) (r : Register) (byte : ℕ) → afterWrite c r byte .settings ≡ rewritten (c .settings) r byte

@@ -70,8 +70,8 @@ by-two false false = refl
 chosen : (n : ℕ) → trigger n ≡ getD triggers (n / 64 % 4) 0
 unfolding trigger
 chosen n =
-    let place : digit (bit 6 n) + 2 * digit (bit 7 n) ≡ n / 64 % 4 = omega (arith, digit-bit 6 n, digit-bit 7 n) in
-    by-two (bit 7 n) (bit 6 n) ∙ ap (λ (i : ℕ). getD triggers i 0) place
+    let chosen : digit (bit 6 n) + 2 * digit (bit 7 n) ≡ n / 64 % 4 = omega (arith, digit-bit 6 n, digit-bit 7 n) in
+    by-two (bit 7 n) (bit 6 n) ∙ ap (λ (i : ℕ). getD triggers i 0) chosen
 
 -- "bits 7-6 choose trigger 1, 4, 8 or 14"
 pub trigger-chosen : (byte : ℕ) → bit 0 byte ≡ true → trigger (fcrKept byte) ≡ getD triggers (byte / 64 % 4) 0

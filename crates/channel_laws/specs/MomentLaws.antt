@@ -13,7 +13,7 @@ use Rattle.base.specs.Answers.{valueOf}
 use Rattle.base.specs.declared.Answer.{Answer}
 use Rattle.base.specs.declared.Answer.the-variants.{Byte, Done}
 use Rattle.receiver.specs.declared.Receiver.{Receiver}
-use Rattle.receiver.specs.Receiver.{turned, cleared}
+use Rattle.receiver.specs.Receiver.{afterModeChange, cleared}
 use Rattle.receiver.specs.Ledger.{Moment, empties, changes, resets, Side, after, afterAll, readIn}
 use Rattle.channel.specs.declared.Channel.{Channel}
 use Rattle.channel.specs.declared.Stepped.{Stepped}
@@ -39,11 +39,11 @@ unfolding fcrKept
 kept-mode byte =
     pick-cases (λ (x : ℕ). bit 0 x ≡ bit 0 byte) (bit 0 byte) _ _ (λ set. bit-bits 0 _ ∙ sym set) (λ clear. no-mode ∙ sym clear)
 
-turns : (a b : Bool) → ((a && not b) || (not a && b)) ≡ true → b ≡ not a
-turns true true e = sym e
-turns true false e = refl
-turns false true e = refl
-turns false false e = e
+flips : (a b : Bool) → ((a && not b) || (not a && b)) ≡ true → b ≡ not a
+flips true true e = sym e
+flips true false e = refl
+flips false true e = refl
+flips false false e = e
 
 stays : (a b : Bool) → ((a && not b) || (not a && b)) ≡ false → b ≡ a
 stays true true e = refl
@@ -61,17 +61,17 @@ unfolding pick after afterAll
 emptied-side c true = refl
 emptied-side c false = refl
 
-turned-side : (c : Channel) → afterAll (side c) (changes ∷ []) ≡ record { fifo = not (fifo c); receiver = turned (c .receiver) }
+changed-side : (c : Channel) → afterAll (side c) (changes ∷ []) ≡ record { fifo = not (fifo c); receiver = afterModeChange (c .receiver) }
 unfolding after afterAll
-turned-side c = refl
+changed-side c = refl
 
 fcr-side : (c : Channel) (byte : ℕ) → side (fcrWritten c byte) ≡ afterAll (side c) (fcrMoments c byte)
 unfolding fcrWritten fcrReceiver fcrMoments modeChanged
 fcr-side c byte =
     ⊎-elim
     (λ (changed : modeChanged c byte ≡ true).
-    same-side _ _ _ _ (kept-mode byte ∙ turns (fifo c) (bit 0 byte) changed) (pick-true _ _ _ changed)
-    ∙ sym (ap (afterAll (side c)) (pick-true _ _ _ changed) ∙ turned-side c))
+    same-side _ _ _ _ (kept-mode byte ∙ flips (fifo c) (bit 0 byte) changed) (pick-true _ _ _ changed)
+    ∙ sym (ap (afterAll (side c)) (pick-true _ _ _ changed) ∙ changed-side c))
     (λ (same : modeChanged c byte ≡ false).
     same-side _ _ _ _ (kept-mode byte ∙ stays (fifo c) (bit 0 byte) same) (pick-false _ _ _ same)
     ∙ emptied-side c (bit 0 byte && bit 1 byte) ∙ sym (ap (afterAll (side c)) (pick-false _ _ _ same)))

@@ -16,7 +16,7 @@ use Rattle.queue.specs.declared.Character.{Character}
 use Rattle.queue.specs.declared.Queue.{Queue}
 use Rattle.queue.specs.Queue.{noCharacter, oldest, plain, unmarked, anyMarked, marked}
 use Rattle.queue.specs.QueueLaws.{holding, unmark-oldest, marked-is}
-use Rattle.receiver.specs.Receiver.{looked}
+use Rattle.receiver.specs.Receiver.{lsrSeen}
 use Rattle.channel.specs.declared.Channel.{Channel}
 use Rattle.registers.specs.declared.Register.{Register}
 use Rattle.registers.specs.declared.Register.the-variants.{IirFcr, Lsr, Msr}
@@ -77,12 +77,12 @@ no-bit k = bit-past k 0 (pow-pos k)
 module _ (c : Channel) where
   -- overrun is cleared
   pub lsr-again-overrun : bit 1 (lsr (lsrRead c)) ≡ false
-  unfolding lsrRead looked
+  unfolding lsrRead lsrSeen
   lsr-again-overrun = lsr-overrun (lsrRead c)
 
   -- and so are the marks that it showed: the kept ones in 16450 mode, the oldest character's in FIFO mode
   pub lsr-again-marks : (k : ℕ) → k < 3 → bit (2 + k) (lsr (lsrRead c)) ≡ false
-  unfolding lsrRead looked
+  unfolding lsrRead lsrSeen
   lsr-again-marks k less =
       ⊎-elim
       (λ (mode : fifo c ≡ true).
@@ -94,14 +94,14 @@ module _ (c : Channel) where
   -- in FIFO mode bit 7 then tells of the characters behind the oldest
   pub lsr-again-marked : fifo c ≡ true → (ch : Character) (l : List Character) → c .receiver .queue ≡ holding (ch ∷ l)
       → bit 7 (lsr (lsrRead c)) ≡ anyMarked l
-  unfolding lsrRead looked anyMarked
+  unfolding lsrRead lsrSeen anyMarked
   lsr-again-marked mode ch l held =
       lsr-marked (lsrRead c)
       ∙ (λ i. mode i && marked (pick-true (fifo c) (unmarked (c .receiver .queue)) (c .receiver .queue) mode i))
       ∙ ap (λ (q : Queue). marked (unmarked q)) held ∙ ap marked (unmark-oldest ch l) ∙ marked-is (plain ch ∷ l)
 
   same-count : lsrRead c .receiver .queue .count ≡ c .receiver .queue .count
-  unfolding lsrRead looked
+  unfolding lsrRead lsrSeen
   same-count =
       pick-through (λ (q : Queue). q .count) (fifo c) _ _ ∙ (λ i. pick (fifo c) (unmarked-count (c .receiver .queue) i) (c .receiver .queue .count))
       ∙ pick-same (fifo c) (c .receiver .queue .count)
@@ -117,7 +117,7 @@ module _ (c : Channel) where
   -- the count of the queue, the time-out count and the last byte read are kept
   pub lsr-leaves : (lsrRead c .receiver .queue .count ≡ c .receiver .queue .count) × (lsrRead c .receiver .timeout ≡ c .receiver .timeout)
       × (lsrRead c .receiver .last ≡ c .receiver .last)
-  unfolding lsrRead looked
+  unfolding lsrRead lsrSeen
   lsr-leaves = (same-count, refl, refl)
 
   -- ---- MSR

@@ -49,7 +49,7 @@ read-sound c IirFcr s =
     (sending.flag-cleared-sound (fifo c) (c .transmitter) (s .transmitter)) (s .transmitter))
 read-sound c Lcr s = s
 read-sound c Mcr s = s
-read-sound c Lsr s = with-receiver c _ s (heard.look-sound (fifo c) (c .receiver) (s .receiver))
+read-sound c Lsr s = with-receiver c _ s (heard.lsr-seen-sound (fifo c) (c .receiver) (s .receiver))
 read-sound c Msr s = with-modem c _ s (s .levels) (omega arith)
 read-sound c Scratch s = s
 read-sound c Dll s = s
@@ -98,7 +98,7 @@ module _ (c : Channel) (byte : ℕ) (s : Sound c) where
   unfolding fcrReceiver
   fcr-receiver =
       ⊎-elim
-      (λ (m : modeChanged c byte ≡ true). ap (soundReceiver (bit 0 byte)) (pick-true _ _ _ m) ∙ heard.turn-sound (bit 0 byte) (c .receiver))
+      (λ (m : modeChanged c byte ≡ true). ap (soundReceiver (bit 0 byte)) (pick-true _ _ _ m) ∙ heard.mode-change-sound (bit 0 byte) (c .receiver))
       (λ (m : modeChanged c byte ≡ false).
       ap (soundReceiver (bit 0 byte)) (pick-false _ _ _ m)
       ∙ pick-either (λ (r : Receiver). soundReceiver (bit 0 byte) r ≡ true) (bit 0 byte && bit 1 byte) _ _

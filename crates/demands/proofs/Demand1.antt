@@ -26,7 +26,7 @@ use Rattle.bench.specs.RefusalLaws.{in-turn}
 use Rattle.bench.specs.Seats.{seat, powerUp}
 use Rattle.bench.specs.Steps.{outcome}
 use Rattle.bench.specs.OutcomeLaws.{outcome-refused, outcome-number}
-use Rattle.demands.specs.Demand1.{Listed, Refused, Accepted, Answered, Unchanged, Events, Places, among, Divisors, Demand1, OnlyFFF, OneRefusal}
+use Rattle.demands.specs.Demand1.{Listed, RefusedBy, Accepted, Answered, Unchanged, Events, Places, among, Divisors, Demand1, OnlyFFF, OneRefusal}
 use Rattle.demands.proofs.Opened.{laid-open}
 
 -- the number that is given is listed, where there is one
@@ -44,7 +44,7 @@ first-listed (n ∷ order) gs some =
 -- ---- events
 
 module _ (b : Bench) (r : Record) where
-  refused : (refusal b r ≡ 0 → ⊥) → Refused refusalOrder 0xFFF (grounds b r) (outcome b r .answer)
+  refused : (refusal b r ≡ 0 → ⊥) → RefusedBy refusalOrder 0xFFF (grounds b r) (outcome b r .answer)
   unfolding refusal refusalBy valueOf
   refused some =
       record {

@@ -27,7 +27,7 @@ use Rattle.turn.proofs.InTurn.{demand-3}
 use Rattle.records.specs.declared.Event.{Event}
 use Rattle.records.specs.declared.Event.the-variants.{OfSeat, MasterReset, ReadController, WriteController, Acknowledge}
 use Rattle.records.specs.declared.Decoded.{Decoded}
-use Rattle.records.specs.declared.Decoded.the-variants.{Taken, Refused}
+use Rattle.records.specs.declared.Decoded.the-variants.{Taken, NoEvent}
 use Rattle.records.specs.Events.{Record, decoded}
 use Rattle.bench.specs.declared.Bench.{Bench}
 use Rattle.bench.specs.declared.Outcome.{Outcome}
@@ -53,7 +53,7 @@ sends b (Taken MasterReset) = moved b MasterReset
 sends b (Taken (ReadController port)) = read port ∷ []
 sends b (Taken (WriteController port byte)) = write port byte ∷ []
 sends b (Taken Acknowledge) = acknowledge ∷ []
-sends b (Refused number) = []
+sends b (NoEvent number) = []
 
 -- and the outcome agrees with it: in what the acknowledges answer, and in what may come
 record Agrees (b : Bench) (n : ℕ) (d : Decoded) (o : Outcome) (xs : List Signal) : Type 0 where
@@ -161,7 +161,7 @@ module _ (b : Bench) (n : ℕ) where
   agrees (Taken (ReadController port)) = read-agrees port
   agrees (Taken (WriteController port byte)) = write-agrees port byte
   agrees (Taken Acknowledge) = acknowledge-agrees
-  agrees (Refused number) = still-agrees (Refused number) (answer.Refused number) refl (λ owed. refl)
+  agrees (NoEvent number) = still-agrees (NoEvent number) (answer.Refused number) refl (λ owed. refl)
 
   record-agrees : (r : Record) → Agrees b n (decoded r) (outcome b r) (sends b (decoded r))
   record-agrees r = subst (λ (o : Outcome). Agrees b n (decoded r) o (sends b (decoded r))) (sym (outcome-dealt b r)) (agrees (decoded r))

@@ -24,12 +24,7 @@ pub queue-once : (M : Type 1) → QueueOnce M
 queue-once M =
     record {
       queue·Queue·empty = value _ refl (λ κ a v w. refl);
-      queue·Queue·emptied = value _ refl (λ κ a v w. refl);
-      queue·Queue·has-room = value _ refl (λ κ a v w. refl);
-      queue·Queue·put = value _ refl (λ κ a v w. refl);
-      queue·Queue·capacity = value _ refl (λ κ a v w. refl);
       queue·Queue·accept = value _ refl (λ κ a v w. refl);
-      queue·Queue·replace = value _ refl (λ κ a v w. refl);
       queue·Queue·take = value _ refl (λ κ a v w. refl);
       queue·Queue·first = value _ refl (λ κ a v w. refl);
       queue·Queue·unmark = value _ refl (λ κ a v w. refl);
@@ -50,7 +45,6 @@ registers-once M =
       registers·Settings·register = value _ refl (λ κ a v w. refl);
       registers·Settings·changes-mode = value _ refl (λ κ a v w. refl);
       registers·Settings·write = value _ refl (λ κ a v w. refl);
-      registers·Settings·cut = value _ refl (λ κ a v w. refl);
       registers·Settings·shown = value _ refl (λ κ a v w. refl);
       registers·Settings·wire-answer = value _ refl (λ κ a v w. refl);
       registers·changes-after = value _ refl (λ κ a v w. refl);
@@ -69,7 +63,7 @@ receiver-once M =
       receiver·Receiver·marks = value _ refl (λ κ a v w. refl);
       receiver·Receiver·trouble = value _ refl (λ κ a v w. refl);
       receiver·Receiver·any-marked = value _ refl (λ κ a v w. refl);
-      receiver·Receiver·look = value _ refl (λ κ a v w. refl);
+      receiver·Receiver·lsr-read = value _ refl (λ κ a v w. refl);
       receiver·Receiver·wait = value _ refl (λ κ a v w. refl);
       receiver·Receiver·fcr-written = value _ refl (λ κ a v w. refl);
       receiver·Receiver·restart = value _ refl (λ κ a v w. refl);
@@ -94,7 +88,6 @@ pub status-once : (M : Type 1) → StatusOnce M
 status-once M =
     record {
       status·lsr = value _ refl (λ κ a v w. refl);
-      status·cause = value _ refl (λ κ a v w. refl);
       status·iir = value _ refl (λ κ a v w. refl);
       status·line = value _ refl (λ κ a v w. refl);
     }
@@ -153,8 +146,6 @@ controller-once M =
 pub records-once : (M : Type 1) → RecordsOnce M
 records-once M =
     record {
-      records·Decoded·decode = value _ refl (λ κ a v w. refl);
-      records·Decoded·refusal = value _ refl (λ κ a v w. refl);
       records·step-parts = value _ refl (λ κ a v w. refl);
       records·short-parts = value _ refl (λ κ a v w. refl);
     }

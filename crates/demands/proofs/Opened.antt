@@ -29,8 +29,8 @@ unfolding queue.room queue.entered queue.replaced queue.capacity queue.accepted 
 of-queue = 0
 
 unfoldable pub of-receiver : ℕ
-unfolding receiver.noneQueued receiver.received receiver.got receiver.shownMarks receiver.someMarked receiver.looked
-    receiver.waited receiver.cleared receiver.turned receiver.restarted receiver.dataStands receiver.timeoutStands
+unfolding receiver.noneQueued receiver.received receiver.got receiver.shownMarks receiver.someMarked receiver.lsrSeen
+    receiver.waited receiver.cleared receiver.afterModeChange receiver.restarted receiver.dataStands receiver.timeoutStands
 of-receiver = 0
 
 unfoldable pub of-transmitter : ℕ

@@ -24,7 +24,7 @@ use Rattle.seat.specs.Receiving.{side, momentsOf, befalling, receivesSoundly}
 use Rattle.seat.specs.ReceivingLaws.{acts-side, step-told, power-up-queued, power-up-receives}
 use Rattle.records.specs.declared.Event.the-variants.{OfSeat, MasterReset, ReadController, WriteController, Acknowledge}
 use Rattle.records.specs.declared.Decoded.{Decoded}
-use Rattle.records.specs.declared.Decoded.the-variants.{Taken, Refused}
+use Rattle.records.specs.declared.Decoded.the-variants.{Taken, NoEvent}
 use Rattle.records.specs.Events.{Record, decoded, seatCount}
 use Rattle.bench.specs.declared.Bench.{Bench}
 use Rattle.bench.specs.declared.Outcome.{Outcome}
@@ -103,7 +103,7 @@ dealt-told b n (Taken MasterReset) = reset-told (side (seat b n)) _
 dealt-told b n (Taken (ReadController port)) = none-told (side (seat b n)) _
 dealt-told b n (Taken (WriteController port byte)) = none-told (side (seat b n)) _
 dealt-told b n (Taken Acknowledge) = none-told (side (seat b n)) _
-dealt-told b n (Refused number) = none-told (side (seat b n)) _
+dealt-told b n (NoEvent number) = none-told (side (seat b n)) _
 
 record-told : (b : Bench) (n : ℕ) (r : Record) → Told (side (seat b n)) (outcome b r .answer) (befalls n b r)
 record-told b n r =

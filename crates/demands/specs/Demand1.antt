@@ -31,13 +31,13 @@ pub record Accepted (gs : List Ground) (a : Answer) : Type 0 where
   pub none : noneHolds gs ≡ true
 
 -- a refused one has the number listed in document 01, and a value that the demand names
-pub record Refused (order : List ℕ) (value : ℕ) (gs : List Ground) (a : Answer) : Type 0 where
+pub record RefusedBy (order : List ℕ) (value : ℕ) (gs : List Ground) (a : Answer) : Type 0 where
   pub listed : Listed order (refusalOf a) gs
   pub told : valueOf a ≡ value
 
 -- it is answered: one or the other
 abbrev pub Answered : List ℕ → ℕ → List Ground → Answer → Type 0
-Answered order value gs a = Accepted gs a ⊎ Refused order value gs a
+Answered order value gs a = Accepted gs a ⊎ RefusedBy order value gs a
 
 -- ---- the three entries: events, the place in turn, the divisor list
 
@@ -52,7 +52,7 @@ pub record Unchanged (b : Bench) (o : Outcome) : Type 0 where
 abbrev pub AllAnswered : ℕ → Bench → List Record → Type 0
 AllAnswered value b [] = Unit
 AllAnswered value b (r ∷ rs) =
-    (Accepted (grounds b r) (outcome b r .answer) ⊎ (Refused refusalOrder value (grounds b r) (outcome b r .answer) × Unchanged b (outcome b r)))
+    (Accepted (grounds b r) (outcome b r .answer) ⊎ (RefusedBy refusalOrder value (grounds b r) (outcome b r .answer) × Unchanged b (outcome b r)))
     × AllAnswered value (outcome b r .bench) rs
 
 abbrev pub Events : ℕ → Type 0

@@ -13,7 +13,7 @@ use Rattle.turn.specs.Demand3.{InTurn}
 use Rattle.seat.specs.Seats.{line}
 use Rattle.records.specs.declared.Event.the-variants.{OfSeat, MasterReset, ReadController, WriteController, Acknowledge}
 use Rattle.records.specs.declared.Decoded.{Decoded}
-use Rattle.records.specs.declared.Decoded.the-variants.{Taken, Refused}
+use Rattle.records.specs.declared.Decoded.the-variants.{Taken, NoEvent}
 use Rattle.records.specs.Events.{Record, decoded}
 use Rattle.bench.specs.declared.Bench.{Bench}
 use Rattle.bench.specs.Seats.{seat, powerUp}
@@ -30,7 +30,7 @@ Calm n owed (Taken MasterReset) = Unit
 Calm n owed (Taken (ReadController port)) = Unit
 Calm n owed (Taken (WriteController port byte)) = MayWrite n byte (word port byte)
 Calm n owed (Taken Acknowledge) = owed ≡ false
-Calm n owed (Refused number) = Unit
+Calm n owed (NoEvent number) = Unit
 
 -- The tender: without automatic end every grant is followed by one rotating non-specific end before the next acknowledge. Whether an end is
 -- owed after the record
@@ -40,7 +40,7 @@ owing c owed (Taken MasterReset) = owed
 owing c owed (Taken (ReadController port)) = owed
 owing c owed (Taken (WriteController port byte)) = paid owed (word port byte)
 owing c owed (Taken Acknowledge) = not (c .setup .automatic)
-owing c owed (Refused number) = owed
+owing c owed (NoEvent number) = owed
 
 -- the answer of an acknowledge; any other record has none to show here
 abbrev pub heard : Decoded → Answer → List Answer
@@ -49,7 +49,7 @@ heard (Taken MasterReset) a = []
 heard (Taken (ReadController port)) a = []
 heard (Taken (WriteController port byte)) a = []
 heard (Taken Acknowledge) a = a ∷ []
-heard (Refused number) a = []
+heard (NoEvent number) a = []
 
 -- what the acknowledges among the records answer, first to last
 abbrev pub told : Bench → List Record → List Answer

@@ -36,12 +36,7 @@ pub record BaseOnce (M : Type 1) : Type 2 where
 
 pub record QueueOnce (M : Type 1) : Type 2 where
   pub queue·Queue·empty : Once M queue.Queue.empty.ended queue.Queue.empty.clauses queue.Queue.empty.spec
-  pub queue·Queue·emptied : Once M queue.Queue.emptied.ended queue.Queue.emptied.clauses queue.Queue.emptied.spec
-  pub queue·Queue·has-room : Once M queue.Queue.has_room.ended queue.Queue.has_room.clauses queue.Queue.has_room.spec
-  pub queue·Queue·put : Once M queue.Queue.put.ended queue.Queue.put.clauses queue.Queue.put.spec
-  pub queue·Queue·capacity : Once M queue.Queue.capacity.ended queue.Queue.capacity.clauses queue.Queue.capacity.spec
   pub queue·Queue·accept : Once M queue.Queue.accept.ended queue.Queue.accept.clauses queue.Queue.accept.spec
-  pub queue·Queue·replace : Once M queue.Queue.replace.ended queue.Queue.replace.clauses queue.Queue.replace.spec
   pub queue·Queue·take : Once M queue.Queue.take.ended queue.Queue.take.clauses queue.Queue.take.spec
   pub queue·Queue·first : Once M queue.Queue.first.ended queue.Queue.first.clauses queue.Queue.first.spec
   pub queue·Queue·unmark : Once M queue.Queue.unmark.ended queue.Queue.unmark.clauses queue.Queue.unmark.spec
@@ -60,7 +55,6 @@ pub record RegistersOnce (M : Type 1) : Type 2 where
   pub registers·Settings·register : Once M registers.Settings.register.ended registers.Settings.register.clauses registers.Settings.register.spec
   pub registers·Settings·changes-mode : Once M registers.Settings.changes_mode.ended registers.Settings.changes_mode.clauses registers.Settings.changes_mode.spec
   pub registers·Settings·write : Once M registers.Settings.write.ended registers.Settings.write.clauses registers.Settings.write.spec
-  pub registers·Settings·cut : Once M registers.Settings.cut.ended registers.Settings.cut.clauses registers.Settings.cut.spec
   pub registers·Settings·shown : Once M registers.Settings.shown.ended registers.Settings.shown.clauses registers.Settings.shown.spec
   pub registers·Settings·wire-answer : Once M registers.Settings.wire_answer.ended registers.Settings.wire_answer.clauses registers.Settings.wire_answer.spec
   pub registers·changes-after : Once M registers.changes_after.ended registers.changes_after.clauses registers.changes_after.spec
@@ -78,7 +72,7 @@ pub record ReceiverOnce (M : Type 1) : Type 2 where
   pub receiver·Receiver·marks : Once M receiver.Receiver.marks.ended receiver.Receiver.marks.clauses receiver.Receiver.marks.spec
   pub receiver·Receiver·trouble : Once M receiver.Receiver.trouble.ended receiver.Receiver.trouble.clauses receiver.Receiver.trouble.spec
   pub receiver·Receiver·any-marked : Once M receiver.Receiver.any_marked.ended receiver.Receiver.any_marked.clauses receiver.Receiver.any_marked.spec
-  pub receiver·Receiver·look : Once M receiver.Receiver.look.ended receiver.Receiver.look.clauses receiver.Receiver.look.spec
+  pub receiver·Receiver·lsr-read : Once M receiver.Receiver.lsr_read.ended receiver.Receiver.lsr_read.clauses receiver.Receiver.lsr_read.spec
   pub receiver·Receiver·wait : Once M receiver.Receiver.wait.ended receiver.Receiver.wait.clauses receiver.Receiver.wait.spec
   pub receiver·Receiver·fcr-written : Once M receiver.Receiver.fcr_written.ended receiver.Receiver.fcr_written.clauses receiver.Receiver.fcr_written.spec
   pub receiver·Receiver·restart : Once M receiver.Receiver.restart.ended receiver.Receiver.restart.clauses receiver.Receiver.restart.spec
@@ -103,7 +97,6 @@ pub record TransmitterOnce (M : Type 1) : Type 2 where
 
 pub record StatusOnce (M : Type 1) : Type 2 where
   pub status·lsr : Once M status.lsr.ended status.lsr.clauses status.lsr.spec
-  pub status·cause : Once M status.cause.ended status.cause.clauses status.cause.spec
   pub status·iir : Once M status.iir.ended status.iir.clauses status.iir.spec
   pub status·line : Once M status.line.ended status.line.clauses status.line.spec
 
@@ -157,8 +150,6 @@ pub record ControllerOnce (M : Type 1) : Type 2 where
 -- ---- records: a record, on one seat and the controller
 
 pub record RecordsOnce (M : Type 1) : Type 2 where
-  pub records·Decoded·decode : Once M records.Decoded.decode.ended records.Decoded.decode.clauses records.Decoded.decode.spec
-  pub records·Decoded·refusal : Once M records.Decoded.refusal.ended records.Decoded.refusal.clauses records.Decoded.refusal.spec
   pub records·step-parts : Once M records.step_parts.ended records.step_parts.clauses records.step_parts.spec
   pub records·short-parts : Once M records.short_parts.ended records.short_parts.clauses records.short_parts.spec
 

@@ -3,7 +3,7 @@
 use base::Answer;
 use bench::Bench;
 use controller::Controller;
-use records::Decoded;
+use records::Event;
 use seat::Seat;
 ghost use mathlib.Core.Path.{_≡_};
 ghost use mathlib.Core.Bool.{false};
@@ -154,7 +154,7 @@ pub extern "C" fn hailstoat_event(
     ensures { λ r. ⌜ (now (bench .exit) ≡ outcome (now (bench .entry)) (whole kind seat number value) .bench)
         × Told r (outcome (now (bench .entry)) (whole kind seat number value)) ⌝ }
 {
-    if kind == Decoded::MASTER_RESET {
+    if kind == Event::MASTER_RESET {
         return reset_event(bench);
     }
     seat_event(bench, kind, seat, number, value)

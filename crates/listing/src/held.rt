@@ -1,6 +1,6 @@
 // The records where they stand in the input, and each on the parts that it touches.
 use controller::Controller;
-use records::Decoded;
+use records::Event;
 use records::Touched;
 use seat::Seat;
 ghost use mathlib.Core.Path.{_≡_};
@@ -36,7 +36,7 @@ fn held_whole(kind: u8, seat: u8, number: u8, value: u8) -> Held
 {
     Held {
         short: false,
-        resets: kind == Decoded::MASTER_RESET,
+        resets: kind == Event::MASTER_RESET,
         chair: bench::chair(seat),
         kind,
         seat,

@@ -4,7 +4,7 @@ ghost use mathlib.Core.Path.{_≡_};
 ghost use Rattle.queue.specs.Queue.{emptyQueue, room, entered, replaced, movedDown, taken, oldest, unmarked, anyMarked, marked, capacity, accepted};
 ghost use lib.ListN.{take};
 
-// A received or waiting character; marks are 1 parity, 2 framing, 4 break.
+// A received or waiting character; `base` names the bits of its marks.
 #[repr(C)]
 pub struct Character {
     pub data: u8,
@@ -59,13 +59,13 @@ fn marked_among(s: [Character; 16], count: u8) -> bool
 }
 
 impl Queue {
-    pub const SLOTS: u8 = 16;
+    const SLOTS: u8 = 16;
 
-    pub const CAPACITY_16450: u8 = 1;
+    const CAPACITY_16450: u8 = 1;
 
-    pub const CAPACITY_FIFO: u8 = 16;
+    const CAPACITY_FIFO: u8 = 16;
 
-    pub fn empty() -> Self
+    pub fn empty() -> Queue
         ensures { λ r. ⌜ r ≡ emptyQueue ⌝ }
     {
         Queue {
@@ -74,19 +74,13 @@ impl Queue {
         }
     }
 
-    pub fn emptied(self) -> Self
-        ensures { λ r. ⌜ r ≡ emptyQueue ⌝ }
-    {
-        Queue::empty()
-    }
-
-    pub fn has_room(self, capacity: u8) -> bool
+    fn has_room(self, capacity: u8) -> bool
         ensures { λ r. ⌜ r ≡ room self capacity ⌝ }
     {
         (self.count < Queue::SLOTS) & (self.count < capacity)
     }
 
-    pub fn put(mut self, capacity: u8, ch: Character) -> Put
+    fn put(mut self, capacity: u8, ch: Character) -> Put
         ensures { λ r. ⌜ r ≡ entered self capacity ch ⌝ }
     {
         let room = self.has_room(capacity);
@@ -105,7 +99,7 @@ impl Queue {
         }
     }
 
-    pub fn capacity(fifo: bool) -> u8
+    fn capacity(fifo: bool) -> u8
         ensures { λ r. ⌜ r ≡ capacity fifo ⌝ }
     {
         if fifo {
@@ -134,7 +128,7 @@ impl Queue {
         Put { queue, full: true }
     }
 
-    pub fn replace(mut self, ch: Character) -> Self
+    fn replace(mut self, ch: Character) -> Queue
         ensures { λ r. ⌜ r ≡ replaced self ch ⌝ }
     {
         let held = (0 < self.count) & (self.count <= Queue::SLOTS);
@@ -174,7 +168,7 @@ impl Queue {
         self.slots[0]
     }
 
-    pub fn unmark(mut self) -> Self
+    pub fn unmark(mut self) -> Queue
         ensures { λ r. ⌜ r ≡ unmarked self ⌝ }
     {
         if self.count == 0 {

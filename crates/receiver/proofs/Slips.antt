@@ -6,7 +6,7 @@ use Rattle.base.specs.Pick.{pick}
 use Rattle.queue.specs.declared.Character.{Character}
 use Rattle.queue.specs.Queue.{room, entered, replaced, capacity, accepted, movedDown, taken}
 use Rattle.receiver.specs.declared.Receiver.{Receiver}
-use Rattle.receiver.specs.Receiver.{quiet, noneQueued, received, got, waited, turned, timeoutStands}
+use Rattle.receiver.specs.Receiver.{quiet, noneQueued, received, got, waited, afterModeChange, timeoutStands}
 use Rattle.receiver.specs.Waiting.{waits}
 
 abbrev ch : ℕ → ℕ → Character
@@ -22,8 +22,8 @@ unfolding pick room entered replaced capacity accepted received
 both-marks-kept = refl
 
 -- "A changed bit 0 empties both"
-changed-mode-empties : noneQueued (turned two) ≡ true
-unfolding pick room entered capacity accepted noneQueued received turned
+changed-mode-empties : noneQueued (afterModeChange two) ≡ true
+unfolding pick room entered capacity accepted noneQueued received afterModeChange
 changed-mode-empties = refl
 
 -- "RBR read takes the oldest character and sets the time-out count to 0."

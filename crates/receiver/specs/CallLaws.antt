@@ -20,7 +20,7 @@ use Rattle.queue.specs.QueueLaws.{holding, take-oldest, unmark-oldest, unmark-n
 use Rattle.queue.specs.AcceptLaws.{accept-room, accept-lost, accept-replaced, accept-cases}
 use Rattle.receiver.specs.declared.Receiver.{Receiver}
 use Rattle.receiver.specs.declared.Got.{Got}
-use Rattle.receiver.specs.Receiver.{quiet, noneQueued, received, got, shownMarks, someMarked, looked, cleared, turned, fcrHeard, restarted, dataStands}
+use Rattle.receiver.specs.Receiver.{quiet, noneQueued, received, got, shownMarks, someMarked, lsrSeen, cleared, afterModeChange, fcrHeard, restarted, dataStands}
 
 pub none-queued : (r : Receiver) → r .queue ≡ holding [] → noneQueued r ≡ true
 unfolding noneQueued
@@ -132,33 +132,33 @@ read-none r held = pick-true _ _ _ (none-queued r held)
 -- ---- LSR read
 
 -- FIFO mode: it shows the oldest character's marks and clears them; the others keep theirs, and the kept marks stay
-pub look-fifo : (r : Receiver) (ch : Character) (l : List Character) → r .queue ≡ holding (ch ∷ l)
+pub lsr-seen-fifo : (r : Receiver) (ch : Character) (l : List Character) → r .queue ≡ holding (ch ∷ l)
     → (shownMarks true r ≡ ch .marks)
-    × (looked true r ≡ record { queue = holding (plain ch ∷ l); overrun = false; kept = r .kept; timeout = r .timeout; last = r .last })
-unfolding shownMarks looked pick
-look-fifo r ch l held = (
+    × (lsrSeen true r ≡ record { queue = holding (plain ch ∷ l); overrun = false; kept = r .kept; timeout = r .timeout; last = r .last })
+unfolding shownMarks lsrSeen pick
+lsr-seen-fifo r ch l held = (
   ap (λ (q : Queue). oldest q .marks) held ∙ ap (λ (c : Character). c .marks) (oldest-is ch l),
   ap (λ (q : Queue). record { queue = q; overrun = false; kept = r .kept; timeout = r .timeout; last = r .last })
       (ap unmarked held ∙ unmark-oldest ch l),
 )
 
 -- FIFO mode with nothing queued: no marks, and only overrun is cleared
-pub look-fifo-none : (r : Receiver) → r .queue ≡ holding []
+pub lsr-seen-fifo-none : (r : Receiver) → r .queue ≡ holding []
     → (shownMarks true r ≡ 0)
-    × (looked true r ≡ record { queue = r .queue; overrun = false; kept = r .kept; timeout = r .timeout; last = r .last })
-unfolding shownMarks looked pick
-look-fifo-none r held = (
+    × (lsrSeen true r ≡ record { queue = r .queue; overrun = false; kept = r .kept; timeout = r .timeout; last = r .last })
+unfolding shownMarks lsrSeen pick
+lsr-seen-fifo-none r held = (
   ap (λ (q : Queue). oldest q .marks) held ∙ ap (λ (c : Character). c .marks) oldest-none,
   ap (λ (q : Queue). record { queue = q; overrun = false; kept = r .kept; timeout = r .timeout; last = r .last })
       (ap unmarked held ∙ unmark-none ∙ sym held),
 )
 
 -- 16450 mode: it shows the kept marks and clears them; the queue keeps all its marks
-pub look-16450 : (r : Receiver)
+pub lsr-seen-16450 : (r : Receiver)
     → (shownMarks false r ≡ r .kept)
-    × (looked false r ≡ record { queue = r .queue; overrun = false; kept = 0; timeout = r .timeout; last = r .last })
-unfolding shownMarks looked pick
-look-16450 r = (refl, refl)
+    × (lsrSeen false r ≡ record { queue = r .queue; overrun = false; kept = 0; timeout = r .timeout; last = r .last })
+unfolding shownMarks lsrSeen pick
+lsr-seen-16450 r = (refl, refl)
 
 -- ---- emptying, a changed mode, master reset: what each leaves alone
 
@@ -168,9 +168,9 @@ unfolding cleared
 clear-leaves r = refl
 
 -- overrun and the last byte read stay
-pub turn-leaves : (r : Receiver) → turned r ≡ record { queue = holding []; overrun = r .overrun; kept = 0; timeout = 0; last = r .last }
-unfolding turned
-turn-leaves r = refl
+pub mode-change-leaves : (r : Receiver) → afterModeChange r ≡ record { queue = holding []; overrun = r .overrun; kept = 0; timeout = 0; last = r .last }
+unfolding afterModeChange
+mode-change-leaves r = refl
 
 -- power-up, with the last byte read kept
 pub restart-leaves : (r : Receiver)
@@ -188,7 +188,7 @@ pub fcr-empties : (changed asked : Bool) (r : Receiver)
       timeout = pick (changed || asked) 0 (r .timeout);
       last = r .last;
     }
-unfolding pick cleared turned
+unfolding pick cleared afterModeChange
 fcr-empties true asked r = refl
 fcr-empties false true r = refl
 fcr-empties false false r = refl

@@ -18,7 +18,7 @@ use Rattle.queue.specs.MarkLaws.{unmark-clears}
 use Rattle.queue.specs.CanonicalLaws.{holds}
 use Rattle.receiver.specs.declared.Receiver.{Receiver}
 use Rattle.receiver.specs.declared.Got.{Got}
-use Rattle.receiver.specs.Receiver.{quiet, noneQueued, received, got, shownMarks, someMarked, looked, waited, cleared, turned, restarted}
+use Rattle.receiver.specs.Receiver.{quiet, noneQueued, received, got, shownMarks, someMarked, lsrSeen, waited, cleared, afterModeChange, restarted}
 use Rattle.receiver.specs.Receiver.{dataStands, timeoutStands}
 use Rattle.receiver.specs.CallLaws.{none-queued, arrive-fifo, arrive-fifo-full, read-oldest, read-none}
 use Rattle.receiver.specs.Waiting.{waits}
@@ -29,10 +29,10 @@ use Rattle.receiver.specs.SoundLaws.{parts}
 -- ---- LSR read
 
 -- "A read clears overrun, and the marks it showed, after answering." Of any receive side, in both modes: a second read shows neither
-pub look-again : (fifo : Bool) (r : Receiver) → (shownMarks fifo (looked fifo r) ≡ 0) × (looked fifo r .overrun ≡ false)
-unfolding shownMarks looked pick
-look-again true r = (unmark-clears (r .queue), refl)
-look-again false r = (refl, refl)
+pub lsr-read-again : (fifo : Bool) (r : Receiver) → (shownMarks fifo (lsrSeen fifo r) ≡ 0) × (lsrSeen fifo r .overrun ≡ false)
+unfolding shownMarks lsrSeen pick
+lsr-read-again true r = (unmark-clears (r .queue), refl)
+lsr-read-again false r = (refl, refl)
 
 -- ---- emptied, a changed mode, a master reset: nothing is queued and nothing is counted
 
@@ -72,14 +72,14 @@ unfolding cleared
 clear-bare r = bare (cleared r) refl refl
 
 -- "A changed bit 0 empties both and clears kept marks."
-pub turn-bare : (r : Receiver) → Bare (turned r)
-unfolding turned
-turn-bare r = bare (turned r) refl refl
+pub mode-change-bare : (r : Receiver) → Bare (afterModeChange r)
+unfolding afterModeChange
+mode-change-bare r = bare (afterModeChange r) refl refl
 
-pub turn-shows-none : (fifo : Bool) (r : Receiver) → shownMarks fifo (turned r) ≡ 0
-unfolding shownMarks turned pick
-turn-shows-none true r = ap (λ (c : Character). c .marks) oldest-none
-turn-shows-none false r = refl
+pub mode-change-shows-none : (fifo : Bool) (r : Receiver) → shownMarks fifo (afterModeChange r) ≡ 0
+unfolding shownMarks afterModeChange pick
+mode-change-shows-none true r = ap (λ (c : Character). c .marks) oldest-none
+mode-change-shows-none false r = refl
 
 -- "queues, shift register, overrun, marks, holding-empty flag and time-out count cleared"
 pub restart-bare : (r : Receiver) → Bare (restarted r)

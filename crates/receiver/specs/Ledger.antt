@@ -9,7 +9,7 @@ use Rattle.base.specs.Pick.{pick}
 use Rattle.queue.specs.declared.Character.{Character}
 use Rattle.queue.specs.Queue.{capacity, contents}
 use Rattle.receiver.specs.declared.Receiver.{Receiver}
-use Rattle.receiver.specs.Receiver.{quiet, noneQueued, received, got, looked, waited, cleared, turned, restarted}
+use Rattle.receiver.specs.Receiver.{quiet, noneQueued, received, got, lsrSeen, waited, cleared, afterModeChange, restarted}
 
 -- what can befall a receive side: a character arrives, RBR is read, LSR is read, a character time passes, the queue is emptied, the mode
 -- changes, a master reset
@@ -31,10 +31,10 @@ pub record Side : Type 0 where
 unfoldable pub after : Side → Moment → Side
 after s (arrives ch) = record { fifo = s .fifo; receiver = received (s .fifo) (s .receiver) ch }
 after s rbr = record { fifo = s .fifo; receiver = got (s .receiver) .receiver }
-after s lsr = record { fifo = s .fifo; receiver = looked (s .fifo) (s .receiver) }
+after s lsr = record { fifo = s .fifo; receiver = lsrSeen (s .fifo) (s .receiver) }
 after s passes = record { fifo = s .fifo; receiver = waited (s .fifo) (s .receiver) }
 after s empties = record { fifo = s .fifo; receiver = cleared (s .receiver) }
-after s changes = record { fifo = not (s .fifo); receiver = turned (s .receiver) }
+after s changes = record { fifo = not (s .fifo); receiver = afterModeChange (s .receiver) }
 after s resets = record { fifo = false; receiver = restarted (s .receiver) }
 
 -- the side after a run

@@ -17,7 +17,7 @@ use Rattle.queue.specs.QueueLaws.{holding, contents-of, unmark-oldest, unmark-n
 use Rattle.queue.specs.CanonicalLaws.{holds}
 use Rattle.queue.specs.AcceptLaws.{facts-of, accept-cases, kept-accepting}
 use Rattle.receiver.specs.declared.Got.{Got}
-use Rattle.receiver.specs.Receiver.{noneQueued, received, got, looked, waited, cleared, turned, restarted}
+use Rattle.receiver.specs.Receiver.{noneQueued, received, got, lsrSeen, waited, cleared, afterModeChange, restarted}
 use Rattle.receiver.specs.CallLaws.{none-queued, some-queued, read-oldest, read-none}
 use Rattle.receiver.specs.Sound.{soundReceiver}
 use Rattle.receiver.specs.SoundLaws.{parts, power-up-sound}
@@ -167,7 +167,7 @@ entry-drops s m l reads comes loses drops left =
     }
 
 entry : (s : Side) (m : Moment) (l : List Character) → length l ≤ capacity (s .fifo) → length l ≤ 16 → s .receiver .queue ≡ holding l → Entry s m l
-unfolding after looked waited cleared turned restarted
+unfolding after lsrSeen waited cleared afterModeChange restarted
 entry s (arrives ch) l within fits held = entry-arrives s l ch within held
 entry s rbr l within fits held = entry-rbr s l fits held
 entry s lsr l within fits held =
@@ -186,7 +186,7 @@ abbrev tidy : Side → Bool
 tidy s = canonical (capacity (s .fifo)) (s .receiver .queue)
 
 tidy-after : (s : Side) (m : Moment) → tidy s ≡ true → tidy (after s m) ≡ true
-unfolding after received got looked waited cleared turned restarted
+unfolding after received got lsrSeen waited cleared afterModeChange restarted
 tidy-after s (arrives ch) t = kept-accepting (s .fifo) (s .receiver .queue) ch t
 tidy-after s rbr t =
     pick-through (λ (g : Got). canonical (capacity (s .fifo)) (g .receiver .queue)) (noneQueued (s .receiver)) _ _

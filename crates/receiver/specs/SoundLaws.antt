@@ -21,7 +21,7 @@ use Rattle.queue.specs.CanonicalLaws.{Holds, holds}
 use Rattle.queue.specs.AcceptLaws.{facts-of, accept-cases, kept-accepting}
 use Rattle.receiver.specs.declared.Receiver.{Receiver}
 use Rattle.receiver.specs.declared.Got.{Got}
-use Rattle.receiver.specs.Receiver.{quiet, noneQueued, received, got, looked, waited, cleared, turned, restarted, timeoutStands}
+use Rattle.receiver.specs.Receiver.{quiet, noneQueued, received, got, lsrSeen, waited, cleared, afterModeChange, restarted, timeoutStands}
 use Rattle.receiver.specs.Sound.{marksWithin, countAllowed, soundReceiver}
 
 -- the five parts of soundness, each as a fact
@@ -83,9 +83,9 @@ unfolding cleared
 clear-sound before after r sound = empty-sound after (cleared r) refl refl (parts before r sound .kept)
 
 -- a changed mode and a master reset make any receive side sound, in both modes
-pub turn-sound : (fifo : Bool) (r : Receiver) → soundReceiver fifo (turned r) ≡ true
-unfolding turned
-turn-sound fifo r = empty-sound fifo (turned r) refl refl (omega arith)
+pub mode-change-sound : (fifo : Bool) (r : Receiver) → soundReceiver fifo (afterModeChange r) ≡ true
+unfolding afterModeChange
+mode-change-sound fifo r = empty-sound fifo (afterModeChange r) refl refl (omega arith)
 
 pub restart-sound : (fifo : Bool) (r : Receiver) → soundReceiver fifo (restarted r) ≡ true
 unfolding restarted
@@ -174,14 +174,14 @@ count-unmarked : (q : Queue) → unmarked q .count ≡ q .count
 unfolding unmarked
 count-unmarked q = pick-through (λ (p : Queue). p .count) (eqb (q .count) 0) _ _ ∙ pick-same (eqb (q .count) 0) (q .count)
 
-pub look-sound : (fifo : Bool) (r : Receiver) → soundReceiver fifo r ≡ true → soundReceiver fifo (looked fifo r) ≡ true
-unfolding looked pick countAllowed noneQueued
-look-sound true r sound =
+pub lsr-seen-sound : (fifo : Bool) (r : Receiver) → soundReceiver fifo r ≡ true → soundReceiver fifo (lsrSeen fifo r) ≡ true
+unfolding lsrSeen pick countAllowed noneQueued
+lsr-seen-sound true r sound =
     let s = parts true r sound in
     let h = holds (capacity true) (r .queue) (s .tidy) in
     let clean : marksWithin (contents (unmarked (r .queue))) ≡ true
     = ap (λ (q : Queue). marksWithin (contents (unmarked q))) (h .same) ∙ marks-unmarking (h .list) (marks-held true (r .queue) h (s .marks)) in
-    whole true (looked true r)
+    whole true (lsrSeen true r)
     (record {
       tidy = facts-of true .kept-unmarking (r .queue) (s .tidy);
       marks = clean;
@@ -189,9 +189,9 @@ look-sound true r sound =
       counted = s .counted;
       allowed = ap (λ (n : ℕ). eqb (r .timeout) 0 || (true && not (eqb n 0))) (count-unmarked (r .queue)) ∙ s .allowed;
     })
-look-sound false r sound =
+lsr-seen-sound false r sound =
     let s = parts false r sound in
-    whole false (looked false r) (record { tidy = s .tidy; marks = s .marks; kept = omega arith; counted = s .counted; allowed = s .allowed })
+    whole false (lsrSeen false r) (record { tidy = s .tidy; marks = s .marks; kept = omega arith; counted = s .counted; allowed = s .allowed })
 
 -- the same receive side at another time-out count
 abbrev atCount : Receiver → ℕ → Receiver

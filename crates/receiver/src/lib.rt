@@ -3,7 +3,7 @@
 use queue::Character;
 use queue::Queue;
 ghost use mathlib.Core.Path.{_≡_};
-ghost use Rattle.receiver.specs.Receiver.{quiet, noneQueued, received, got, shownMarks, someMarked, troubled, looked, waited, cleared, turned, fcrHeard, restarted, dataStands, timeoutStands};
+ghost use Rattle.receiver.specs.Receiver.{quiet, noneQueued, received, got, shownMarks, someMarked, troubled, lsrSeen, waited, cleared, afterModeChange, fcrHeard, restarted, dataStands, timeoutStands};
 
 #[repr(C)]
 pub struct Receiver {
@@ -23,7 +23,7 @@ impl Receiver {
     // A time-out stands once this many character times have passed over a waiting character.
     pub const TIMEOUT: u8 = 4;
 
-    pub fn power_up() -> Self
+    pub fn power_up() -> Receiver
         ensures { λ r. ⌜ r ≡ quiet ⌝ }
     {
         Receiver {
@@ -41,7 +41,7 @@ impl Receiver {
         self.queue.count == 0
     }
 
-    pub fn receive(mut self, fifo: bool, ch: Character) -> Self
+    pub fn receive(mut self, fifo: bool, ch: Character) -> Receiver
         ensures { λ r. ⌜ r ≡ received fifo self ch ⌝ }
     {
         let waiting = self.queue;
@@ -91,7 +91,10 @@ impl Receiver {
         ensures { λ r. ⌜ r ≡ troubled fifo self ⌝ }
     {
         let marks = self.marks(fifo);
-        self.overrun | base::bit(0, marks) | base::bit(1, marks) | base::bit(2, marks)
+        self.overrun
+            | base::bit(base::PARITY, marks)
+            | base::bit(base::FRAMING, marks)
+            | base::bit(base::BREAK, marks)
     }
 
     pub fn any_marked(self, fifo: bool) -> bool
@@ -104,8 +107,9 @@ impl Receiver {
         false
     }
 
-    pub fn look(mut self, fifo: bool) -> Self
-        ensures { λ r. ⌜ r ≡ looked fifo self ⌝ }
+    // The LSR is read: what it showed is cleared.
+    pub fn lsr_read(mut self, fifo: bool) -> Receiver
+        ensures { λ r. ⌜ r ≡ lsrSeen fifo self ⌝ }
     {
         self.overrun = false;
         if fifo {
@@ -118,7 +122,7 @@ impl Receiver {
         self
     }
 
-    pub fn wait(mut self, fifo: bool) -> Self
+    pub fn wait(mut self, fifo: bool) -> Receiver
         ensures { λ r. ⌜ r ≡ waited fifo self ⌝ }
     {
         let none = self.is_empty();
@@ -130,18 +134,16 @@ impl Receiver {
         self
     }
 
-    fn clear(mut self) -> Self
+    fn clear(mut self) -> Receiver
         ensures { λ r. ⌜ r ≡ cleared self ⌝ }
     {
-        let waiting = self.queue;
-        let none = waiting.emptied();
-        self.queue = none;
+        self.queue = Queue::empty();
         self.timeout = 0;
         self
     }
 
-    fn turn(self) -> Self
-        ensures { λ r. ⌜ r ≡ turned self ⌝ }
+    fn change_mode(self) -> Receiver
+        ensures { λ r. ⌜ r ≡ afterModeChange self ⌝ }
     {
         let mut next = self.clear();
         next.kept = 0;
@@ -149,11 +151,11 @@ impl Receiver {
     }
 
     // The FCR is written: its bit 0 changed, or it asks for an empty queue.
-    pub fn fcr_written(self, changed: bool, asked: bool) -> Self
+    pub fn fcr_written(self, changed: bool, asked: bool) -> Receiver
         ensures { λ r. ⌜ r ≡ fcrHeard changed asked self ⌝ }
     {
         if changed {
-            return self.turn();
+            return self.change_mode();
         }
         if asked {
             return self.clear();
@@ -161,10 +163,10 @@ impl Receiver {
         self
     }
 
-    pub fn restart(self) -> Self
+    pub fn restart(self) -> Receiver
         ensures { λ r. ⌜ r ≡ restarted self ⌝ }
     {
-        let mut next = self.turn();
+        let mut next = self.change_mode();
         next.overrun = false;
         next
     }

@@ -6,10 +6,11 @@ use lib.Dec.{ltb, leb, eqb}
 use Rattle.base.specs.Pick.{pick}
 use Rattle.base.specs.Refusals.{SeatAbove, KindAbove, Short, Ground, refusalBy, joined}
 use Rattle.registers.specs.declared.SeatEvent.the-variants.{Read, Write, Arrival, Levels, Time}
+use Rattle.records.specs.Kinds as kinds
 use Rattle.records.specs.declared.Event.{Event}
 use Rattle.records.specs.declared.Event.the-variants.{OfSeat, MasterReset, ReadController, WriteController, Acknowledge}
 use Rattle.records.specs.declared.Decoded.{Decoded}
-use Rattle.records.specs.declared.Decoded.the-variants.{Taken, Refused}
+use Rattle.records.specs.declared.Decoded.the-variants.{Taken, NoEvent}
 
 -- "An event is a four-byte record: kind, seat, number, value."; or a "record of 1 to 3 bytes at the end of input"
 pub data Record : Type 0 where
@@ -22,11 +23,12 @@ seatCount = 8
 
 -- "kind above 8"
 abbrev pub kindAbove : ℕ → Bool
-kindAbove kind = ltb 8 kind
+kindAbove kind = ltb kinds.Acknowledge kind
 
--- the kinds that use the seat: "read register", "write register", "character arrives", "modem inputs", "one character time passes"
+-- the kinds that use the seat, which stand before master reset: "read register", "write register", "character arrives", "modem inputs",
+-- "one character time passes"
 abbrev pub usesSeat : ℕ → Bool
-usesSeat kind = ltb kind 5
+usesSeat kind = ltb kind kinds.MasterReset
 
 -- "seat (or line) above 7": a number that no seat has
 abbrev pub seatAbove : ℕ → Bool
@@ -49,14 +51,14 @@ early r = refusalBy (earlyGrounds r)
 -- "6 read controller -, port the byte"; "7 write controller -, port, byte 000"; "8 acknowledge none the vector; 100 + vector if spurious"
 unfoldable pub eventOf : ℕ → ℕ → ℕ → ℕ → Event
 eventOf kind seat number value =
-    pick (eqb kind 0) (OfSeat seat (Read number))
-    (pick (eqb kind 1) (OfSeat seat (Write number value))
-    (pick (eqb kind 2) (OfSeat seat (Arrival number value))
-    (pick (eqb kind 3) (OfSeat seat (Levels value))
-    (pick (eqb kind 4) (OfSeat seat Time)
-    (pick (eqb kind 5) MasterReset
-    (pick (eqb kind 6) (ReadController number)
-    (pick (eqb kind 7) (WriteController number value)
+    pick (eqb kind kinds.ReadRegister) (OfSeat seat (Read number))
+    (pick (eqb kind kinds.WriteRegister) (OfSeat seat (Write number value))
+    (pick (eqb kind kinds.Arrival) (OfSeat seat (Arrival number value))
+    (pick (eqb kind kinds.ModemInputs) (OfSeat seat (Levels value))
+    (pick (eqb kind kinds.CharacterTime) (OfSeat seat Time)
+    (pick (eqb kind kinds.MasterReset) MasterReset
+    (pick (eqb kind kinds.ReadController) (ReadController number)
+    (pick (eqb kind kinds.WriteController) (WriteController number value)
     Acknowledge)))))))
 
 -- the event of a record; of a short one there is none, and the one named here is never asked for
@@ -66,12 +68,12 @@ event short = Acknowledge
 
 -- a record decoded: refused by itself, or taken as its event
 unfoldable pub decoded : Record → Decoded
-decoded r = joined (early r) (Taken (event r)) Refused
+decoded r = joined (early r) (Taken (event r)) NoEvent
 
 -- the number of the refusal, "0 for none"
 unfoldable pub refusedNumber : Decoded → ℕ
 refusedNumber (Taken e) = 0
-refusedNumber (Refused n) = n
+refusedNumber (NoEvent n) = n
 
 -- the seat that a record names; a short one names none, and the one given here stays as it is
 abbrev pub seatNamed : Record → ℕ
@@ -80,5 +82,5 @@ seatNamed short = 0
 
 -- a record that is a master reset
 abbrev pub resets : Record → Bool
-resets (whole kind seat number value) = eqb kind 5
+resets (whole kind seat number value) = eqb kind kinds.MasterReset
 resets short = false

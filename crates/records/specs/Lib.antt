@@ -1,3 +1,4 @@
+pub mod Kinds
 pub mod Events
 pub mod Uses
 pub mod Parts

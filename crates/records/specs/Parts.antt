@@ -18,7 +18,7 @@ use Rattle.records.specs.declared.Touched.{Touched}
 use Rattle.records.specs.declared.Event.{Event}
 use Rattle.records.specs.declared.Event.the-variants.{OfSeat, MasterReset, ReadController, WriteController, Acknowledge}
 use Rattle.records.specs.declared.Decoded.{Decoded}
-use Rattle.records.specs.declared.Decoded.the-variants.{Taken, Refused}
+use Rattle.records.specs.declared.Decoded.the-variants.{Taken, NoEvent}
 use Rattle.records.specs.Events.{Record, decoded}
 
 -- an event on the seat whose line is n
@@ -46,7 +46,7 @@ metParts s c Acknowledge = besides s (step c acknowledge)
 
 unfoldable pub dealtParts : Seat → Controller → Decoded → Touched
 dealtParts s c (Taken e) = metParts s c e
-dealtParts s c (Refused n) = record { seat = s; controller = c; answer = answer.Refused n }
+dealtParts s c (NoEvent n) = record { seat = s; controller = c; answer = answer.Refused n }
 
 -- a record on its two parts
 abbrev pub parted : Seat → Controller → Record → Touched

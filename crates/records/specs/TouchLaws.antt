@@ -8,7 +8,7 @@ use Rattle.base.specs.PickLaws.{pick-true, pick-false, pick-through}
 use Rattle.base.specs.Answers.{refusalOf}
 use Rattle.registers.specs.declared.SeatEvent.{SeatEvent}
 use Rattle.seat.specs.declared.Seat.{Seat}
-use Rattle.seat.specs.declared.Stepped.{Stepped}
+use Rattle.seat.specs.declared.Replied.{Replied}
 use Rattle.seat.specs.Seats.{line}
 use Rattle.seat.specs.Steps.{refusal, stepped}
 use Rattle.seat.specs.StepLaws.{step-taken, step-refused, step-number}
@@ -23,12 +23,12 @@ pub touched-seat : (s : Seat) (c : Controller) (n : ℕ) (e : SeatEvent) → tou
 unfolding touched stepped
 touched-seat s c n e =
     pick-through (λ (t : Touched). t .seat) (eqb (refusal s e) 0) _ _
-    ∙ sym (pick-through (λ (t : Stepped). t .seat) (eqb (refusal s e) 0) _ _)
+    ∙ sym (pick-through (λ (t : Replied). t .seat) (eqb (refusal s e) 0) _ _)
 
 -- what the seat's step gave, with its refusal read off the answer
-module _ (s : Seat) (c : Controller) (n : ℕ) (e : SeatEvent) (r : Stepped) (is : r ≡ stepped s e) where
+module _ (s : Seat) (c : Controller) (n : ℕ) (e : SeatEvent) (r : Replied) (is : r ≡ stepped s e) where
   number : refusalOf (r .answer) ≡ refusal s e
-  number = ap (λ (x : Stepped). refusalOf (x .answer)) is ∙ step-number s e
+  number = ap (λ (x : Replied). refusalOf (x .answer)) is ∙ step-number s e
 
   pub touched-taken : refusalOf (r .answer) ≡ 0
       → touched s c n e ≡ record { seat = r .seat; controller = settled c (withLine (c .lines .levels) n (line (r .seat))); answer = r .answer }
@@ -37,7 +37,7 @@ module _ (s : Seat) (c : Controller) (n : ℕ) (e : SeatEvent) (r : Stepped) (is
       let zero-number : eqb (refusal s e) 0 ≡ true = eq-eqb _ _ (sym number ∙ none) in
       pick-true _ _ _ zero-number
       ∙ ap {B = Touched}
-      (λ (x : Stepped). record { seat = x .seat; controller = settled c (withLine (c .lines .levels) n (line (x .seat))); answer = x .answer })
+      (λ (x : Replied). record { seat = x .seat; controller = settled c (withLine (c .lines .levels) n (line (x .seat))); answer = x .answer })
       (sym (is ∙ step-taken s e zero-number))
 
   pub touched-refused : (refusalOf (r .answer) ≡ 0 → ⊥) → touched s c n e ≡ record { seat = r .seat; controller = c; answer = r .answer }
@@ -45,4 +45,4 @@ module _ (s : Seat) (c : Controller) (n : ℕ) (e : SeatEvent) (r : Stepped) (is
   touched-refused some =
       let number-held : eqb (refusal s e) 0 ≡ false = ne-eqb _ _ (λ z. some (number ∙ z)) in
       pick-false _ _ _ number-held
-      ∙ ap {B = Touched} (λ (x : Stepped). record { seat = x .seat; controller = c; answer = x .answer }) (sym (is ∙ step-refused s e number-held))
+      ∙ ap {B = Touched} (λ (x : Replied). record { seat = x .seat; controller = c; answer = x .answer }) (sym (is ∙ step-refused s e number-held))

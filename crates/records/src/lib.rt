@@ -21,10 +21,31 @@ pub enum Event {
     Acknowledge,
 }
 
+// The kinds by name: document 01's numbers.
+impl Event {
+    pub const READ_REGISTER: u8 = 0;
+
+    pub const WRITE_REGISTER: u8 = 1;
+
+    pub const ARRIVAL: u8 = 2;
+
+    pub const MODEM_INPUTS: u8 = 3;
+
+    pub const CHARACTER_TIME: u8 = 4;
+
+    pub const MASTER_RESET: u8 = 5;
+
+    pub const READ_CONTROLLER: u8 = 6;
+
+    pub const WRITE_CONTROLLER: u8 = 7;
+
+    pub const ACKNOWLEDGE: u8 = 8;
+}
+
 // A record, decoded: its event, or the number of the refusal.
 pub enum Decoded {
     Taken(Event),
-    Refused(u8),
+    NoEvent(u8),
 }
 
 // A record works on these parts alone, but a master reset, which touches the other seats too.

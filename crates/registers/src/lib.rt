@@ -10,10 +10,9 @@ pub use modem::modem_status;
 ghost use mathlib.Core.Path.{_≡_};
 ghost use lib.Dec.{eqb};
 ghost use Rattle.base.specs.Bits.{bit};
-ghost use Rattle.registers.specs.Words.{trigger, cut, wireAnswer};
+ghost use Rattle.registers.specs.Words.{trigger, cut, wireAnswer, beyondWord, badArrival};
 ghost use Rattle.registers.specs.Registers.{plainRegister, registerAt, fcrKept, kept, shownBy, divisor};
 ghost use Rattle.registers.specs.Modem.{differ};
-ghost use Rattle.registers.specs.Words.{beyondWord, badArrival};
 
 #[repr(C)]
 pub struct Settings {
@@ -26,6 +25,7 @@ pub struct Settings {
     pub dlm: u8,
 }
 
+// A register by what it is; its number depends on LCR bit 7.
 pub enum Register {
     RbrThr,
     Ier,
@@ -48,6 +48,30 @@ pub enum SeatEvent {
     Time,
 }
 
+// "0 RBR/THR, 1 IER, 2 IIR read and FCR write, 3 LCR, 4 MCR, 5 LSR, 6 MSR, 7 scratch. With LCR bit 7 set, 0 and 1 are DLL and DLM"
+impl Register {
+    pub const RBR_THR: u8 = 0;
+
+    pub const IER: u8 = 1;
+
+    pub const IIR_FCR: u8 = 2;
+
+    pub const LCR: u8 = 3;
+
+    pub const MCR: u8 = 4;
+
+    pub const LSR: u8 = 5;
+
+    pub const MSR: u8 = 6;
+
+    pub const SCRATCH: u8 = 7;
+
+    pub const DLL: u8 = 0;
+
+    pub const DLM: u8 = 1;
+}
+
+// The bits of the registers that are settings.
 impl Settings {
     pub const IER_DATA: u8 = 0;
 
@@ -79,8 +103,7 @@ impl Settings {
 
     pub const MCR_LOOP: u8 = 4;
 
-    pub const MCR: u8 = 4;
-
+    // "bits 7-6 choose trigger 1, 4, 8 or 14"
     pub const TRIGGER_1: u8 = 1;
 
     pub const TRIGGER_4: u8 = 4;
@@ -118,13 +141,13 @@ impl Settings {
         ensures { λ r. ⌜ r ≡ plainRegister number ⌝ }
     {
         match number {
-            0 => Register::RbrThr,
-            1 => Register::Ier,
-            2 => Register::IirFcr,
-            3 => Register::Lcr,
-            4 => Register::Mcr,
-            5 => Register::Lsr,
-            6 => Register::Msr,
+            Register::RBR_THR => Register::RbrThr,
+            Register::IER => Register::Ier,
+            Register::IIR_FCR => Register::IirFcr,
+            Register::LCR => Register::Lcr,
+            Register::MCR => Register::Mcr,
+            Register::LSR => Register::Lsr,
+            Register::MSR => Register::Msr,
             _ => Register::Scratch,
         }
     }
@@ -134,10 +157,10 @@ impl Settings {
     {
         let shown = base::bit(Settings::LCR_DIVISOR, self.lcr);
         if shown {
-            if number == 0 {
+            if number == Register::DLL {
                 return Register::Dll;
             }
-            if number == 1 {
+            if number == Register::DLM {
                 return Register::Dlm;
             }
             return Settings::plain_register(number);
@@ -146,7 +169,7 @@ impl Settings {
     }
 
     // A byte is written: what the settings keep of it, whichever register it goes to.
-    pub fn write(mut self, register: Register, byte: u8) -> Self
+    pub fn write(mut self, register: Register, byte: u8) -> Settings
         ensures { λ r. ⌜ r ≡ kept self register byte ⌝ }
     {
         match register {
@@ -219,7 +242,7 @@ impl Settings {
         self.dll as u16 + 256 * self.dlm as u16 == 0
     }
 
-    pub fn cut(self, byte: u8) -> u8
+    fn cut(self, byte: u8) -> u8
         ensures { λ r. ⌜ r ≡ cut (self .lcr) byte ⌝ }
     {
         let length = self.lcr % 4;
@@ -260,9 +283,9 @@ impl Settings {
         ensures { λ r. ⌜ r ≡ badArrival (self .lcr) marks byte ⌝ }
     {
         let beyond = self.is_beyond_word(byte);
-        let parity = base::bit(0, marks);
+        let parity = base::bit(base::PARITY, marks);
         let asked = base::bit(Settings::LCR_PARITY, self.lcr);
-        let broken = base::bit(2, marks);
-        (7 < marks) | beyond | (parity & !asked) | (broken & !(byte == 0))
+        let broken = base::bit(base::BREAK, marks);
+        (base::ALL_MARKS < marks) | beyond | (parity & !asked) | (broken & !(byte == 0))
     }
 }

@@ -1,29 +1,32 @@
 // What a seat refuses, event by event, by the settings of its channel: the first number in document 01's order whose condition
 // holds, 0 for none.
+use crate::Register;
 use crate::SeatEvent;
 use crate::Settings;
+use crate::modem;
 use base::Answer;
 ghost use mathlib.Core.Path.{_≡_};
 ghost use Rattle.registers.specs.Refusals.{refusal};
 ghost use Rattle.registers.specs.declared.SeatEvent.the-variants.{Read, Write, Arrival, Levels, Time};
 
 impl Settings {
-    fn refuse_read(self, number: u8) -> u8
-        ensures { λ r. ⌜ r ≡ refusal self (Read number) ⌝ }
+    // Whatever the settings are: a read is refused for its number alone.
+    fn refuse_read(number: u8) -> u8
+        ensures { λ r. ⌜ ((settings : _) → r ≡ refusal settings (Read number)) ⌝ }
     {
-        if 7 < number {
+        if Register::SCRATCH < number {
             return Answer::NUMBER_ABOVE;
         }
         0
     }
 
-    fn refuse_write(self, number: u8, byte: u8) -> u8
-        ensures { λ r. ⌜ r ≡ refusal self (Write number byte) ⌝ }
+    fn refuse_write(number: u8, byte: u8) -> u8
+        ensures { λ r. ⌜ ((settings : _) → r ≡ refusal settings (Write number byte)) ⌝ }
     {
-        if 7 < number {
+        if Register::SCRATCH < number {
             return Answer::NUMBER_ABOVE;
         }
-        if (number == Settings::MCR) & base::bit(Settings::MCR_LOOP, byte) {
+        if (number == Register::MCR) & base::bit(Settings::MCR_LOOP, byte) {
             return Answer::NOT_SERVED;
         }
         0
@@ -41,10 +44,10 @@ impl Settings {
         0
     }
 
-    fn refuse_levels(self, levels: u8) -> u8
-        ensures { λ r. ⌜ r ≡ refusal self (Levels levels) ⌝ }
+    fn refuse_levels(levels: u8) -> u8
+        ensures { λ r. ⌜ ((settings : _) → r ≡ refusal settings (Levels levels)) ⌝ }
     {
-        if 15 < levels {
+        if modem::ALL_LEVELS < levels {
             return Answer::LEVELS_ABOVE;
         }
         0
@@ -63,10 +66,10 @@ impl Settings {
         ensures { λ r. ⌜ r ≡ refusal self e ⌝ }
     {
         match e {
-            SeatEvent::Read(number) => return self.refuse_read(number),
-            SeatEvent::Write(number, byte) => return self.refuse_write(number, byte),
+            SeatEvent::Read(number) => return Settings::refuse_read(number),
+            SeatEvent::Write(number, byte) => return Settings::refuse_write(number, byte),
             SeatEvent::Arrival(marks, byte) => return self.refuse_arrival(marks, byte),
-            SeatEvent::Levels(levels) => return self.refuse_levels(levels),
+            SeatEvent::Levels(levels) => return Settings::refuse_levels(levels),
             SeatEvent::Time => return self.refuse_time(),
         }
     }

@@ -10,7 +10,7 @@ use Rattle.channel.specs.Status as channel
 use Rattle.channel.specs.Steps as channel-step
 use Rattle.registers.specs.declared.SeatEvent.{SeatEvent}
 use Rattle.seat.specs.declared.Seat.{Seat}
-use Rattle.seat.specs.declared.Stepped.{Stepped}
+use Rattle.seat.specs.declared.Replied.{Replied}
 use Rattle.seat.specs.Seats.{reset, line}
 use Rattle.seat.specs.Steps.{stepped}
 use Rattle.seat.specs.StepLaws.{by-channel}
@@ -27,7 +27,7 @@ reset-silent s = and-false (not (eqb (channel.cause (masterReset (s .channel))) 
 
 -- a master reset of a seat is its channel's: whatever is asked of it afterwards is answered so
 pub reset-answers : (s : Seat) (e : SeatEvent) → stepped (reset s) e .answer ≡ channel-step.stepped (masterReset (s .channel)) e .answer
-reset-answers s e = ap (λ (t : Stepped). t .answer) (sym (by-channel (reset s) e))
+reset-answers s e = ap (λ (t : Replied). t .answer) (sym (by-channel (reset s) e))
 
 pub reset-by-channel : (s : Seat) → reset s .channel ≡ masterReset (s .channel)
 reset-by-channel s = refl

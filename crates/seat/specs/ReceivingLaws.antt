@@ -9,7 +9,7 @@ use Rattle.registers.specs.declared.SeatEvent.{SeatEvent}
 use Rattle.channel.specs.Moments.{toldIn}
 use Rattle.channel_laws.specs.MomentLaws as channel
 use Rattle.seat.specs.declared.Seat.{Seat}
-use Rattle.seat.specs.declared.Stepped.{Stepped}
+use Rattle.seat.specs.declared.Replied.{Replied}
 use Rattle.seat.specs.Seats.{powerUp, reset}
 use Rattle.seat.specs.Steps.{stepped}
 use Rattle.seat.specs.StepLaws.{by-channel}
@@ -18,7 +18,7 @@ use Rattle.seat.specs.Receiving.{side, momentsOf, befallsBy, befalling, 
 
 -- the side after an event is the side after the moments of the event
 pub step-side : (s : Seat) (e : SeatEvent) → side (stepped s e .seat) ≡ afterAll (side s) (momentsOf s e)
-step-side s e = ap (λ (t : Stepped). side (t .seat)) (sym (by-channel s e)) ∙ channel.step-side (s .channel) e
+step-side s e = ap (λ (t : Replied). side (t .seat)) (sym (by-channel s e)) ∙ channel.step-side (s .channel) e
 
 acted-side : (s : Seat) (a : Act) → side (acted s a) ≡ afterAll (side s) (befallsBy s a)
 acted-side s (event e) = step-side s e
@@ -35,7 +35,7 @@ acts-side s (a ∷ rest) =
 -- what the answer tells is what is read
 pub step-told : (s : Seat) (e : SeatEvent) → toldIn (side s) (stepped s e .answer) (momentsOf s e) ≡ readIn (side s) (momentsOf s e)
 step-told s e =
-    subst (λ (t : Stepped). toldIn (side s) (t .answer) (momentsOf s e) ≡ readIn (side s) (momentsOf s e)) (by-channel s e)
+    subst (λ (t : Replied). toldIn (side s) (t .answer) (momentsOf s e) ≡ readIn (side s) (momentsOf s e)) (by-channel s e)
     (channel.step-told (s .channel) e)
 
 -- ---- at power-up nothing is queued, and the side is sound

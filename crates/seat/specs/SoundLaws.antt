@@ -6,7 +6,7 @@ use Rattle.registers.specs.declared.SeatEvent.{SeatEvent}
 use Rattle.channel_laws.specs.SoundLaws as channel
 use Rattle.channel_laws.specs.SoundStepLaws as channel-step
 use Rattle.seat.specs.declared.Seat.{Seat}
-use Rattle.seat.specs.declared.Stepped.{Stepped}
+use Rattle.seat.specs.declared.Replied.{Replied}
 use Rattle.seat.specs.Seats.{powerUp, reset}
 use Rattle.seat.specs.Steps.{stepped}
 use Rattle.seat.specs.StepLaws.{by-channel}
@@ -18,7 +18,7 @@ power-up-sound = channel.power-up-sound
 
 pub step-sound : (s : Seat) (e : SeatEvent) → sound s ≡ true → sound (stepped s e .seat) ≡ true
 step-sound s e before =
-    ap (λ (t : Stepped). sound (t .seat)) (sym (by-channel s e)) ∙ channel-step.step-sound (s .channel) e before
+    ap (λ (t : Replied). sound (t .seat)) (sym (by-channel s e)) ∙ channel-step.step-sound (s .channel) e before
 
 pub reset-sound : (s : Seat) → sound s ≡ true → sound (reset s) ≡ true
 reset-sound s before = channel.reset-sound (s .channel) before

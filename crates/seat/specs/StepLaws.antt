@@ -16,7 +16,7 @@ use Rattle.channel.specs.declared.Stepped as channel
 use Rattle.channel.specs.Steps as channel-step
 use Rattle.channel.specs.StepLaws as channel-laws
 use Rattle.seat.specs.declared.Seat.{Seat}
-use Rattle.seat.specs.declared.Stepped.{Stepped}
+use Rattle.seat.specs.declared.Replied.{Replied}
 use Rattle.seat.specs.Seats.{withChannel}
 use Rattle.seat.specs.Steps.{grounds, refusal, effect, stepped}
 
@@ -25,7 +25,7 @@ pub in-turn : (s : Seat) (e : SeatEvent) → follows refusalOrder (grounds s e) 
 in-turn s e = registers-laws.in-turn (s .channel .settings) e
 
 -- the channel's step, with what stands beside the channel
-abbrev pub beside : Seat → channel.Stepped → Stepped
+abbrev pub beside : Seat → channel.Stepped → Replied
 beside s t = record { seat = withChannel s (t .channel); answer = t .answer }
 
 pub by-channel : (s : Seat) (e : SeatEvent) → beside s (channel-step.stepped (s .channel) e) ≡ stepped s e
@@ -51,6 +51,6 @@ unfolding refusalOf
 step-number s e =
     ⊎-elim
     (λ (none : eqb (refusal s e) 0 ≡ true).
-    ap (λ (t : Stepped). refusalOf (t .answer)) (step-taken s e none) ∙ effect-taken s e ∙ sym (eqb-true (refusal s e) 0 none))
-    (λ (some : eqb (refusal s e) 0 ≡ false). ap (λ (t : Stepped). refusalOf (t .answer)) (step-refused s e some))
+    ap (λ (t : Replied). refusalOf (t .answer)) (step-taken s e none) ∙ effect-taken s e ∙ sym (eqb-true (refusal s e) 0 none))
+    (λ (some : eqb (refusal s e) 0 ≡ false). ap (λ (t : Replied). refusalOf (t .answer)) (step-refused s e some))
     (either-way (eqb (refusal s e) 0))

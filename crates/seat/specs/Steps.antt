@@ -9,7 +9,7 @@ use Rattle.registers.specs.declared.SeatEvent.{SeatEvent}
 use Rattle.registers.specs.Refusals as registers
 use Rattle.channel.specs.Steps as channel
 use Rattle.seat.specs.declared.Seat.{Seat}
-use Rattle.seat.specs.declared.Stepped.{Stepped}
+use Rattle.seat.specs.declared.Replied.{Replied}
 use Rattle.seat.specs.Seats.{withChannel}
 
 -- the grounds of an event on a seat: its channel's
@@ -21,9 +21,9 @@ unfoldable pub refusal : Seat → SeatEvent → ℕ
 refusal s e = refusalBy (grounds s e)
 
 -- an accepted event is its channel's
-unfoldable pub effect : Seat → SeatEvent → Stepped
+unfoldable pub effect : Seat → SeatEvent → Replied
 effect s e = record { seat = withChannel s (channel.effect (s .channel) e .channel); answer = channel.effect (s .channel) e .answer }
 
 -- "The answer of every refusal is FFF and nothing changes."
-unfoldable pub stepped : Seat → SeatEvent → Stepped
+unfoldable pub stepped : Seat → SeatEvent → Replied
 stepped s e = pick (eqb (refusal s e) 0) (effect s e) (record { seat = s; answer = Refused (refusal s e) })

@@ -11,13 +11,14 @@ pub struct Seat {
     pub channel: Channel,
 }
 
-pub struct Stepped {
+// The seat after an event, and what the event was answered with.
+pub struct Replied {
     pub seat: Seat,
     pub answer: Answer,
 }
 
 impl Seat {
-    pub fn power_up() -> Self
+    pub fn power_up() -> Seat
         ensures { λ r. ⌜ r ≡ powerUp ⌝ }
     {
         Seat {
@@ -25,7 +26,7 @@ impl Seat {
         }
     }
 
-    pub fn reset(mut self) -> Self
+    pub fn reset(mut self) -> Seat
         ensures { λ r. ⌜ r ≡ reset self ⌝ }
     {
         self.channel = self.channel.master_reset();
@@ -39,14 +40,14 @@ impl Seat {
     }
 
     // The channel is lent to its step, which gives it back as it was where it refuses.
-    pub fn step(self, e: SeatEvent) -> Stepped
+    pub fn step(self, e: SeatEvent) -> Replied
         ensures { λ r. ⌜ r ≡ stepped self e ⌝ }
     {
         let held = self.channel;
         let stepped = lending::lent(held, e);
         let next = stepped.channel;
         let answer = stepped.answer;
-        Stepped {
+        Replied {
             seat: Seat { channel: next },
             answer,
         }

@@ -5,6 +5,7 @@ use transmitter::Transmitter;
 ghost use mathlib.Core.Path.{_≡_};
 ghost use Rattle.status.specs.Status.{lsrOf, causeOf, iirOf, lineOf};
 
+// What the IIR names: a cause, or that there is none.
 pub const LINE_TROUBLE: u8 = 0x06;
 
 pub const DATA: u8 = 0x04;
@@ -17,7 +18,8 @@ pub const MODEM: u8 = 0x00;
 
 pub const NO_CAUSE: u8 = 0x01;
 
-pub const FIFO_MARK: u8 = 0xC0;
+// "In FIFO mode C0 is added.": bits 7 and 6.
+pub const FIFO_BITS: u8 = 0xC0;
 
 pub fn lsr(fifo: bool, receiver: Receiver, transmitter: Transmitter) -> u8
     ensures { λ r. ⌜ r ≡ lsrOf fifo receiver transmitter ⌝ }
@@ -26,9 +28,9 @@ pub fn lsr(fifo: bool, receiver: Receiver, transmitter: Transmitter) -> u8
     base::byte_of(
         !receiver.is_empty(),
         receiver.overrun,
-        base::bit(0, marks),
-        base::bit(1, marks),
-        base::bit(2, marks),
+        base::bit(base::PARITY, marks),
+        base::bit(base::FRAMING, marks),
+        base::bit(base::BREAK, marks),
         transmitter.is_empty(),
         transmitter.is_idle(),
         receiver.any_marked(fifo),
@@ -36,7 +38,7 @@ pub fn lsr(fifo: bool, receiver: Receiver, transmitter: Transmitter) -> u8
 }
 
 // Of the MSR its bits 0 to 3 are asked, which are the changes that stand.
-pub fn cause(settings: Settings, receiver: Receiver, transmitter: Transmitter, changes: u8) -> u8
+fn cause(settings: Settings, receiver: Receiver, transmitter: Transmitter, changes: u8) -> u8
     ensures { λ r. ⌜ r ≡ causeOf settings receiver transmitter changes ⌝ }
 {
     let fifo = settings.is_fifo();
@@ -44,11 +46,10 @@ pub fn cause(settings: Settings, receiver: Receiver, transmitter: Transmitter, c
         return LINE_TROUBLE;
     }
     let data = base::bit(Settings::IER_DATA, settings.ier);
-    let late = receiver.timed_out();
     if data & receiver.data(fifo, settings.trigger()) {
         return DATA;
     }
-    if data & late {
+    if data & receiver.timed_out() {
         return TIME_OUT;
     }
     if base::bit(Settings::IER_HOLDING, settings.ier) & transmitter.flag {
@@ -64,7 +65,7 @@ pub fn iir(settings: Settings, receiver: Receiver, transmitter: Transmitter, cha
     ensures { λ r. ⌜ r ≡ iirOf settings receiver transmitter changes ⌝ }
 {
     let named = cause(settings, receiver, transmitter, changes);
-    named + base::pick_byte(settings.is_fifo(), FIFO_MARK, 0)
+    named + base::pick_byte(settings.is_fifo(), FIFO_BITS, 0)
 }
 
 pub fn line(settings: Settings, receiver: Receiver, transmitter: Transmitter, changes: u8) -> bool

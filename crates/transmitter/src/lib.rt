@@ -14,7 +14,7 @@ pub struct Transmitter {
 }
 
 impl Transmitter {
-    pub fn power_up() -> Self
+    pub fn power_up() -> Transmitter
         ensures { λ r. ⌜ r ≡ still ⌝ }
     {
         Transmitter {
@@ -38,7 +38,7 @@ impl Transmitter {
         empty & !self.busy
     }
 
-    fn set_flag_if(mut self, test: bool) -> Self
+    fn set_flag_if(mut self, test: bool) -> Transmitter
         ensures { λ r. ⌜ r ≡ flagSetIf test self ⌝ }
     {
         if test {
@@ -48,7 +48,7 @@ impl Transmitter {
         self
     }
 
-    fn clear_flag(mut self) -> Self
+    fn clear_flag(mut self) -> Transmitter
         ensures { λ r. ⌜ r ≡ flagCleared self ⌝ }
     {
         self.flag = false;
@@ -56,7 +56,7 @@ impl Transmitter {
     }
 
     // The IIR is read, and named the flag or did not.
-    pub fn iir_read(self, named: bool) -> Self
+    pub fn iir_read(self, named: bool) -> Transmitter
         ensures { λ r. ⌜ r ≡ iirSeen named self ⌝ }
     {
         if named {
@@ -65,7 +65,7 @@ impl Transmitter {
         self
     }
 
-    pub fn write(mut self, fifo: bool, byte: u8) -> Self
+    pub fn write(mut self, fifo: bool, byte: u8) -> Transmitter
         ensures { λ r. ⌜ r ≡ written fifo self byte ⌝ }
     {
         let waiting = self.queue;
@@ -82,18 +82,16 @@ impl Transmitter {
         self
     }
 
-    fn clear(mut self) -> Self
+    fn clear(mut self) -> Transmitter
         ensures { λ r. ⌜ r ≡ emptied self ⌝ }
     {
         let none = self.is_empty();
-        let waiting = self.queue;
-        let empty = waiting.emptied();
-        self.queue = empty;
+        self.queue = Queue::empty();
         self.set_flag_if(!none)
     }
 
     // The FCR is written, and empties the queue or does not.
-    pub fn fcr_written(self, asked: bool) -> Self
+    pub fn fcr_written(self, asked: bool) -> Transmitter
         ensures { λ r. ⌜ r ≡ fcrSent asked self ⌝ }
     {
         if asked {
@@ -102,7 +100,7 @@ impl Transmitter {
         self
     }
 
-    fn load(mut self) -> Self
+    fn load(mut self) -> Transmitter
         ensures { λ r. ⌜ r ≡ loaded self ⌝ }
     {
         let waiting = self.queue;
@@ -114,7 +112,7 @@ impl Transmitter {
         self
     }
 
-    fn next(self) -> Self
+    fn next(self) -> Transmitter
         ensures { λ r. ⌜ r ≡ next self ⌝ }
     {
         let none = self.is_empty();
@@ -126,7 +124,7 @@ impl Transmitter {
         moved.set_flag_if(last)
     }
 
-    pub fn shift(mut self) -> Self
+    pub fn shift(mut self) -> Transmitter
         ensures { λ r. ⌜ r ≡ shifted self ⌝ }
     {
         self.busy = false;
@@ -135,7 +133,7 @@ impl Transmitter {
     }
 
     // The IER is written, and turns its bit 1 on or does not.
-    pub fn ier_written(self, rise: bool) -> Self
+    pub fn ier_written(self, rise: bool) -> Transmitter
         ensures { λ r. ⌜ r ≡ ierSent rise self ⌝ }
     {
         if rise {

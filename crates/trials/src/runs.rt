@@ -2,7 +2,7 @@
 use base::Answer;
 use bench::Bench;
 use controller::Controller;
-use records::Decoded;
+use records::Event;
 use streams::Stream;
 
 // "for line 8 it is refusal 1 and answer FFF": one line more than there are.
@@ -37,7 +37,7 @@ pub(crate) fn digest(seed: u32, count: u64, set: u8, mut bench: Bench) -> u32 {
             record.number,
             record.value,
         );
-        if record.kind == Decoded::MASTER_RESET {
+        if record.kind == Event::MASTER_RESET {
             bench.seats = bench::reset_all(bench.seats);
         }
         let stood = touched.seat;

@@ -1,7 +1,7 @@
 use mathlib.Core.Path.{_≡_, refl, ap, sym, _∙_}
 use Rattle.base.specs.Pick.{pick}
 use Rattle.base.specs.Refusals.{firstOf, refusalBy}
-use Rattle.records.specs.declared.Decoded.the-variants.{Refused}
+use Rattle.records.specs.declared.Decoded.the-variants.{NoEvent}
 use Rattle.records.specs.Events.{short, early, decoded}
 use Rattle.bench.specs.Steps.{dealt}
 use Rattle.bench.specs.MeetLaws.{outcome-dealt}
@@ -11,7 +11,7 @@ use Rattle.bench.proofs.Bench.step_short.Tie as tie
 show-requires : tie.Need-show-requires
 show-requires c κs = tt
 
-decoded-short : decoded short ≡ Refused 4
+decoded-short : decoded short ≡ NoEvent 4
 unfolding decoded early refusalBy firstOf pick
 decoded-short = refl
 

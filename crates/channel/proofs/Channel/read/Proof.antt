@@ -36,13 +36,13 @@ returns c =
 enum-told-2 : tie.Need-enum-told-2
 enum-told-2 c = search needs
 
-read-iir-requires : tie.Need-read-iir-requires
-read-iir-requires c κs = search needs
+iir-read-requires : tie.Need-iir-read-requires
+iir-read-requires c κs = search needs
 
 returns-2 : tie.Need-returns-2
 unfolding effect
 returns-2 c =
-    c .read-iir .ensures
+    c .iir-read .ensures
     ∙ ap (readOf (c .before .before .before .before .args .self)) (sym (c .before .enum-told2 .given .1) ∙ c .before .before .before .register .ensures)
 
 enum-told-3 : tie.Need-enum-told-3
@@ -54,14 +54,14 @@ is-fifo-requires c κs = search needs
 lsr-requires : tie.Need-lsr-requires
 lsr-requires c κs = search needs
 
-look-requires : tie.Need-look-requires
-look-requires c κs = search needs
+lsr-read-requires : tie.Need-lsr-read-requires
+lsr-read-requires c κs = search needs
 
 returns-3 : tie.Need-returns-3
 unfolding effect afterRead byteAt lsrRead lsr
 returns-3 c =
     let self = c .before .before .before .before .before .before .args .self in
-    let shown : told (withReceiver self (c .look .result)) (c .before .lsr .result) ≡ readOf self Lsr = simp (← c .look .ensures, ← c .before .lsr .ensures, ← c .before .before .is-fifo .ensures) in
+    let shown : told (withReceiver self (c .lsr-read .result)) (c .before .lsr .result) ≡ readOf self Lsr = simp (← c .lsr-read .ensures, ← c .before .lsr .ensures, ← c .before .before .is-fifo .ensures) in
     shown
     ∙ ap (readOf self) (sym (c .before .before .before .enum-told3 .given .1) ∙ c .before .before .before .before .before .register .ensures)
 
@@ -114,12 +114,12 @@ read-spec =
     get-requires
     returns
     enum-told-2
-    read-iir-requires
+    iir-read-requires
     returns-2
     enum-told-3
     is-fifo-requires
     lsr-requires
-    look-requires
+    lsr-read-requires
     returns-3
     enum-told-4
     modem-status-requires

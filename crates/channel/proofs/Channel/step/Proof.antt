@@ -5,10 +5,6 @@ use borrow.Author.Tests.{eq-eqb, ne-eqb}
 use Rattle.registers.specs.declared.SeatEvent.{SeatEvent}
 use Rattle.registers.specs.Refusals.{refusal}
 use Rattle.channel.specs.declared.Channel.{Channel}
-use Rattle.base.specs.declared.Answer.the-variants.{Done}
-use Rattle.channel.specs.declared.Stepped.{Stepped}
-use Rattle.channel.specs.Parts.{withModem}
-use Rattle.channel.specs.Effects.{afterLevels}
 use Rattle.channel.specs.Steps.{effect, stepped}
 use Rattle.channel.specs.StepLaws.{step-taken}
 use borrow.Author.Needs.{needs}
@@ -37,51 +33,49 @@ returns c =
 enum-known-e-2 : tie.Need-enum-known-e-2
 enum-known-e-2 c = search needs
 
-write-requires : tie.Need-write-requires
-write-requires c κs = search needs
+written-requires : tie.Need-written-requires
+written-requires c κs = search needs
 
 returns-2 : tie.Need-returns-2
 returns-2 c =
     let a = c .before .before .before .before .before .before .args in
-    c .write .ensures ∙ ap (effect (a .self)) (sym (c .before .before .e2 .given .1))
+    c .written .ensures ∙ ap (effect (a .self)) (sym (c .before .before .e2 .given .1))
     ∙ done (a .self) (a .e) _ (c .before .before .before .before .before .refusal .ensures) (c .before .before .before .before .if1 .taken)
 
 enum-known-e-3 : tie.Need-enum-known-e-3
 enum-known-e-3 c = search needs
 
-arrive-requires : tie.Need-arrive-requires
-arrive-requires c κs = search needs
+arrived-requires : tie.Need-arrived-requires
+arrived-requires c κs = search needs
 
 returns-3 : tie.Need-returns-3
 returns-3 c =
     let a = c .before .before .before .before .before .before .args in
-    c .arrive .ensures ∙ ap (effect (a .self)) (sym (c .before .before .e3 .given .1))
+    c .arrived .ensures ∙ ap (effect (a .self)) (sym (c .before .before .e3 .given .1))
     ∙ done (a .self) (a .e) _ (c .before .before .before .before .before .refusal .ensures) (c .before .before .before .before .if1 .taken)
 
 enum-known-e-4 : tie.Need-enum-known-e-4
 enum-known-e-4 c = search needs
 
-changes-after-requires : tie.Need-changes-after-requires
-changes-after-requires c κs = search needs
+levels-given-requires : tie.Need-levels-given-requires
+levels-given-requires c κs = search needs
 
 returns-4 : tie.Need-returns-4
-unfolding effect afterLevels
 returns-4 c =
-    let a = c .before .before .before .before .before .before .before .before .args in
-    ap {B = Stepped} (λ (x : ℕ). record { channel = withModem (a .self) (record { levels = c .before .before .before .before .e4 .given .0 .0; changes = x }); answer = Done }) (c .before .before .changes-after .ensures)
-    ∙ ap (effect (a .self)) (sym (c .before .before .before .before .e4 .given .1))
-    ∙ done (a .self) (a .e) _ (c .before .before .before .before .before .before .before .refusal .ensures) (c .before .before .before .before .before .before .if1 .taken)
+    let a = c .before .before .before .before .before .before .args in
+    c .levels-given .ensures ∙ ap (effect (a .self)) (sym (c .before .before .e4 .given .1))
+    ∙ done (a .self) (a .e) _ (c .before .before .before .before .before .refusal .ensures) (c .before .before .before .before .if1 .taken)
 
 enum-told : tie.Need-enum-told
 enum-told c = search needs
 
-character-time-requires : tie.Need-character-time-requires
-character-time-requires c κs = search needs
+time-passed-requires : tie.Need-time-passed-requires
+time-passed-requires c κs = search needs
 
 returns-5 : tie.Need-returns-5
 returns-5 c =
     let a = c .before .before .before .before .before .args in
-    c .character-time .ensures ∙ ap (effect (a .self)) (sym (c .before .enum-told .given .1))
+    c .time-passed .ensures ∙ ap (effect (a .self)) (sym (c .before .enum-told .given .1))
     ∙ done (a .self) (a .e) _ (c .before .before .before .before .refusal .ensures) (c .before .before .before .if1 .taken)
 
 returns-6 : tie.Need-returns-6
@@ -97,15 +91,15 @@ step-spec =
     read-requires
     returns
     enum-known-e-2
-    write-requires
+    written-requires
     returns-2
     enum-known-e-3
-    arrive-requires
+    arrived-requires
     returns-3
     enum-known-e-4
-    changes-after-requires
+    levels-given-requires
     returns-4
     enum-told
-    character-time-requires
+    time-passed-requires
     returns-5
     returns-6)

@@ -4,12 +4,12 @@ use borrow.Author.Needs.{needs}
 use Rattle.receiver.proofs.Receiver.clear.Statement.{statement}
 use Rattle.receiver.proofs.Receiver.clear.Tie as tie
 
-emptied-requires : tie.Need-emptied-requires
-emptied-requires c κs = search needs
+empty-requires : tie.Need-empty-requires
+empty-requires c κs = search needs
 
 returns : tie.Need-returns
 unfolding cleared
-returns c = simp (← c .emptied .ensures, pick-true, pick-false)
+returns c = simp (← c .empty .ensures, pick-true, pick-false)
 
 pub clear-spec : {M : Type 1} → statement M
-clear-spec = tie.close (tie.spec emptied-requires returns)
+clear-spec = tie.close (tie.spec empty-requires returns)

@@ -3,11 +3,11 @@ use borrow.Author.Needs.{needs}
 use Rattle.receiver.proofs.Receiver.fcr_written.Statement.{statement}
 use Rattle.receiver.proofs.Receiver.fcr_written.Tie as tie
 
-turn-requires : tie.Need-turn-requires
-turn-requires c κs = search needs
+change-mode-requires : tie.Need-change-mode-requires
+change-mode-requires c κs = search needs
 
 returns : tie.Need-returns
-returns c = simp (← c .turn .ensures, c .before .if1 .taken, pick-true, pick-false)
+returns c = simp (← c .change-mode .ensures, c .before .if1 .taken, pick-true, pick-false)
 
 clear-requires : tie.Need-clear-requires
 clear-requires c κs = search needs
@@ -19,4 +19,4 @@ returns-3 : tie.Need-returns-3
 returns-3 c = simp (c .if2 .left, c .before .if1 .left, pick-true, pick-false)
 
 pub fcr-written-spec : {M : Type 1} → statement M
-fcr-written-spec = tie.close (tie.spec turn-requires returns clear-requires returns-2 returns-3)
+fcr-written-spec = tie.close (tie.spec change-mode-requires returns clear-requires returns-2 returns-3)

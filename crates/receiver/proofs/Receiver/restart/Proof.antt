@@ -1,14 +1,14 @@
-use Rattle.receiver.specs.Receiver.{turned, restarted}
+use Rattle.receiver.specs.Receiver.{afterModeChange, restarted}
 use borrow.Author.Needs.{needs}
 use Rattle.receiver.proofs.Receiver.restart.Statement.{statement}
 use Rattle.receiver.proofs.Receiver.restart.Tie as tie
 
-turn-requires : tie.Need-turn-requires
-turn-requires c κs = search needs
+change-mode-requires : tie.Need-change-mode-requires
+change-mode-requires c κs = search needs
 
 returns : tie.Need-returns
-unfolding turned restarted
-returns c = simp (c .turn .ensures)
+unfolding afterModeChange restarted
+returns c = simp (c .change-mode .ensures)
 
 pub restart-spec : {M : Type 1} → statement M
-restart-spec = tie.close (tie.spec turn-requires returns)
+restart-spec = tie.close (tie.spec change-mode-requires returns)

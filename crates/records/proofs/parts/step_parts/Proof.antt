@@ -8,7 +8,7 @@ use Rattle.controller.specs.declared.Controller.{Controller}
 use Rattle.seat.specs.declared.Seat.{Seat}
 use Rattle.records.specs.declared.Touched.{Touched}
 use Rattle.records.specs.declared.Decoded.{Decoded}
-use Rattle.records.specs.declared.Decoded.the-variants.{Taken, Refused}
+use Rattle.records.specs.declared.Decoded.the-variants.{Taken, NoEvent}
 use Rattle.records.specs.Events.{refusedNumber}
 use Rattle.records.specs.Parts.{dealtParts}
 use Rattle.records.proofs.Decoded.{the-type}
@@ -33,7 +33,7 @@ not-taken : (s : Seat) (c : Controller) (d : Decoded) → OneOf (1 ∷ []) (tagO
     → _≡_ {A = Touched} (record { seat = s; controller = c; answer = answer.Refused (refusedNumber d) }) (dealtParts s c d)
 unfolding dealtParts refusedNumber
 not-taken s c (Taken e) k = absurd (miss (1 ∷ []) 0 tt k)
-not-taken s c (Refused n) k = refl
+not-taken s c (NoEvent n) k = refl
 
 returns : tie.Need-returns
 returns c =

@@ -8,8 +8,8 @@ use Rattle.channel.specs.Status.{msr, iir}
 use Rattle.channel.specs.StatusLaws.{iir-cause}
 use Rattle.channel.specs.Effects.{iirRead, byteAt, afterRead, told}
 use borrow.Author.Needs.{needs}
-use Rattle.channel.proofs.Channel.read_iir.Statement.{statement}
-use Rattle.channel.proofs.Channel.read_iir.Tie as tie
+use Rattle.channel.proofs.Channel.iir_read.Statement.{statement}
+use Rattle.channel.proofs.Channel.iir_read.Tie as tie
 
 iir-requires : tie.Need-iir-requires
 iir-requires c κs = search needs
@@ -26,5 +26,5 @@ returns c =
     ∙ ap (λ (n : ℕ). told (withTransmitter self (iirSeen (eqb (n % 16) 0x02) (self .transmitter))) n) byte
     ∙ ap (λ (n : ℕ). told (withTransmitter self (iirSeen (eqb n 0x02) (self .transmitter))) (iir self)) (iir-cause self)
 
-pub read-iir-spec : {M : Type 1} → statement M
-read-iir-spec = tie.close (tie.spec iir-requires iir-read-requires returns)
+pub iir-read-spec : {M : Type 1} → statement M
+iir-read-spec = tie.close (tie.spec iir-requires iir-read-requires returns)

@@ -1,7 +1,7 @@
 use Rattle.channel.specs.Effects.{fcrWritten, fcrReceiver, fcrTransmitter, modeChanged}
 use borrow.Author.Needs.{needs}
-use Rattle.channel.proofs.Channel.write_fcr.Statement.{statement}
-use Rattle.channel.proofs.Channel.write_fcr.Tie as tie
+use Rattle.channel.proofs.Channel.fcr_written.Statement.{statement}
+use Rattle.channel.proofs.Channel.fcr_written.Tie as tie
 
 changes-mode-requires : tie.Need-changes-mode-requires
 changes-mode-requires c κs = search needs
@@ -28,8 +28,8 @@ returns : tie.Need-returns
 unfolding fcrWritten fcrReceiver fcrTransmitter modeChanged
 returns c = simp (c .write .ensures, c .before .fcr-written2 .ensures, c .before .before .fcr-written .ensures, c .before .before .before .bit3 .ensures, c .before .before .before .before .bit2 .ensures, c .before .before .before .before .before .bit .ensures, c .before .before .before .before .before .before .changes-mode .ensures)
 
-pub write-fcr-spec : {M : Type 1} → statement M
-write-fcr-spec =
+pub fcr-written-spec : {M : Type 1} → statement M
+fcr-written-spec =
     tie.close
     (tie.spec
     changes-mode-requires

@@ -16,8 +16,8 @@ use Rattle.channel.specs.Parts.{withSettings, withTransmitter}
 use Rattle.channel.specs.Effects.{ierWritten, afterWrite}
 use Rattle.channel.specs.Steps.{effect}
 use borrow.Author.Needs.{needs}
-use Rattle.channel.proofs.Channel.write.Statement.{statement}
-use Rattle.channel.proofs.Channel.write.Tie as tie
+use Rattle.channel.proofs.Channel.written.Statement.{statement}
+use Rattle.channel.proofs.Channel.written.Tie as tie
 
 -- a channel, answered 000
 abbrev done : Channel → Stepped
@@ -68,14 +68,14 @@ returns-2 c =
 enum-told-3 : tie.Need-enum-told-3
 enum-told-3 c = search needs
 
-write-fcr-requires : tie.Need-write-fcr-requires
-write-fcr-requires c κs = search needs
+fcr-written-requires : tie.Need-fcr-written-requires
+fcr-written-requires c κs = search needs
 
 returns-3 : tie.Need-returns-3
 unfolding effect afterWrite
 returns-3 c =
     let a = c .before .before .before .before .args in
-    ap done (c .write-fcr .ensures)
+    ap done (c .fcr-written .ensures)
     ∙ ap (λ (r : Register). done (afterWrite (a .self) r (a .byte))) (sym (c .before .enum-told3 .given .1) ∙ c .before .before .before .register .ensures)
 
 write-requires-3 : tie.Need-write-requires-3
@@ -106,8 +106,8 @@ returns-4 c =
     ∙ ap done (others (a .self) (c .before .before .register .result) (a .byte) (c .before .match .keys4))
     ∙ ap (λ (r : Register). done (afterWrite (a .self) r (a .byte))) (c .before .before .register .ensures)
 
-pub write-spec : {M : Type 1} → statement M
-write-spec =
+pub written-spec : {M : Type 1} → statement M
+written-spec =
     tie.close
     (tie.spec
     register-requires
@@ -122,7 +122,7 @@ write-spec =
     ier-written-requires
     returns-2
     enum-told-3
-    write-fcr-requires
+    fcr-written-requires
     returns-3
     write-requires-3
     returns-4)

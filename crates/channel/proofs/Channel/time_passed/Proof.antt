@@ -2,8 +2,8 @@ use Rattle.channel.specs.Effects.{afterTime, timeAnswer}
 use Rattle.channel.specs.Steps.{effect}
 use Rattle.base.specs.PickLaws.{pick-true, pick-false}
 use borrow.Author.Needs.{needs}
-use Rattle.channel.proofs.Channel.character_time.Statement.{statement}
-use Rattle.channel.proofs.Channel.character_time.Tie as tie
+use Rattle.channel.proofs.Channel.time_passed.Statement.{statement}
+use Rattle.channel.proofs.Channel.time_passed.Tie as tie
 
 wire-answer-requires : tie.Need-wire-answer-requires
 wire-answer-requires c κs = search needs
@@ -21,6 +21,6 @@ returns : tie.Need-returns
 unfolding effect afterTime timeAnswer
 returns c = simp (← c .wait .ensures, ← c .before .is-fifo .ensures, ← c .before .before .shift .ensures, ← c .before .before .before .wire-answer .ensures, pick-true, pick-false)
 
-pub character-time-spec : {M : Type 1} → statement M
-character-time-spec =
+pub time-passed-spec : {M : Type 1} → statement M
+time-passed-spec =
     tie.close (tie.spec wire-answer-requires shift-requires is-fifo-requires wait-requires returns)

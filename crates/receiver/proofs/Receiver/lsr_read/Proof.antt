@@ -1,19 +1,19 @@
 use Rattle.base.specs.PickLaws.{pick-true, pick-false}
-use Rattle.receiver.specs.Receiver.{looked}
+use Rattle.receiver.specs.Receiver.{lsrSeen}
 use borrow.Author.Needs.{needs}
-use Rattle.receiver.proofs.Receiver.look.Statement.{statement}
-use Rattle.receiver.proofs.Receiver.look.Tie as tie
+use Rattle.receiver.proofs.Receiver.lsr_read.Statement.{statement}
+use Rattle.receiver.proofs.Receiver.lsr_read.Tie as tie
 
 unmark-requires : tie.Need-unmark-requires
 unmark-requires c κs = search needs
 
 returns : tie.Need-returns
-unfolding looked
+unfolding lsrSeen
 returns c = simp (← c .unmark .ensures, c .before .before .if1 .taken, pick-true, pick-false)
 
 returns-2 : tie.Need-returns-2
-unfolding looked
+unfolding lsrSeen
 returns-2 c = simp (c .if1 .left, pick-true, pick-false)
 
-pub look-spec : {M : Type 1} → statement M
-look-spec = tie.close (tie.spec unmark-requires returns returns-2)
+pub lsr-read-spec : {M : Type 1} → statement M
+lsr-read-spec = tie.close (tie.spec unmark-requires returns returns-2)
