@@ -127,7 +127,6 @@ seat-once M =
 pub rank-once : (M : Type 1) → RankOnce M
 rank-once M =
     record {
-      rank·has = value _ refl (λ κ a v w. refl);
       rank·only = value _ refl (λ κ a v w. refl);
       rank·without = value _ refl (λ κ a v w. refl);
       rank·with-line = value _ refl (λ κ a v w. refl);

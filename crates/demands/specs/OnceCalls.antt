@@ -132,7 +132,6 @@ pub record SeatOnce (M : Type 1) : Type 2 where
 -- ---- rank: sets and places of lines
 
 pub record RankOnce (M : Type 1) : Type 2 where
-  pub rank·has : Once M rank.has.ended rank.has.clauses rank.has.spec
   pub rank·only : Once M rank.only.ended rank.only.clauses rank.only.spec
   pub rank·without : Once M rank.without.ended rank.without.clauses rank.without.spec
   pub rank·with-line : Once M rank.with_line.ended rank.with_line.clauses rank.with_line.spec
