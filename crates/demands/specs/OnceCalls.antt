@@ -173,9 +173,10 @@ pub record BenchOnce (M : Type 1) : Type 2 where
   pub bench·Bench·place : Once M bench.Bench.place.ended bench.Bench.place.clauses bench.Bench.place.spec
   pub bench·Bench·output : Once M bench.Bench.output.ended bench.Bench.output.clauses bench.Bench.output.spec
 
--- ---- text and listing: a line and a run, each with the buffer that is lent back
+-- ---- text and listing: a digit; a line and a run, each with the buffer that is lent back
 
 pub record ListingOnce (M : Type 1) : Type 2 where
+  pub text·capital : Once M text.capital.ended text.capital.clauses text.capital.spec
   pub text·put-front : Once M text.put_front.ended text.put_front.clauses text.put_front.spec
   pub text·put-after : Once M text.put_after.ended text.put_after.clauses text.put_after.spec
   pub listing·run : Once M listing.run.ended listing.run.clauses listing.run.spec
