@@ -69,16 +69,16 @@ fn run_list() {
 }
 
 fn run_asked(words: usize) {
-    let Number::Whole(seed) = numbers::argument(1) else {
+    let Number::Whole(seed) = numbers::argument(1, words) else {
         return usage();
     };
-    let Number::Whole(count) = numbers::argument(2) else {
+    let Number::Whole(count) = numbers::argument(2, words) else {
         return usage();
     };
-    let Number::Whole(set) = numbers::optional(3, words) else {
+    let Number::Whole(set) = numbers::argument(3, words) else {
         return usage();
     };
-    let Number::Whole(start) = numbers::optional(4, words) else {
+    let Number::Whole(start) = numbers::argument(4, words) else {
         return usage();
     };
     run(seed, count, set, start);
