@@ -13,7 +13,7 @@ unsigned bench_output(const struct bench *bench)
 struct outcome bench_place(const struct bench *bench, unsigned line)
 {
     if (line >= LINES)
-        return refused(REFUSAL_SEAT);
+        return refused(REFUSAL_SEAT_ABOVE);
     return accepted(controller_place(&bench->controller, line));
 }
 
@@ -34,13 +34,13 @@ static enum refusal refusal_by_numbers(struct event event)
     bool uses_register = event.kind <= KIND_WRITE_REGISTER;
     bool uses_port = event.kind == KIND_READ_CONTROLLER || event.kind == KIND_WRITE_CONTROLLER;
     if (event.kind > KIND_ACKNOWLEDGE)
-        return REFUSAL_KIND;
+        return REFUSAL_KIND_ABOVE;
     if (uses_seat && event.seat >= SEATS)
-        return REFUSAL_SEAT;
+        return REFUSAL_SEAT_ABOVE;
     if (uses_register && event.number > 7)
-        return REFUSAL_REGISTER;
+        return REFUSAL_NUMBER_ABOVE;
     if (uses_port && event.number > 1)
-        return REFUSAL_REGISTER;
+        return REFUSAL_NUMBER_ABOVE;
     return REFUSAL_NONE;
 }
 

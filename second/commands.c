@@ -13,7 +13,7 @@ static struct outcome write_icw1(struct controller *controller, unsigned byte)
 {
     /* "not served: ICW1 with bit 0 or bit 1 clear" */
     if ((byte & ICW1_SERVED) != ICW1_SERVED)
-        return refused(REFUSAL_UNSERVED);
+        return refused(REFUSAL_NOT_SERVED);
     /* "it clears edge latches, mask, in-service, special mask, automatic end
        and its rotation, selects the request register for port 0, ranks line 0
        first, takes bit 3 as level mode and makes the controller not ready".
@@ -32,7 +32,7 @@ static struct outcome write_icw4(struct controller *controller, unsigned byte)
 {
     /* "not served: .. ICW4 with bit 0 clear" */
     if ((byte & ICW4_SERVED) == 0)
-        return refused(REFUSAL_UNSERVED);
+        return refused(REFUSAL_NOT_SERVED);
     controller->automatic_end = (byte & ICW4_AUTOMATIC_END) != 0;
     controller->stage = STAGE_READY;
     return accepted(0);
@@ -76,7 +76,7 @@ static struct outcome write_ocw3(struct controller *controller, unsigned byte)
 {
     /* "not served: .. OCW3 with bit 2 set" */
     if ((byte & OCW3_POLL) != 0)
-        return refused(REFUSAL_UNSERVED);
+        return refused(REFUSAL_NOT_SERVED);
     /* "bits 6-5 11 special mask on, 10 off" */
     if ((byte & 0x60U) == 0x60U)
         controller->special_mask = true;

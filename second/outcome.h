@@ -6,16 +6,16 @@
 
 enum refusal {
     REFUSAL_NONE = 0,
-    REFUSAL_SEAT = 1,      /* "seat (or line) above 7" */
-    REFUSAL_REGISTER = 2,  /* "register above 7, port above 1" */
-    REFUSAL_KIND = 3,      /* "kind above 8" */
-    REFUSAL_SHORT = 4,     /* "record of 1 to 3 bytes at the end of input" */
-    REFUSAL_DIVISOR = 5,   /* "arrival or character time while the divisor is 0" */
-    REFUSAL_ARRIVAL = 6,   /* "arrival: marks above 7; data not within the word length; .." */
-    REFUSAL_LEVELS = 7,    /* "modem levels above 15" */
-    REFUSAL_NOT_READY = 8, /* "controller not ready: .." */
-    REFUSAL_UNSERVED = 9,  /* "not served: .." */
-    REFUSAL_RATE = 10      /* "rate or clock not in the divisor list" */
+    REFUSAL_SEAT_ABOVE = 1,   /* "seat (or line) above 7" */
+    REFUSAL_NUMBER_ABOVE = 2, /* "register above 7, port above 1" */
+    REFUSAL_KIND_ABOVE = 3,   /* "kind above 8" */
+    REFUSAL_SHORT = 4,        /* "record of 1 to 3 bytes at the end of input" */
+    REFUSAL_NO_DIVISOR = 5,   /* "arrival or character time while the divisor is 0" */
+    REFUSAL_BAD_ARRIVAL = 6,  /* "arrival: marks above 7; data not within the word length; .." */
+    REFUSAL_LEVELS_ABOVE = 7, /* "modem levels above 15" */
+    REFUSAL_NOT_READY = 8,    /* "controller not ready: .." */
+    REFUSAL_NOT_SERVED = 9,   /* "not served: .." */
+    REFUSAL_NOT_LISTED = 10   /* "rate or clock not in the divisor list" */
 };
 
 struct outcome {

@@ -63,7 +63,7 @@ static unsigned nearest_divisor(unsigned clock, uint32_t rate, bool *tie)
 
 static void print_pair(uint32_t rate, unsigned clock, bool *tie)
 {
-    struct outcome outcome = refused(REFUSAL_RATE);
+    struct outcome outcome = refused(REFUSAL_NOT_LISTED);
     if (is_listed(clock, rate))
         outcome = accepted(nearest_divisor(clock, rate, tie));
     printf("%u %" PRIu32 " %u %03X\n", clock, rate, (unsigned)outcome.refusal, outcome.answer);

@@ -56,7 +56,7 @@ struct outcome channel_read(struct channel *channel, unsigned number)
     case 5: return accepted(read_lsr(channel));
     case 6: return accepted(read_msr(channel));
     case 7: return accepted(channel->scratch);
-    default: return refused(REFUSAL_REGISTER);
+    default: return refused(REFUSAL_NUMBER_ABOVE);
     }
 }
 
@@ -120,7 +120,7 @@ static struct outcome write_mcr(struct channel *channel, unsigned byte)
 {
     /* "not served: .. MCR write with bit 4 set" */
     if ((byte & MCR_LOOP) != 0)
-        return refused(REFUSAL_UNSERVED);
+        return refused(REFUSAL_NOT_SERVED);
     /* "MCR its low 5" */
     channel->mcr = byte & 0x1FU;
     return accepted(0);
@@ -152,6 +152,6 @@ struct outcome channel_write(struct channel *channel, unsigned number, unsigned 
     case 5:
     case 6: return accepted(0);
     case 7: channel->scratch = byte; return accepted(0);
-    default: return refused(REFUSAL_REGISTER);
+    default: return refused(REFUSAL_NUMBER_ABOVE);
     }
 }

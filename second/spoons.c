@@ -9,8 +9,9 @@
 #include "output.h"
 
 /* A step is an event, how often it is given, its answer and the output after
-   it; or a look at a line's place in turn. ANY stands for an answer or output
-   that document 01 does not name, REFUSED_BY(n) for refusal n with its FFF. */
+   it; or a question for a line's place in turn. ANY stands for an answer or
+   output that document 01 does not name, REFUSED_BY(n) for refusal n with its
+   FFF. */
 #define ANY 0x8000U
 #define REFUSED_BY(refusal) (0xF000U + (refusal))
 #define PLACE 0x10U

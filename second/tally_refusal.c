@@ -40,24 +40,24 @@ void tally_refusal(struct tally *tally, const struct moment *moment)
 {
     enum refusal refusal = moment->outcome.refusal;
     struct event event = moment->event;
-    bool of_register = refusal == REFUSAL_REGISTER && event.kind <= KIND_WRITE_REGISTER;
-    bool of_port = refusal == REFUSAL_REGISTER && event.kind > KIND_WRITE_REGISTER;
-    bool of_divisor = refusal == REFUSAL_DIVISOR;
-    tally_if(tally, refusal == REFUSAL_SEAT, TALLY_REFUSED_1);
-    tally_if(tally, refusal == REFUSAL_SEAT && event.seat == 8, TALLY_EDGE_SEAT_8);
+    bool of_register = refusal == REFUSAL_NUMBER_ABOVE && event.kind <= KIND_WRITE_REGISTER;
+    bool of_port = refusal == REFUSAL_NUMBER_ABOVE && event.kind > KIND_WRITE_REGISTER;
+    bool of_divisor = refusal == REFUSAL_NO_DIVISOR;
+    tally_if(tally, refusal == REFUSAL_SEAT_ABOVE, TALLY_REFUSED_1);
+    tally_if(tally, refusal == REFUSAL_SEAT_ABOVE && event.seat == 8, TALLY_EDGE_SEAT_8);
     tally_if(tally, of_register, TALLY_REFUSED_2_REGISTER);
     tally_if(tally, of_register && event.number == 8, TALLY_EDGE_REGISTER_8);
     tally_if(tally, of_port, TALLY_REFUSED_2_PORT);
     tally_if(tally, of_port && event.number == 2, TALLY_EDGE_PORT_2);
-    tally_if(tally, refusal == REFUSAL_KIND, TALLY_REFUSED_3);
+    tally_if(tally, refusal == REFUSAL_KIND_ABOVE, TALLY_REFUSED_3);
     tally_if(tally, of_divisor && event.kind == KIND_ARRIVAL, TALLY_REFUSED_5_ARRIVAL);
     tally_if(tally, of_divisor && event.kind == KIND_CHARACTER_TIME, TALLY_REFUSED_5_TIME);
-    tally_if(tally, refusal == REFUSAL_LEVELS, TALLY_REFUSED_7);
-    tally_if(tally, refusal == REFUSAL_LEVELS && event.value == 16, TALLY_EDGE_LEVELS_16);
-    if (refusal == REFUSAL_ARRIVAL)
+    tally_if(tally, refusal == REFUSAL_LEVELS_ABOVE, TALLY_REFUSED_7);
+    tally_if(tally, refusal == REFUSAL_LEVELS_ABOVE && event.value == 16, TALLY_EDGE_LEVELS_16);
+    if (refusal == REFUSAL_BAD_ARRIVAL)
         tally_arrival(tally, moment);
     if (refusal == REFUSAL_NOT_READY)
         tally_not_ready(tally, moment);
-    if (refusal == REFUSAL_UNSERVED)
+    if (refusal == REFUSAL_NOT_SERVED)
         tally_unserved(tally, moment);
 }

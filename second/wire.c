@@ -18,9 +18,9 @@ static bool arrival_is_sound(const struct channel *channel, struct character cha
 struct outcome channel_arrival(struct channel *channel, struct character character)
 {
     if (channel_divisor_is_zero(channel))
-        return refused(REFUSAL_DIVISOR);
+        return refused(REFUSAL_NO_DIVISOR);
     if (!arrival_is_sound(channel, character))
-        return refused(REFUSAL_ARRIVAL);
+        return refused(REFUSAL_BAD_ARRIVAL);
 
     bool fifo = channel_in_fifo_mode(channel);
     bool full = channel->receive.count == channel_places(channel);
@@ -41,7 +41,7 @@ struct outcome channel_arrival(struct channel *channel, struct character charact
 struct outcome channel_modem_inputs(struct channel *channel, unsigned levels)
 {
     if (levels > 15)
-        return refused(REFUSAL_LEVELS);
+        return refused(REFUSAL_LEVELS_ABOVE);
     unsigned changed = channel->modem_levels ^ levels;
     /* "bits 0, 1, 3 set when CTS, DSR, DCD change; bit 2 when RI goes from
        active to inactive" */
@@ -76,7 +76,7 @@ static void move_oldest_in(struct channel *channel)
 struct outcome channel_character_time(struct channel *channel)
 {
     if (channel_divisor_is_zero(channel))
-        return refused(REFUSAL_DIVISOR);
+        return refused(REFUSAL_NO_DIVISOR);
     unsigned sent = let_character_leave(channel);
     move_oldest_in(channel);
     /* "in FIFO mode with a character in the receive queue the time-out count

@@ -5,7 +5,7 @@ use mathlib.Core.Path.{_≡_, refl, ap, sym, _∙_}
 use Rattle.base.specs.Pick.{pick}
 use Rattle.base.specs.Refusals.{firstOf, refusalBy}
 use Rattle.base.specs.declared.Answer.the-variants.{Vector, Spurious}
-use Rattle.controller.specs.declared.Stepped as controller
+use Rattle.controller.specs.declared.Signalled as controller
 use Rattle.controller.specs.State.{ready}
 use Rattle.controller.specs.Turns.{outputOf, grant, vector}
 use Rattle.controller.specs.OutputLaws.{output-high, output-low}
@@ -33,11 +33,11 @@ module _ (b : Bench) (s n v : ℕ) where
       outcome b (whole 8 s n v) ≡ shown (withController b (grant (b .controller) (m .line))) (Vector (vector (b .controller .setup) (m .line))))
   output-1 high =
       acknowledged ∙ sym (acknowledge-met b)
-      ∙ ap (λ (t : controller.Stepped). shown (withController b (t .controller)) (t .answer)) (output-high (b .controller) high .names)
+      ∙ ap (λ (t : controller.Signalled). shown (withController b (t .controller)) (t .answer)) (output-high (b .controller) high .names)
 
   -- ready and output 0: 1xx comes, and an equal bench
   pub output-0 : ready (b .controller .setup) ≡ true → outputOf (b .controller) ≡ false
       → outcome b (whole 8 s n v) ≡ shown b (Spurious (vector (b .controller .setup) 7))
   output-0 up low =
       acknowledged ∙ sym (acknowledge-met b)
-      ∙ ap (λ (t : controller.Stepped). shown (withController b (t .controller)) (t .answer)) (output-low (b .controller) up low)
+      ∙ ap (λ (t : controller.Signalled). shown (withController b (t .controller)) (t .answer)) (output-low (b .controller) up low)

@@ -16,7 +16,7 @@ use Rattle.base.specs.BitLaws.{bit-bits}
 use Rattle.rank.specs.Sets.{has}
 use Rattle.seat.specs.Seats.{noSeat, line}
 use Rattle.controller.specs.declared.Controller.{Controller}
-use Rattle.controller.specs.declared.Stepped as controller
+use Rattle.controller.specs.declared.Signalled as controller
 use Rattle.controller.specs.Signals.{Signal, levels, acknowledge}
 use Rattle.controller.specs.Turns.{settled}
 use Rattle.controller.specs.Steps.{step}
@@ -59,7 +59,7 @@ module _ (b : Bench) (w : Wired b) where
       is ∙ settles
       ∙ ap (λ (c : Controller). settled (b .controller) (c .lines .levels)) (sym is)
       ∙ ap (settled (b .controller)) (wired-kept b w r .levels)
-      ∙ sym (ap (λ (t : controller.Stepped). t .controller) (step-levels (b .controller) _))
+      ∙ sym (ap (λ (t : controller.Signalled). t .controller) (step-levels (b .controller) _))
 
   by-signal : (k s n v : ℕ) → refusal b (whole k s n v) ≡ 0
       → outcome b (whole k s n v) .bench .controller

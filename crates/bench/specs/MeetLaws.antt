@@ -12,7 +12,7 @@ use Rattle.base.specs.declared.Answer.the-variants as answer
 use Rattle.registers.specs.declared.SeatEvent.{SeatEvent}
 use Rattle.seat.specs.Seats.{noSeat}
 use Rattle.seat.specs.Steps as seat-step
-use Rattle.controller.specs.declared.Stepped as controller
+use Rattle.controller.specs.declared.Signalled as controller
 use Rattle.controller.specs.Signals.{read, write, acknowledge}
 use Rattle.controller.specs.Refusals as refusing
 use Rattle.controller.specs.Steps.{step}
@@ -52,15 +52,15 @@ seat-met b n e =
 module _ (b : Bench) where
   pub write-met : (port byte : ℕ) → (let s = step (b .controller) (write port byte) in shown (withController b (s .controller)) (s .answer)) ≡ met b (WriteController port byte)
   unfolding step met roomRefusal roomGrounds refusing.refusal after answerTo
-  write-met port byte = pick-through (λ (s : controller.Stepped). shown (withController b (s .controller)) (s .answer)) _ _ _
+  write-met port byte = pick-through (λ (s : controller.Signalled). shown (withController b (s .controller)) (s .answer)) _ _ _
 
   pub acknowledge-met : (let s = step (b .controller) acknowledge in shown (withController b (s .controller)) (s .answer)) ≡ met b Acknowledge
   unfolding step met roomRefusal roomGrounds refusing.refusal after answerTo
-  acknowledge-met = pick-through (λ (s : controller.Stepped). shown (withController b (s .controller)) (s .answer)) _ _ _
+  acknowledge-met = pick-through (λ (s : controller.Signalled). shown (withController b (s .controller)) (s .answer)) _ _ _
 
   pub read-met : (port : ℕ) → shown b (step (b .controller) (read port) .answer) ≡ met b (ReadController port)
   unfolding step met roomRefusal roomGrounds refusing.refusal after answerTo
-  read-met port = pick-through (λ (s : controller.Stepped). shown b (s .answer)) _ _ _
+  read-met port = pick-through (λ (s : controller.Signalled). shown b (s .answer)) _ _ _
 
 -- ---- a record: refused by itself, or its event met
 

@@ -15,7 +15,7 @@ use Rattle.base.specs.declared.Answer.the-variants.{Done}
 use Rattle.seat.specs.declared.Seat.{Seat}
 use Rattle.seat.specs.Seats.{noSeat, reset}
 use Rattle.controller.specs.declared.Controller.{Controller}
-use Rattle.controller.specs.declared.Stepped as controller
+use Rattle.controller.specs.declared.Signalled as controller
 use Rattle.controller.specs.Signals.{read, write, acknowledge}
 use Rattle.controller.specs.Steps.{step}
 use Rattle.controller.specs.Turns.{settled, outputOf}
@@ -47,7 +47,7 @@ module _ (b : Bench) (n : ℕ) where
   beside : (c : Controller) (a : Answer) → shown (withController (withSeat b n (seat b n)) c) a ≡ shown (withController b c) a
   beside c a = ap (λ (d : Bench). shown (withController d c) a) (seat-back b n)
 
-  moved : (t : controller.Stepped) → stored b n (besides (seat b n) t) ≡ shown (withController b (t .controller)) (t .answer)
+  moved : (t : controller.Signalled) → stored b n (besides (seat b n) t) ≡ shown (withController b (t .controller)) (t .answer)
   moved t = beside (t .controller) (t .answer)
 
   read-same : (port : ℕ) → Same (ReadController port)

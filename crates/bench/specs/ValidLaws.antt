@@ -15,7 +15,7 @@ use Rattle.seat.specs.Seats.{noSeat, reset}
 use Rattle.seat.specs.Seats as one
 use Rattle.seat.specs.Sound.{sound}
 use Rattle.seat.specs.SoundLaws.{power-up-sound, step-sound, reset-sound}
-use Rattle.controller.specs.declared.Stepped as controller
+use Rattle.controller.specs.declared.Signalled as controller
 use Rattle.controller.specs.Signals.{write, acknowledge}
 use Rattle.controller.specs.Valid as controller-valid
 use Rattle.controller.specs.ValidLaws.{power-up-valid, valid-kept, valid-settled}
@@ -106,10 +106,10 @@ module _ (b : Bench) (s : Sound b) where
   controller-after MasterReset none = valid-settled (b .controller) _ (s .controller)
   controller-after (ReadController port) none = s .controller
   controller-after (WriteController port byte) none =
-      ap (λ (t : controller.Stepped). controller-valid.valid (t .controller)) (sym (step-done (b .controller) (write port byte) none))
+      ap (λ (t : controller.Signalled). controller-valid.valid (t .controller)) (sym (step-done (b .controller) (write port byte) none))
       ∙ valid-kept (b .controller) (write port byte) (s .controller)
   controller-after Acknowledge none =
-      ap (λ (t : controller.Stepped). controller-valid.valid (t .controller)) (sym (step-done (b .controller) acknowledge none))
+      ap (λ (t : controller.Signalled). controller-valid.valid (t .controller)) (sym (step-done (b .controller) acknowledge none))
       ∙ valid-kept (b .controller) acknowledge (s .controller)
 
   controller-met : (e : Event) → controller-valid.valid (met b e .bench .controller) ≡ true

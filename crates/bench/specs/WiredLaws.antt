@@ -21,7 +21,7 @@ use Rattle.receiver.specs.Receiver as heard
 use Rattle.transmitter.specs.Transmitter as sent
 use Rattle.queue.specs.Queue as queued
 use Rattle.controller.specs.declared.Controller.{Controller}
-use Rattle.controller.specs.declared.Stepped as controller
+use Rattle.controller.specs.declared.Signalled as controller
 use Rattle.controller.specs.Signals.{write, acknowledge}
 use Rattle.controller.specs.Turns.{settled}
 use Rattle.controller.specs.Steps.{effect}
@@ -77,7 +77,7 @@ module _ (b : Bench) (w : Wired b) where
       record {
         all = w .all;
         levels =
-            ap (λ (s : controller.Stepped). s .controller .lines .levels) (sym (step-done (b .controller) (write port byte) none))
+            ap (λ (s : controller.Signalled). s .controller .lines .levels) (sym (step-done (b .controller) (write port byte) none))
             ∙ same-levels (b .controller) port byte _ (level-moves (b .controller) (write port byte)) ∙ w .levels;
       }
 
@@ -87,7 +87,7 @@ module _ (b : Bench) (w : Wired b) where
       record {
         all = w .all;
         levels =
-            ap (λ (s : controller.Stepped). s .controller .lines .levels) (sym (step-done (b .controller) acknowledge none))
+            ap (λ (s : controller.Signalled). s .controller .lines .levels) (sym (step-done (b .controller) acknowledge none))
             ∙ same-levels-acknowledged (b .controller) _ (level-moves (b .controller) acknowledge) ∙ w .levels;
       }
 

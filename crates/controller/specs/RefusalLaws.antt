@@ -16,7 +16,7 @@ use Rattle.base.specs.RefusalLaws.{firstHeld, follows, in-order}
 use Rattle.controller.specs.Steps.{effect, step}
 use Rattle.controller.specs.declared.Controller.{Controller}
 use Rattle.controller.specs.declared.Setup.{Setup}
-use Rattle.controller.specs.declared.Stepped.{Stepped}
+use Rattle.controller.specs.declared.Signalled.{Signalled}
 
 -- ---- the number: the first ground of the signal that holds
 
@@ -78,7 +78,7 @@ pub step-keeps : (P : Controller → Type 0) (c : Controller) (signal : Signal) 
     → (refusal (c .setup) signal ≡ 0 → P (effect c signal .controller)) → P (step c signal .controller)
 unfolding step
 step-keeps P c signal before after =
-    pick-cases (λ (x : Stepped). P (x .controller)) (eqb (refusal (c .setup) signal) 0) (effect c signal) _
+    pick-cases (λ (x : Signalled). P (x .controller)) (eqb (refusal (c .setup) signal) 0) (effect c signal) _
     (λ e. after (eqb-true (refusal (c .setup) signal) 0 e)) (λ e. before)
 
 -- where a condition holds the controller is equal after the signal

@@ -20,7 +20,7 @@ use Rattle.controller.specs.RowLaws.{Same, Becomes}
 use Rattle.controller.specs.Steps.{step}
 use Rattle.controller.specs.declared.Controller.{Controller}
 use Rattle.controller.specs.declared.Operation.{Operation}
-use Rattle.controller.specs.declared.Stepped.{Stepped}
+use Rattle.controller.specs.declared.Signalled.{Signalled}
 
 -- no line is masked or in service, every mode is off, the requests are selected, and line 0 ranks first
 pub record Cleared (o : Operation) : Type 0 where
@@ -61,7 +61,7 @@ powered-up =
 
 -- "it clears edge latches, mask, in-service, special mask, automatic end and its rotation, selects the request register for port 0,
 -- ranks line 0 first, takes bit 3 as level mode and makes the controller not ready"
-pub record Begun (b : ℕ) (c : Controller) (s : Stepped) : Type 0 where
+pub record Begun (b : ℕ) (c : Controller) (s : Signalled) : Type 0 where
   pub answer : s .answer ≡ Done
   pub latches : (n : ℕ) → has (s .controller .lines .latches) n ≡ false
   pub operation : Cleared (s .controller .operation)
@@ -89,7 +89,7 @@ begins c b e f g =
     })
 
 -- "then ICW2 and ICW4 at port 1, then ready": the stage that the word leads to, and how it changes base and automatic end
-pub record Settles (stage : ℕ) (Base : ℕ → ℕ → Type 0) (Automatic : Bool → Bool → Type 0) (c : Controller) (s : Stepped) : Type 0 where
+pub record Settles (stage : ℕ) (Base : ℕ → ℕ → Type 0) (Automatic : Bool → Bool → Type 0) (c : Controller) (s : Signalled) : Type 0 where
   pub answer : s .answer ≡ Done
   pub next : s .controller .setup .stage ≡ stage
   pub base : Base (c .setup .base) (s .controller .setup .base)

@@ -7,13 +7,17 @@ use Rattle.controller.specs.declared.Lines.{Lines}
 use Rattle.controller.specs.declared.Setup.{Setup}
 use Rattle.controller.specs.declared.Operation.{Operation}
 
+-- "all is 0 and line 0 ranks first": the part that the operation words and the grants move
+abbrev pub emptyOperation : Operation
+emptyOperation = record { mask = 0; service = 0; first = 0; rotation = false; special = false; selected = false }
+
 -- "At power-up it is not ready; all is 0 and line 0 ranks first."
 abbrev pub powerUp : Controller
 powerUp =
     record {
       lines = record { levels = 0; latches = 0 };
       setup = record { stage = 0; level = false; base = 0; automatic = false };
-      operation = record { mask = 0; service = 0; first = 0; rotation = false; special = false; selected = false };
+      operation = emptyOperation;
     }
 
 -- "ICW1 is port 0 with bit 4 set; then ICW2 and ICW4 at port 1, then ready."

@@ -18,7 +18,7 @@ use Rattle.controller.specs.Steps.{step}
 use Rattle.controller.specs.declared.Controller.{Controller}
 use Rattle.controller.specs.declared.Setup.{Setup}
 use Rattle.controller.specs.declared.Operation.{Operation}
-use Rattle.controller.specs.declared.Stepped.{Stepped}
+use Rattle.controller.specs.declared.Signalled.{Signalled}
 
 -- none of the three conditions holds
 none-holds : (s : Setup) (signal : Signal) → portAbove signal ≡ false → notReady s signal ≡ false → notServed s signal ≡ false → refusal s signal ≡ 0
@@ -97,8 +97,8 @@ pub initialised : (c : Controller) (b1 b2 b4 : ℕ) → bit 4 b1 ≡ true → bi
     }
 unfolding icw1 icw2 icw4
 initialised c b1 b2 b4 e f g h =
-    ap (λ (x : Stepped). step (step (x .controller) (write 1 b2) .controller) (write 1 b4)) (step-icw1 c b1 e f g)
-    ∙ ap (λ (x : Stepped). step (x .controller) (write 1 b4)) (step-icw2 (icw1 c b1) b2 refl)
+    ap (λ (x : Signalled). step (step (x .controller) (write 1 b2) .controller) (write 1 b4)) (step-icw1 c b1 e f g)
+    ∙ ap (λ (x : Signalled). step (x .controller) (write 1 b4)) (step-icw2 (icw1 c b1) b2 refl)
     ∙ step-icw4 (withSetup (icw1 c b1) (icw2 (icw1 c b1 .setup) b2)) b4 refl h
 
 -- ---- the operation words of a ready controller

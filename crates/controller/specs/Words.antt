@@ -6,7 +6,7 @@ use Rattle.base.specs.Pick.{pick}
 use Rattle.base.specs.Bits.{bit}
 use Rattle.rank.specs.Sets.{line, only, without}
 use Rattle.rank.specs.Rank.{next, firstPlace}
-use Rattle.controller.specs.State.{awaitsIcw2, awaitsIcw4, afterIcw2, withSetup, withOperation, withMask, withService, withFirst, withRotation}
+use Rattle.controller.specs.State.{emptyOperation, awaitsIcw2, awaitsIcw4, afterIcw2, withSetup, withOperation, withMask, withService, withFirst, withRotation}
 use Rattle.controller.specs.Turns.{hinders, found, requests}
 use Rattle.controller.specs.declared.Controller.{Controller}
 use Rattle.controller.specs.declared.Setup.{Setup}
@@ -34,7 +34,7 @@ icw1 c b =
     record {
       lines = record { levels = c .lines .levels; latches = 0 };
       setup = record { stage = 1; level = bit 3 b; base = c .setup .base; automatic = false };
-      operation = record { mask = 0; service = 0; first = 0; rotation = false; special = false; selected = false };
+      operation = emptyOperation;
     }
 
 -- "ICW2's top five bits are the base."

@@ -1,14 +1,15 @@
 // One 8259A. It knows the levels of eight lines, and no seats. A set of lines is a byte: line n is its bit n.
 use base::Answer;
+
+mod refusals;
+mod turns;
+mod words;
+
 ghost use mathlib.Core.Path.{_≡_};
 ghost use Rattle.controller.specs.State.{powerUp};
 ghost use Rattle.controller.specs.Signals.{read, write, acknowledge};
 ghost use Rattle.controller.specs.Turns.{settled, outputOf};
 ghost use Rattle.controller.specs.Steps.{step, placed};
-
-mod refusals;
-mod turns;
-mod words;
 
 // The lines as they were last shown, and the edge latches.
 #[repr(C)]
@@ -45,7 +46,7 @@ pub struct Controller {
 }
 
 // The controller after a signal, and what the signal was answered with.
-pub struct Stepped {
+pub struct Signalled {
     pub controller: Controller,
     pub answer: Answer,
 }
@@ -65,12 +66,68 @@ impl Setup {
     pub const AWAITS_ICW4: u8 = 2;
 
     pub const READY: u8 = 3;
+
+    // The bits of the initialisation words; bit 4 of a byte at port 0 makes it ICW1.
+    pub const ICW1: u8 = 4;
+
+    pub const ICW1_LEVEL: u8 = 3;
+
+    pub const ICW1_SINGLE: u8 = 1;
+
+    pub const ICW1_ICW4: u8 = 0;
+
+    pub const ICW4_AUTOMATIC: u8 = 1;
+
+    pub const ICW4_8086: u8 = 0;
+}
+
+impl Operation {
+    // The commands of OCW2, bits 7-5.
+    pub const OCW2_END: u8 = 0b001;
+
+    pub const OCW2_END_ROTATING: u8 = 0b101;
+
+    pub const OCW2_END_LINE: u8 = 0b011;
+
+    pub const OCW2_END_LINE_ROTATING: u8 = 0b111;
+
+    pub const OCW2_MAKE_LAST: u8 = 0b110;
+
+    pub const OCW2_ROTATION_ON: u8 = 0b100;
+
+    pub const OCW2_ROTATION_OFF: u8 = 0b000;
+
+    // The bits of OCW3; of a byte at port 0 that is no ICW1, bit 3 makes it OCW3. It sets the special mask, and selects, only if it says so.
+    pub const OCW3: u8 = 3;
+
+    pub const OCW3_POLL: u8 = 2;
+
+    pub const OCW3_SETS_SPECIAL: u8 = 6;
+
+    pub const OCW3_SPECIAL: u8 = 5;
+
+    pub const OCW3_SELECTS: u8 = 1;
+
+    pub const OCW3_SERVICE: u8 = 0;
+
+    // As it is at power-up and after ICW1.
+    pub(crate) const EMPTY: Operation = Operation {
+        mask: 0,
+        service: 0,
+        first: 0,
+        rotation: false,
+        special: false,
+        selected: false,
+    };
 }
 
 impl Controller {
     pub const PORT_0: u8 = 0;
 
     pub const PORT_1: u8 = 1;
+
+    // The line that the vector of a spurious acknowledge names.
+    pub const SPURIOUS_LINE: u8 = 7;
 
     pub fn power_up() -> Controller
         ensures { λ r. ⌜ r ≡ powerUp ⌝ }
@@ -86,14 +143,7 @@ impl Controller {
                 base: 0,
                 automatic: false,
             },
-            operation: Operation {
-                mask: 0,
-                service: 0,
-                first: 0,
-                rotation: false,
-                special: false,
-                selected: false,
-            },
+            operation: Operation::EMPTY,
         }
     }
 
@@ -124,41 +174,39 @@ impl Controller {
     pub fn read(self, port: u8) -> Answer
         ensures { λ r. ⌜ r ≡ step self (read port) .answer ⌝ }
     {
-        if Controller::PORT_1 < port {
-            return Answer::Refused(Answer::NUMBER_ABOVE);
-        }
-        if self.setup.stage == Setup::READY {
+        let refused = self.setup.refuse_read(port);
+        if refused == 0 {
             return Answer::Byte(self.shown(port));
         }
-        Answer::Refused(Answer::NOT_READY)
+        Answer::Refused(refused)
     }
 
-    pub fn write(self, port: u8, byte: u8) -> Stepped
+    pub fn write(self, port: u8, byte: u8) -> Signalled
         ensures { λ r. ⌜ r ≡ step self (write port byte) ⌝ }
     {
-        let setup = self.setup;
-        let number = setup.write_refusal(port, byte);
-        if number == 0 {
-            return Stepped {
+        let refused = self.setup.refuse_write(port, byte);
+        if refused == 0 {
+            return Signalled {
                 controller: self.written(port, byte),
                 answer: Answer::Done,
             };
         }
-        Stepped {
+        Signalled {
             controller: self,
-            answer: Answer::Refused(number),
+            answer: Answer::Refused(refused),
         }
     }
 
-    pub fn acknowledge(self) -> Stepped
+    pub fn acknowledge(self) -> Signalled
         ensures { λ r. ⌜ r ≡ step self acknowledge ⌝ }
     {
-        if self.setup.stage == Setup::READY {
+        let refused = self.setup.refuse_acknowledge();
+        if refused == 0 {
             return self.acknowledged();
         }
-        Stepped {
+        Signalled {
             controller: self,
-            answer: Answer::Refused(Answer::NOT_READY),
+            answer: Answer::Refused(refused),
         }
     }
 
@@ -166,7 +214,7 @@ impl Controller {
     pub fn place(self, line: u8) -> Answer
         ensures { λ r. ⌜ r ≡ placed self line ⌝ }
     {
-        if 7 < line {
+        if rank::LINES <= line {
             return Answer::Refused(Answer::SEAT_ABOVE);
         }
         Answer::Place(rank::place(self.operation.first, line))

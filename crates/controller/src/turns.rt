@@ -1,10 +1,11 @@
 // Who asks, who hinders, who is next; and what a grant does.
-ghost use mathlib.Core.Path.{_≡_};
-ghost use Rattle.controller.specs.Turns.{requests, hindering, asking, found, grant, acknowledged};
 use crate::Controller;
 use crate::Operation;
-use crate::Stepped;
+use crate::Signalled;
 use crate::Turn;
+use base::Answer;
+ghost use mathlib.Core.Path.{_≡_};
+ghost use Rattle.controller.specs.Turns.{requests, hindering, asking, found, grant, acknowledged};
 
 impl Operation {
     pub(crate) fn hindering(self) -> u8
@@ -56,21 +57,21 @@ impl Controller {
         self
     }
 
-    pub(crate) fn acknowledged(self) -> Stepped
+    pub(crate) fn acknowledged(self) -> Signalled
         ensures { λ r. ⌜ r ≡ acknowledged self ⌝ }
     {
         let o = self.operation;
         let place = rank::first_above(o.first, self.asking(), o.hindering());
         let turn = Operation::found(o.first, place);
-        let base = self.setup.base / 8 * 8;
+        let base = self.setup.base / rank::LINES * rank::LINES;
         match turn {
-            Turn::Line(n) => Stepped {
+            Turn::Line(n) => Signalled {
                 controller: self.grant(n),
-                answer: base::Answer::Vector(base + n % rank::LINES),
+                answer: Answer::Vector(base + n % rank::LINES),
             },
-            Turn::Nobody => Stepped {
+            Turn::Nobody => Signalled {
                 controller: self,
-                answer: base::Answer::Spurious(base + 7),
+                answer: Answer::Spurious(base + Controller::SPURIOUS_LINE),
             },
         }
     }

@@ -1,27 +1,17 @@
 // What the initialisation and operation words do, and what the ports show.
-ghost use mathlib.Core.Path.{_≡_};
-ghost use Rattle.controller.specs.Words.{icw1, ended, madeLast, served, plainEnd, rotatingEnd, ocw2, ocw3, written0, written1, written, shown};
 use crate::Controller;
 use crate::Lines;
 use crate::Operation;
 use crate::Setup;
 use crate::Turn;
+ghost use mathlib.Core.Path.{_≡_};
+ghost use Rattle.controller.specs.Words.{icw1, ended, madeLast, served, plainEnd, rotatingEnd, ocw2, ocw3, written1, written, shown};
 
 impl Operation {
-    // The commands of OCW2, bits 7-5.
-    const END: u8 = 0b001;
+    // A command of OCW2 counts by bit 5, and there are eight.
+    const OCW2_UNIT: u8 = 0b10_0000;
 
-    const END_ROTATING: u8 = 0b101;
-
-    const END_LINE: u8 = 0b011;
-
-    const END_LINE_ROTATING: u8 = 0b111;
-
-    const MAKE_LAST: u8 = 0b110;
-
-    const ROTATION_ON: u8 = 0b100;
-
-    const ROTATION_OFF: u8 = 0b000;
+    const OCW2_COMMANDS: u8 = 8;
 
     fn ended(mut self, n: u8) -> Operation
         ensures { λ r. ⌜ r ≡ ended self n ⌝ }
@@ -68,18 +58,18 @@ impl Operation {
         ensures { λ r. ⌜ r ≡ ocw2 self byte ⌝ }
     {
         let n = byte % rank::LINES;
-        let command = byte / 32 % 8;
+        let command = byte / Operation::OCW2_UNIT % Operation::OCW2_COMMANDS;
         match command {
-            Operation::END => return self.plain_end(),
-            Operation::END_ROTATING => return self.rotating_end(),
-            Operation::END_LINE => return self.ended(n),
-            Operation::END_LINE_ROTATING => return self.ended(n).made_last(n),
-            Operation::MAKE_LAST => return self.made_last(n),
-            Operation::ROTATION_ON => {
+            Operation::OCW2_END => return self.plain_end(),
+            Operation::OCW2_END_ROTATING => return self.rotating_end(),
+            Operation::OCW2_END_LINE => return self.ended(n),
+            Operation::OCW2_END_LINE_ROTATING => return self.ended(n).made_last(n),
+            Operation::OCW2_MAKE_LAST => return self.made_last(n),
+            Operation::OCW2_ROTATION_ON => {
                 self.rotation = true;
                 return self;
             }
-            Operation::ROTATION_OFF => {
+            Operation::OCW2_ROTATION_OFF => {
                 self.rotation = false;
                 return self;
             }
@@ -90,8 +80,16 @@ impl Operation {
     fn ocw3(mut self, byte: u8) -> Operation
         ensures { λ r. ⌜ r ≡ ocw3 self byte ⌝ }
     {
-        self.special = base::pick_flag(base::bit(6, byte), base::bit(5, byte), self.special);
-        self.selected = base::pick_flag(base::bit(1, byte), base::bit(0, byte), self.selected);
+        self.special = base::pick_flag(
+            base::bit(Operation::OCW3_SETS_SPECIAL, byte),
+            base::bit(Operation::OCW3_SPECIAL, byte),
+            self.special,
+        );
+        self.selected = base::pick_flag(
+            base::bit(Operation::OCW3_SELECTS, byte),
+            base::bit(Operation::OCW3_SERVICE, byte),
+            self.selected,
+        );
         self
     }
 }
@@ -100,7 +98,7 @@ impl Controller {
     fn icw1(self, byte: u8) -> Controller
         ensures { λ r. ⌜ r ≡ icw1 self byte ⌝ }
     {
-        let level = base::bit(3, byte);
+        let level = base::bit(Setup::ICW1_LEVEL, byte);
         Controller {
             lines: Lines {
                 levels: self.lines.levels,
@@ -112,30 +110,8 @@ impl Controller {
                 base: self.setup.base,
                 automatic: false,
             },
-            operation: Operation {
-                mask: 0,
-                service: 0,
-                first: 0,
-                rotation: false,
-                special: false,
-                selected: false,
-            },
+            operation: Operation::EMPTY,
         }
-    }
-
-    fn written0(mut self, byte: u8) -> Controller
-        ensures { λ r. ⌜ r ≡ written0 self byte ⌝ }
-    {
-        let o = self.operation;
-        if base::bit(4, byte) {
-            return self.icw1(byte);
-        }
-        if base::bit(3, byte) {
-            self.operation = o.ocw3(byte);
-            return self;
-        }
-        self.operation = o.ocw2(byte);
-        self
     }
 
     fn written1(mut self, byte: u8) -> Controller
@@ -144,13 +120,13 @@ impl Controller {
         let stage = self.setup.stage;
         match stage {
             Setup::AWAITS_ICW2 => {
-                let base = byte / 8 * 8;
+                let base = byte / rank::LINES * rank::LINES;
                 self.setup.base = base;
                 self.setup.stage = Setup::AWAITS_ICW4;
                 return self;
             }
             Setup::AWAITS_ICW4 => {
-                let automatic = base::bit(1, byte);
+                let automatic = base::bit(Setup::ICW4_AUTOMATIC, byte);
                 self.setup.automatic = automatic;
                 self.setup.stage = Setup::READY;
                 return self;
@@ -162,13 +138,22 @@ impl Controller {
         }
     }
 
-    pub(crate) fn written(self, port: u8, byte: u8) -> Controller
+    pub(crate) fn written(mut self, port: u8, byte: u8) -> Controller
         ensures { λ r. ⌜ r ≡ written self port byte ⌝ }
     {
-        if port == Controller::PORT_0 {
-            return self.written0(byte);
+        if port != Controller::PORT_0 {
+            return self.written1(byte);
         }
-        self.written1(byte)
+        let o = self.operation;
+        if base::bit(Setup::ICW1, byte) {
+            return self.icw1(byte);
+        }
+        if base::bit(Operation::OCW3, byte) {
+            self.operation = o.ocw3(byte);
+            return self;
+        }
+        self.operation = o.ocw2(byte);
+        self
     }
 
     pub(crate) fn shown(self, port: u8) -> u8

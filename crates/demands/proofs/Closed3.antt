@@ -13,7 +13,7 @@ use Rattle.records.specs.Events.{Record, whole, short}
 use Rattle.bench.specs.declared.Bench.{Bench}
 use Rattle.bench.specs.Seats.{powerUp}
 use Rattle.bench.specs.Runs.{afterAll}
-use Rattle.demands.specs.Demand3.{told, Kept}
+use Rattle.demands.specs.Demand3.{told, KeptWaiting}
 use Rattle.demands.proofs.Demand3.{demand-3-from-power-up}
 use Rattle.demands.proofs.Opened.{laid-open}
 
@@ -33,7 +33,7 @@ in-order = Vector 0x40 ∷ Vector 0x41 ∷ Vector 0x42 ∷ Vector 0x43 ∷ Vecto
 
 -- the premises hold, and these are the answers
 abbrev pub Closed : Bench → List Record → List Answer → Type 0
-Closed b rs answers = Start (b .controller) 7 × Kept 7 false b rs × (told b rs ≡ answers)
+Closed b rs answers = Start (b .controller) 7 × KeptWaiting 7 false b rs × (told b rs ≡ answers)
 
 -- ---- level mode, automatic end with rotation, all eight seats call
 

@@ -39,7 +39,7 @@ use Rattle.bench.specs.MeetLaws.{outcome-dealt, write-met, acknowledge-met, rea
 use Rattle.bench.specs.FrameLaws.{mapped-at, chair-small}
 use Rattle.bench.specs.Wired.{Wired}
 use Rattle.bench.specs.WiredLaws.{wired-kept, wired-power-up}
-use Rattle.demands.specs.Demand3.{Calm, owing, heard, told, Names, Kept, Demand3, Demand3FromPowerUp}
+use Rattle.demands.specs.Demand3.{Calm, owing, heard, told, Names, KeptWaiting, Demand3, Demand3FromPowerUp}
 
 -- ---- what a record sends to the controller
 
@@ -187,7 +187,7 @@ told-answers b (r ∷ rs) =
     record-agrees b 0 r .same (sent (outcome b r .bench) rs)
     ∙ ap (λ (l : List Answer). heard (decoded r) (outcome b r .answer) ++ l) (told-answers (outcome b r .bench) rs)
 
-all-wait : (n : ℕ) (owed : Bool) (b : Bench) (rs : List Record) → Wired b → Kept n owed b rs → Waits n owed (b .controller) (sent b rs)
+all-wait : (n : ℕ) (owed : Bool) (b : Bench) (rs : List Record) → Wired b → KeptWaiting n owed b rs → Waits n owed (b .controller) (sent b rs)
 unfolding sent
 all-wait n owed b [] w k = tt
 all-wait n owed b (r ∷ rs) w k =

@@ -19,7 +19,7 @@ use Rattle.bench.specs.Steps.{outcome}
 use Rattle.bench.specs.Runs.{afterAll}
 use Rattle.bench.specs.WiredLaws.{wired-power-up}
 use Rattle.demands.specs.Demand2.{Step}
-use Rattle.demands.specs.Demand3.{KeptBy, told}
+use Rattle.demands.specs.Demand3.{KeptWaitingBy, told}
 use Rattle.demands.specs.SeatLedger.{lostAt, droppedAt}
 use Rattle.demands.specs.WrongPrograms.{fixed, ignoring}
 use Rattle.demands.specs.Needed.{SeenBy, NamedWhile, Accounted, KeepsPlaces, Needed}
@@ -68,7 +68,7 @@ not-without-the-output h =
 falls : List Record
 falls = whole 0 7 6 0 ∷ eight
 
-falls-kept : KeptBy (λ n b. Unit) 7 false (afterAll powerUp set-automatic) falls
+falls-kept : KeptWaitingBy (λ n b. Unit) 7 false (afterAll powerUp set-automatic) falls
 unfolding laid-open set-automatic all-call calls falls eight asks
 falls-kept =
     (tt, inr (tt, (refl, inr (tt, (refl, inr (tt, (refl, inr (tt, (refl, inr (tt, (refl, inr (tt, (refl, inr (tt, (refl, inr (tt, (refl, inr (tt, tt))))))))))))))))))

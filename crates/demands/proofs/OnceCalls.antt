@@ -120,7 +120,6 @@ seat-once M =
 pub rank-once : (M : Type 1) → RankOnce M
 rank-once M =
     record {
-      rank·has = value _ refl (λ κ a v w. refl);
       rank·only = value _ refl (λ κ a v w. refl);
       rank·without = value _ refl (λ κ a v w. refl);
       rank·with-line = value _ refl (λ κ a v w. refl);
@@ -166,6 +165,7 @@ bench-once M =
 pub listing-once : (M : Type 1) → ListingOnce M
 listing-once M =
     record {
+      text·capital = value _ refl (λ κ a v w. refl);
       text·put-front = told _ refl (λ κ a r s v w p q. (p .0 ∙ sym (q .0), λ i. ((p .1 ∙ sym (q .1)) i, (tt, tt))));
       text·put-after = told _ refl (λ κ a r s v w p q. (p .next ∙ sym (q .next), λ i. ((p .bytes ∙ sym (q .bytes)) i, (tt, (tt, (tt, (tt, (tt, tt))))))));
       listing·run = told _ refl (λ κ a r s v w p q.

@@ -24,7 +24,7 @@ use Rattle.bench.specs.Steps.{outcome}
 use Rattle.bench.specs.Runs.{afterAll}
 use Rattle.bench.specs.RunLaws.{after-parts}
 use Rattle.demands.specs.Demand2.{Step, Meets, ends}
-use Rattle.demands.specs.Demand3.{heard, told, Kept}
+use Rattle.demands.specs.Demand3.{heard, told, KeptWaiting}
 use Rattle.demands.specs.SeatLedger.{arrivedAt, readAt, goneAt, queuedAt, Keeps}
 use Rattle.demands.specs.WrongPrograms.{refusing, fixed, ignoring, inventing, Program, played, MeetsFrom, pretending, toldBy, TakesTurns, Placing, MeetsPlace, Counts, dreaming, ShutOut, LetIn}
 use Rattle.demands.proofs.Opened.{laid-open}
@@ -141,7 +141,7 @@ six-start : Start (afterAll powerUp set-automatic .controller) 6
 unfolding laid-open set-automatic all-call calls
 six-start = record { line = omega arith; up = refl; idle = refl; plain = refl; turns = inl (refl, refl); stands = refl; unmasked = refl }
 
-six-kept : Kept 6 false (afterAll powerUp set-automatic) eight
+six-kept : KeptWaiting 6 false (afterAll powerUp set-automatic) eight
 unfolding laid-open set-automatic all-call calls eight asks
 six-kept = (refl, inr (refl, (refl, inr (refl, (refl, inr (refl, (refl, inr (refl, (refl, inr (refl, (refl, inr (refl, (refl, inl refl)))))))))))))
 

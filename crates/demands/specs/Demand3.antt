@@ -62,26 +62,26 @@ Names n c d a = heard d a ≡ Vector (vector (c .setup) n) ∷ []
 
 -- The tender: let its line stay high and unmasked until it is granted. Every record is calm, and the bench after it is as a rule asks; from the
 -- record on that names line n, nothing is asked
-abbrev pub KeptBy : (ℕ → Bench → Type 0) → ℕ → Bool → Bench → List Record → Type 0
-KeptBy stays n owed b [] = Unit
-KeptBy stays n owed b (r ∷ rs) =
+abbrev pub KeptWaitingBy : (ℕ → Bench → Type 0) → ℕ → Bool → Bench → List Record → Type 0
+KeptWaitingBy stays n owed b [] = Unit
+KeptWaitingBy stays n owed b (r ∷ rs) =
     Calm n owed (decoded r)
     × (Names n (b .controller) (decoded r) (outcome b r .answer)
-    ⊎ (stays n (outcome b r .bench) × KeptBy stays n (owing (b .controller) owed (decoded r)) (outcome b r .bench) rs))
+    ⊎ (stays n (outcome b r .bench) × KeptWaitingBy stays n (owing (b .controller) owed (decoded r)) (outcome b r .bench) rs))
 
 -- the rule: the line of seat n is high
 abbrev pub High : ℕ → Bench → Type 0
 High n b = line (seat b n) ≡ true
 
-abbrev pub Kept : ℕ → Bool → Bench → List Record → Type 0
-Kept n owed b rs = KeptBy High n owed b rs
+abbrev pub KeptWaiting : ℕ → Bool → Bench → List Record → Type 0
+KeptWaiting n owed b rs = KeptWaitingBy High n owed b rs
 
 -- The tender: only seats ahead of it at the start are granted before it, each at most once, and the eighth acknowledge at the latest names it.
 -- The start is that of one controller, its line n that of seat n
 unfoldable pub Demand3 : Type 0
-Demand3 = (b : Bench) (n : ℕ) (rs : List Record) → Wired b → Start (b .controller) n → Kept n false b rs → InTurn (b .controller) n (told b rs)
+Demand3 = (b : Bench) (n : ℕ) (rs : List Record) → Wired b → Start (b .controller) n → KeptWaiting n false b rs → InTurn (b .controller) n (told b rs)
 
 -- and from power-up on nothing is asked of the bench: it is the one that any records leave
 abbrev pub Demand3FromPowerUp : Type 0
 Demand3FromPowerUp = (before : List Record) (n : ℕ) (rs : List Record) → Start (afterAll powerUp before .controller) n
-    → Kept n false (afterAll powerUp before) rs → InTurn (afterAll powerUp before .controller) n (told (afterAll powerUp before) rs)
+    → KeptWaiting n false (afterAll powerUp before) rs → InTurn (afterAll powerUp before .controller) n (told (afterAll powerUp before) rs)

@@ -14,7 +14,7 @@ use Rattle.bench.specs.declared.Outcome.{Outcome}
 use Rattle.bench.specs.Steps.{outcome}
 use Rattle.bench.specs.Wired.{Wired}
 use Rattle.demands.specs.Demand2.{Step, Suffices}
-use Rattle.demands.specs.Demand3.{KeptBy, told}
+use Rattle.demands.specs.Demand3.{KeptWaitingBy, told}
 use Rattle.demands.specs.SeatLedger.{Balanced, lostAt, droppedAt, SoundAt}
 
 -- demand 2, were a step asked only for what a view of its outcomes shows
@@ -23,7 +23,7 @@ SeenBy view = Suffices (λ f. (b : Bench) (r : Record) → view (f b r) ≡ view
 
 -- the end of demand 3 by any rule of what the bench is after each record
 abbrev pub NamedWhile : (ℕ → Bench → Type 0) → Type 0
-NamedWhile stays = (b : Bench) (n : ℕ) (rs : List Record) → Wired b → Start (b .controller) n → KeptBy stays n false b rs → NamedBy 8 (b .controller) n (told b rs)
+NamedWhile stays = (b : Bench) (n : ℕ) (rs : List Record) → Wired b → Start (b .controller) n → KeptWaitingBy stays n false b rs → NamedBy 8 (b .controller) n (told b rs)
 
 -- the ledger, by any count of the characters that are gone
 abbrev pub Accounted : (Step → ℕ → Bench → List Record → ℕ) → Type 0

@@ -125,7 +125,6 @@ pub record SeatOnce (M : Type 1) : Type 2 where
 -- ---- rank: sets and places of lines
 
 pub record RankOnce (M : Type 1) : Type 2 where
-  pub rank·has : Once M rank.has.ended rank.has.clauses rank.has.spec
   pub rank·only : Once M rank.only.ended rank.only.clauses rank.only.spec
   pub rank·without : Once M rank.without.ended rank.without.clauses rank.without.spec
   pub rank·with-line : Once M rank.with_line.ended rank.with_line.clauses rank.with_line.spec
@@ -165,9 +164,10 @@ pub record BenchOnce (M : Type 1) : Type 2 where
   pub bench·Bench·place : Once M bench.Bench.place.ended bench.Bench.place.clauses bench.Bench.place.spec
   pub bench·Bench·output : Once M bench.Bench.output.ended bench.Bench.output.clauses bench.Bench.output.spec
 
--- ---- text and listing: a line and a run, each with the buffer that is lent back
+-- ---- text and listing: a digit; a line and a run, each with the buffer that is lent back
 
 pub record ListingOnce (M : Type 1) : Type 2 where
+  pub text·capital : Once M text.capital.ended text.capital.clauses text.capital.spec
   pub text·put-front : Once M text.put_front.ended text.put_front.clauses text.put_front.spec
   pub text·put-after : Once M text.put_after.ended text.put_after.clauses text.put_after.spec
   pub listing·run : Once M listing.run.ended listing.run.clauses listing.run.spec

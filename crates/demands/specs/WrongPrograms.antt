@@ -19,7 +19,7 @@ use Rattle.bench.specs.Steps.{shown, outcome}
 use Rattle.bench.specs.Runs.{afterAll}
 use Rattle.demands.specs.Contracts.{Ensured, EnsuredPlace}
 use Rattle.demands.specs.Demand2.{Step, Meets, ends}
-use Rattle.demands.specs.Demand3.{heard, Kept}
+use Rattle.demands.specs.Demand3.{heard, KeptWaiting}
 use Rattle.demands.specs.SeatLedger.{Keeps}
 
 -- ---- steps
@@ -71,7 +71,7 @@ toldBy p before (r ∷ rs) = heard (decoded r) (p before r .answer) ++ toldBy p 
 -- demand 3 of a program: its premises are over the definitions, its conclusion over what the program answers
 abbrev pub TakesTurns : Program → Type 0
 TakesTurns p = (before : List Record) (n : ℕ) (rs : List Record) → Start (afterAll powerUp before .controller) n
-    → Kept n false (afterAll powerUp before) rs → InTurn (afterAll powerUp before .controller) n (toldBy p before rs)
+    → KeptWaiting n false (afterAll powerUp before) rs → InTurn (afterAll powerUp before .controller) n (toldBy p before rs)
 
 -- ---- places
 

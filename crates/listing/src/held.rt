@@ -1,4 +1,5 @@
 // The records where they stand in the input, and each on the parts that it touches.
+use crate::RECORD_BYTES;
 use controller::Controller;
 use records::Event;
 use records::Touched;
@@ -25,10 +26,10 @@ pub(crate) struct Held {
 pub(crate) fn record_count(bytes: usize, last: bool) -> usize
     ensures { λ r. ⌜ r ≡ recordCount last bytes ⌝ }
 {
-    if last & !(bytes % 4 == 0) {
-        return bytes / 4 + 1;
+    if last & !(bytes % RECORD_BYTES == 0) {
+        return bytes / RECORD_BYTES + 1;
     }
-    bytes / 4
+    bytes / RECORD_BYTES
 }
 
 fn held_whole(kind: u8, seat: u8, number: u8, value: u8) -> Held
@@ -50,7 +51,7 @@ pub(crate) fn record_at(input: &[u8], at: usize) -> Held
     requires { ⌜ at < length (now input) ⌝ }
     ensures { λ r. ⌜ Holds r (recordAt (now (input .entry)) at) ⌝ }
 {
-    if input.len() - at < 4 {
+    if input.len() - at < RECORD_BYTES {
         return Held {
             short: true,
             resets: false,

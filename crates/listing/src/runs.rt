@@ -1,4 +1,5 @@
 // A run over the bytes of some records.
+use crate::RECORD_BYTES;
 use crate::Ran;
 use crate::held;
 use bench::Bench;
@@ -24,8 +25,8 @@ fn numbered(records: usize, n: u64) -> usize
 fn used(records: usize, bytes: usize) -> usize
     ensures { λ r. ⌜ r ≡ min (4 * records) bytes ⌝ }
 {
-    if records <= bytes / 4 {
-        return 4 * records;
+    if records <= bytes / RECORD_BYTES {
+        return RECORD_BYTES * records;
     }
     bytes
 }
@@ -54,7 +55,7 @@ pub fn run(mut bench: Bench, n: u64, input: &[u8], last: bool, out: &mut [u8]) -
     while k < end {
         let m = n + k as u64;
         digits = keep_front(&mut front, digits, m);
-        let held = held::record_at(input, 4 * k);
+        let held = held::record_at(input, RECORD_BYTES * k);
         let at = held.chair;
         let met = held::meet(bench.seats[at], bench.controller, held);
         let moved = met.controller;

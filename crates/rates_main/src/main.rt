@@ -2,25 +2,6 @@
 // edges of both numbers. A line each: clock, rate in tenths of a baud, refusal number, answer in three hex capitals.
 use libc::STDOUT_FILENO;
 
-const CAPITALS: [u8; 16] = [
-    b'0',
-    b'1',
-    b'2',
-    b'3',
-    b'4',
-    b'5',
-    b'6',
-    b'7',
-    b'8',
-    b'9',
-    b'A',
-    b'B',
-    b'C',
-    b'D',
-    b'E',
-    b'F',
-];
-
 const CLOCKS: u8 = 4;
 
 const EDGE_RATES: [u32; 11] = [
@@ -39,18 +20,14 @@ const EDGE_RATES: [u32; 11] = [
 
 const EDGE_CLOCKS: [u8; 11] = [0, 0, 0, 4, 255, 255, 1, 2, 0, 0, 255];
 
-fn capital(value: u16) -> u8 {
-    CAPITALS[(value % 16) as usize]
-}
-
 fn ask(rate: u32, clock: u8) {
     let answer = rates::divisor(rate, clock);
-    let value = answer.value();
+    let value = answer.value() as u32;
     let end = [
         b' ',
-        capital(value / 256),
-        capital(value / 16),
-        capital(value),
+        text::capital(value / 256),
+        text::capital(value / 16),
+        text::capital(value),
         b'\n',
     ];
     io::print_decimal(STDOUT_FILENO, clock as u64);

@@ -9,7 +9,7 @@ use Rattle.seat.specs.declared.Seat.{Seat}
 use Rattle.seat.specs.Seats.{line, reset}
 use Rattle.seat.specs.Steps as seat-step
 use Rattle.controller.specs.declared.Controller.{Controller}
-use Rattle.controller.specs.declared.Stepped as controller
+use Rattle.controller.specs.declared.Signalled as controller
 use Rattle.controller.specs.Signals.{read, write, acknowledge}
 use Rattle.controller.specs.Turns.{settled}
 use Rattle.controller.specs.Steps.{step}
@@ -33,7 +33,7 @@ touched s c n e =
     (record { seat = s; controller = c; answer = answer.Refused (seat-step.refusal s e) })
 
 -- the controller is asked, and the seat is not
-abbrev pub besides : Seat → controller.Stepped → Touched
+abbrev pub besides : Seat → controller.Signalled → Touched
 besides s t = record { seat = s; controller = t .controller; answer = t .answer }
 
 -- an event on its two parts; "a master reset touches all eight seats", this one among them, and leaves every line low

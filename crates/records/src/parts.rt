@@ -34,11 +34,11 @@ fn touch_seat(seat: Seat, controller: Controller, n: u8, e: SeatEvent) -> Touche
 }
 
 // The controller is asked, and the seat is not.
-fn beside(seat: Seat, stepped: controller::Stepped) -> Touched
-    ensures { λ r. ⌜ r ≡ besides seat stepped ⌝ }
+fn beside(seat: Seat, signalled: controller::Signalled) -> Touched
+    ensures { λ r. ⌜ r ≡ besides seat signalled ⌝ }
 {
-    let controller = stepped.controller;
-    let answer = stepped.answer;
+    let controller = signalled.controller;
+    let answer = signalled.answer;
     Touched {
         seat,
         controller,

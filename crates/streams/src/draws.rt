@@ -1,9 +1,9 @@
-// The numbers that a stream is made of. A draw is a turn of x and a pick from the new x.
+// The numbers that a stream is made of. A draw advances x and picks from the new x.
 ghost use mathlib.Core.Path.{_≡_};
 ghost use Prim.Native.Nat.{_+_, _*_, _/_, _%_, _≤_};
 
 // "(x * 1664525 + 1013904223) % 4294967296"
-pub(crate) fn turn(x: u32) -> u32
+pub(crate) fn advance(x: u32) -> u32
     ensures { λ r. ⌜ r ≡ (x * 1664525 + 1013904223) % 4294967296 ⌝ }
 {
     ((x as u64 * 1664525 + 1013904223) % 4294967296) as u32

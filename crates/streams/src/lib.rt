@@ -1,8 +1,8 @@
 // The streams of events that second/TRIALS.md describes, written from that page alone, and the digest of what a bench answers
 // to them. A stream does not look at the bench.
+mod columns;
 mod digest;
 mod draws;
-mod looks;
 mod records;
 mod rows;
 mod scripts;
@@ -40,7 +40,7 @@ pub struct Made {
 
 impl Stream {
     // The set is one of the numbers below `SETS`.
-    pub fn start(seed: u32, set: u8) -> Self
+    pub fn start(seed: u32, set: u8) -> Stream
         ensures { λ r. ⌜ r ≡ record { x = seed; set = set; mood = 0; seat = 0; row = 0; stop = 0; left = 0 } ⌝ }
     {
         Stream {

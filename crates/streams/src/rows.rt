@@ -1,8 +1,10 @@
 // The table of the scripts.
 
+const ROW_COUNT: usize = 201;
+
 // "Each row: kind, number, number most, value, value step, value most, times most." A row is one number, its columns
 // the bytes: an array of 201 arrays costs the prover minutes.
-const ROWS: [u64; 201] = [
+const ROWS: [u64; ROW_COUNT] = [
     // script 0: seat set-up, any word length
     0x01_03_00_80_01_3F_00,
     0x01_00_00_01_01_0B_00,
@@ -267,7 +269,7 @@ const ROWS: [u64; 201] = [
     0x00_06_00_00_01_FF_00,
 ];
 
-// The table, for whoever runs a stream to hold and to lend: a constant that is looked up is built anew at each look.
-pub fn script_rows() -> [u64; 201] {
+// The table, for whoever runs a stream to hold and to lend: a constant is built anew wherever a row of it is read.
+pub fn script_rows() -> [u64; ROW_COUNT] {
     ROWS
 }

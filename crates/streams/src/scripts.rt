@@ -1,10 +1,10 @@
 // Where the scripts stand in the table of rows.
 
 // One list for all sets: "a later set appends to it".
-const SCRIPTS: u8 = 61;
+const SCRIPTS: usize = 61;
 
 // "The first row of each script, in order of the scripts, and last the number of rows."
-const FIRST_ROWS: [u16; 62] = [
+const FIRST_ROWS: [u16; SCRIPTS + 1] = [
     0,
     6,
     12,
@@ -75,10 +75,10 @@ pub(crate) struct Span {
     pub stop: u16,
 }
 
-// The remainder is there so that the place in the table needs no showing.
+// The remainder is there so that it need not be shown that the table has the script.
 pub(crate) fn span_of(script: u8) -> Span {
     let rows = FIRST_ROWS;
-    let at = (script % SCRIPTS) as usize;
+    let at = script as usize % SCRIPTS;
     Span {
         row: rows[at],
         stop: rows[at + 1],

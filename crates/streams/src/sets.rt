@@ -1,11 +1,20 @@
 // What a set has of its own: its picks and its spoils. A further set is a further part of each table, behind those that stand here. The
-// remainders are there so that the places in the tables need no showing.
+// remainders are there so that it need not be shown that the tables reach so far.
 
 // The number of sets.
 pub const SETS: u8 = 1;
 
-// "Sixteen scripts for each mood", in two lines of eight; so sixteen lines for a set.
-const PICKS: [[u8; 8]; 16] = [
+// "Moods are eight in every set, and spoils twelve."
+const MOODS: u8 = 8;
+
+const SPOIL_COUNT: u8 = 12;
+
+// "Sixteen scripts for each mood", in two halves; so sixteen halves for a set.
+const HALF: u8 = 8;
+
+const HALVES: usize = 16;
+
+const PICKS: [[u8; 8]; HALVES] = [
     // set 0
     // mood 0: set-up
     [0, 0, 1, 1, 1, 2, 2, 3],
@@ -58,13 +67,12 @@ const SPOILS: [u32; 12] = [
 
 // "Entry e of that mood's picks in the set"
 pub(crate) fn script_at(set: u8, mood: u8, e: u8) -> u8 {
-    let line = (set % SETS) as usize * 16 + (mood % 8 * 2 + e / 8 % 2) as usize;
-    let eight = PICKS[line];
-    eight[(e % 8) as usize]
+    let half = PICKS[(set % SETS) as usize * HALVES + (mood % MOODS * 2 + e / HALF % 2) as usize];
+    half[(e % HALF) as usize]
 }
 
 pub(crate) fn spoil_at(set: u8, j: u8) -> Spoil {
-    let packed = SPOILS[(set % SETS) as usize * 12 + (j % 12) as usize];
+    let packed = SPOILS[(set % SETS * SPOIL_COUNT + j % SPOIL_COUNT) as usize];
     Spoil {
         which: (packed / 1_000_000 % 256) as u8,
         base: (packed / 1000 % 1000 % 256) as u8,

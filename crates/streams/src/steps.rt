@@ -2,9 +2,9 @@
 use crate::Made;
 use crate::Record;
 use crate::Stream;
+use crate::columns;
+use crate::draws::advance;
 use crate::draws::pick;
-use crate::draws::turn;
-use crate::looks;
 use crate::records;
 use crate::scripts;
 use crate::sets;
@@ -13,16 +13,17 @@ use std::num::wrapping_add_u16;
 use std::num::wrapping_sub_u8;
 
 impl Stream {
-    // "New script. Only if left is 0 and row equals stop."
-    fn new_script(self) -> Self {
+    // "New script. Only if left is 0 and row equals stop: make five draws, a = draw(12), b = draw(8), c = draw(4), d = draw(8),
+    // e = draw(16), all five always."
+    fn new_script(self) -> Stream {
         if (self.left > 0) | (self.row != self.stop) {
             return self;
         }
-        let a = turn(self.x);
-        let b = turn(a);
-        let c = turn(b);
-        let d = turn(c);
-        let e = turn(d);
+        let a = advance(self.x);
+        let b = advance(a);
+        let c = advance(b);
+        let d = advance(c);
+        let e = advance(d);
         let mood = base::pick_byte(pick(a, 11) == 0, pick(b, 7), self.mood);
         let seat = base::pick_byte(pick(c, 3) == 0, pick(d, 7), self.seat);
         let span = scripts::span_of(sets::script_at(self.set, mood, pick(e, 15)));
@@ -38,23 +39,23 @@ impl Stream {
     }
 
     // "New row. Only if left is 0."
-    fn new_row(mut self, rows: &[u64]) -> Self {
+    fn new_row(mut self, rows: &[u64]) -> Stream {
         if self.left > 0 {
             return self;
         }
-        let row = looks::row_at(rows, self.row);
-        let x = turn(self.x);
+        let row = columns::row_at(rows, self.row);
+        let x = advance(self.x);
         self.x = x;
         self.left = 1 + pick(x, row.times);
         self
     }
 
-    // "The record."
+    // "The record. Three draws, all always: f = draw(256), g = draw(number most + 1), h = draw(value most + 1)."
     fn ask(mut self, rows: &[u64]) -> Made {
-        let row = looks::row_at(rows, self.row);
-        let f = turn(self.x);
-        let g = turn(f);
-        let h = turn(g);
+        let row = columns::row_at(rows, self.row);
+        let f = advance(self.x);
+        let g = advance(f);
+        let h = advance(g);
         let record = records::asked(
             row,
             self.seat,
@@ -70,7 +71,7 @@ impl Stream {
     }
 
     // "Count." Left is above 0 here and "neither row nor stop passes the number of rows", so that nothing wraps.
-    fn count(mut self) -> Self {
+    fn count(mut self) -> Stream {
         let left = wrapping_sub_u8(self.left, 1);
         self.left = left;
         if left == 0 {
@@ -79,11 +80,12 @@ impl Stream {
         self
     }
 
-    // "Spoil."
+    // "Spoil. Three draws, all always: i = draw(96), j = draw(12), k = draw(most of spoil j + 1)." "If i is 0, byte `which` of the
+    // record is replaced; if i is 1, the script is left."
     fn spoil(mut self, record: Record) -> Made {
-        let i = turn(self.x);
-        let j = turn(i);
-        let k = turn(j);
+        let i = advance(self.x);
+        let j = advance(i);
+        let k = advance(j);
         let spoil = sets::spoil_at(self.set, pick(j, 11));
         let byte = wrapping_add_u8(spoil.base, pick(k, spoil.most));
         self.x = k;
@@ -104,7 +106,7 @@ impl Stream {
     }
 
     // "The script is left: left becomes 0 and row becomes stop."
-    fn leave(mut self) -> Self {
+    fn leave(mut self) -> Stream {
         self.left = 0;
         self.row = self.stop;
         self

@@ -14,7 +14,7 @@ use Rattle.base.specs.EveryLaws.{equal-at}
 use Rattle.base.specs.Bits.{digit}
 use Rattle.base.specs.Answers.{refusalOf, valueOf}
 use Rattle.base.specs.declared.Answer.{Answer}
-use Rattle.text.specs.Line.{numeral, decimal, capital, outputDigit, line}
+use Rattle.text.specs.Line.{letterA, numeral, decimal, capital, outputDigit, line}
 use Rattle.text.specs.DecimalLaws.{decimal-small, decimal-large, length-small, length-large}
 
 -- what holds of the numbers below ten, and of n where it holds of n / 10, holds of every number
@@ -115,9 +115,9 @@ unfolding capital
 capital-form d h =
     ⊎-elim
     (λ (t : ltb d 10 ≡ true).
-    let l : d < 10 = ltb-true d 10 t in rw (pick-true (ltb d 10) (48 + d) (55 + d) t) (omega arith, omega arith, λ k. omega arith))
+    let l : d < 10 = ltb-true d 10 t in rw (pick-true (ltb d 10) (numeral d) (letterA - 10 + d) t) (omega arith, omega arith, λ k. omega arith))
     (λ (f : ltb d 10 ≡ false).
-    let l : 10 ≤ d = ltb-false d 10 f in rw (pick-false (ltb d 10) (48 + d) (55 + d) f) (omega arith, omega arith, λ k. omega arith))
+    let l : 10 ≤ d = ltb-false d 10 f in rw (pick-false (ltb d 10) (numeral d) (letterA - 10 + d) f) (omega arith, omega arith, λ k. omega arith))
     (either-way (ltb d 10))
 
 -- three capitals denote the value, which document 01 keeps to three digits

@@ -1,5 +1,5 @@
 -- A line of the listing, as the bytes of its text.
-use Prim.Native.Nat.{ℕ, zero, suc, _+_, _/_, _%_, _≤_}
+use Prim.Native.Nat.{ℕ, zero, suc, _+_, _-_, _/_, _%_, _≤_}
 use mathlib.Core.Bool.{Bool}
 use mathlib.Core.List.{List, [], _∷_, _++_}
 use mathlib.Core.Path.{_≡_}
@@ -16,6 +16,10 @@ space = 32
 abbrev pub newline : ℕ
 newline = 10
 
+-- the letter A
+abbrev pub letterA : ℕ
+letterA = 65
+
 -- a digit below ten as a byte of text
 abbrev pub numeral : ℕ → ℕ
 numeral d = 48 + d
@@ -31,11 +35,11 @@ decimal n = digitsWithin n n
 
 -- a digit below sixteen, 0 to 9 and then A to F
 unfoldable pub capital : ℕ → ℕ
-capital d = pick (ltb d 10) (48 + d) (55 + d)
+capital d = pick (ltb d 10) (numeral d) (letterA - 10 + d)
 
 -- the output as a digit
 unfoldable pub outputDigit : Bool → ℕ
-outputDigit o = pick o 49 48
+outputDigit o = pick o (numeral 1) (numeral 0)
 
 -- what follows the refusal number
 abbrev pub ending : ℕ → Bool → List ℕ

@@ -3,4 +3,5 @@ mod lines;
 mod numbers;
 
 pub use lines::put_after;
+pub use numbers::capital;
 pub use numbers::put_front;

@@ -1,5 +1,6 @@
 // What of a line stands behind the digits before its number's last; and the line.
-use crate::numbers::places;
+use crate::numbers::capital;
+use crate::numbers::digit_count;
 use crate::numbers::put_byte;
 use crate::numbers::put_bytes;
 use crate::numbers::wide;
@@ -10,21 +11,10 @@ ghost use lib.Dec.{leb};
 ghost use lib.ListN.{length};
 ghost use lib.Seq.{sets};
 ghost use Rattle.text.specs.Line.{decimal, ending, outputDigit, Put};
-ghost use Rattle.text.specs.Line.{capital as Line·capital};
 ghost use Rattle.text.specs.Front.{lineAfter, rest};
 
 // No more bytes follow the digits before the last: the last, 3 of a refusal, and 8 more.
 const REST: usize = 12;
-
-fn capital(digit: u16) -> u8
-    requires { ⌜ digit < 16 ⌝ }
-    ensures { λ r. ⌜ r ≡ Line·capital digit ⌝ }
-{
-    if digit < 10 {
-        return 48 + (digit % 16) as u8;
-    }
-    55 + (digit % 16) as u8
-}
 
 fn output_digit(output: bool) -> u8
     ensures { λ r. ⌜ r ≡ outputDigit output ⌝ }
@@ -37,10 +27,11 @@ fn put_ending(out: &mut [u8], at: usize, value: u16, output: bool) -> usize
     requires { ⌜ at + 7 ≤ length (now out) ⌝ }
     ensures { λ r. ⌜ (r ≡ at + 7) × (now (out .exit) ≡ sets (now (out .entry)) at (ending value output)) ⌝ }
 {
+    let digits = value as u32;
     out[at] = b' ';
-    out[at + 1] = capital(value / 256 % 16);
-    out[at + 2] = capital(value / 16 % 16);
-    out[at + 3] = capital(value % 16);
+    out[at + 1] = capital(digits / 256);
+    out[at + 2] = capital(digits / 16);
+    out[at + 3] = capital(digits);
     out[at + 4] = b' ';
     out[at + 5] = output_digit(output);
     out[at + 6] = b'\n';
@@ -77,7 +68,7 @@ fn holds(room: usize, digits: usize, refusal: u8) -> bool
     if REST <= room - digits {
         return true;
     }
-    places(wide(refusal)) + 9 <= room - digits
+    digit_count(wide(refusal)) + 9 <= room - digits
 }
 
 // Puts a line whose number has the digits `front` before the last of n at `at`, and answers the place after it. Where it does

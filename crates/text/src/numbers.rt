@@ -1,23 +1,35 @@
-// Numbers in decimal, put into a lent buffer.
+// Numbers as digits: in decimal, put into a lent buffer; and a hexadecimal digit.
 ghost use mathlib.Core.Path.{_≡_};
-ghost use Prim.Native.Nat.{_+_, _≤_};
+ghost use Prim.Native.Nat.{_+_, _%_, _≤_};
 ghost use lib.ListN.{length};
 ghost use lib.Seq.{sets};
 ghost use Rattle.text.specs.Line.{decimal};
+ghost use Rattle.text.specs.Line.{capital as Line·capital};
 ghost use Rattle.text.specs.Front.{front};
 
+// The last hexadecimal digit of a number, a capital from ten on.
+pub fn capital(number: u32) -> u8
+    ensures { λ r. ⌜ r ≡ Line·capital (number % 16) ⌝ }
+{
+    let digit = (number % 16) as u8;
+    if digit < 10 {
+        return b'0' + digit;
+    }
+    b'A' - 10 + digit
+}
+
 // The number of decimal digits.
-pub(crate) fn places(n: u64) -> usize
+pub(crate) fn digit_count(n: u64) -> usize
     ensures { λ r. ⌜ r ≡ length (decimal n) ⌝ }
 {
     if n < 10 {
         return 1;
     }
-    places(n / 10) + 1
+    digit_count(n / 10) + 1
 }
 
 // Puts n in decimal at `at`, and answers the place after it.
-pub(crate) fn put_decimal(out: &mut [u8], at: usize, n: u64) -> usize
+fn put_decimal(out: &mut [u8], at: usize, n: u64) -> usize
     requires { ⌜ at + length (decimal n) ≤ length (now out) ⌝ }
     ensures { λ r. ⌜ (r ≡ at + length (decimal n)) × (now (out .exit) ≡ sets (now (out .entry)) at (decimal n)) ⌝ }
 {

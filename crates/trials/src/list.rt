@@ -3,7 +3,7 @@
 pub(crate) const STREAMS: usize = 16;
 
 // "Sixteen streams: seed, count, set, start." The first four are short, so that a fault in every event shows at once.
-pub(crate) const LIST: [[u64; 4]; 16] = [
+pub(crate) const LIST: [[u64; 4]; STREAMS] = [
     [1, 1000, 0, 0],
     [2, 1000, 0, 0],
     [3, 1000, 0, 0],

@@ -13,40 +13,17 @@ mod runs;
 
 const LAST_SEED: u64 = 4294967295;
 
-const CAPITALS: [u8; 16] = [
-    b'0',
-    b'1',
-    b'2',
-    b'3',
-    b'4',
-    b'5',
-    b'6',
-    b'7',
-    b'8',
-    b'9',
-    b'A',
-    b'B',
-    b'C',
-    b'D',
-    b'E',
-    b'F',
-];
-
-fn capital(value: u32) -> u8 {
-    CAPITALS[(value % 16) as usize]
-}
-
 fn print_digest(digest: u32) {
     let end = [
         b' ',
-        capital(digest / 0x1000_0000),
-        capital(digest / 0x100_0000),
-        capital(digest / 0x10_0000),
-        capital(digest / 0x1_0000),
-        capital(digest / 0x1000),
-        capital(digest / 0x100),
-        capital(digest / 0x10),
-        capital(digest),
+        text::capital(digest / 0x1000_0000),
+        text::capital(digest / 0x100_0000),
+        text::capital(digest / 0x10_0000),
+        text::capital(digest / 0x1_0000),
+        text::capital(digest / 0x1000),
+        text::capital(digest / 0x100),
+        text::capital(digest / 0x10),
+        text::capital(digest),
         b'\n',
     ];
     io::write_all(STDOUT_FILENO, &end);
@@ -92,16 +69,16 @@ fn run_list() {
 }
 
 fn run_asked(words: usize) {
-    let Number::Whole(seed) = numbers::argument(1) else {
+    let Number::Whole(seed) = numbers::argument(1, words) else {
         return usage();
     };
-    let Number::Whole(count) = numbers::argument(2) else {
+    let Number::Whole(count) = numbers::argument(2, words) else {
         return usage();
     };
-    let Number::Whole(set) = numbers::optional(3, words) else {
+    let Number::Whole(set) = numbers::argument(3, words) else {
         return usage();
     };
-    let Number::Whole(start) = numbers::optional(4, words) else {
+    let Number::Whole(start) = numbers::argument(4, words) else {
         return usage();
     };
     run(seed, count, set, start);

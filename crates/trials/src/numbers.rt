@@ -29,16 +29,12 @@ fn decimal(text: &[u8]) -> Number {
     Number::Whole(n)
 }
 
-pub(crate) fn argument(i: usize) -> Number {
-    let mut text = [0u8; 20];
-    let n = os::arg(i, &mut text);
-    decimal(&text[..n])
-}
-
-// One that may be left out, and is 0 then. The words are those of the command line, the program's name among them.
-pub(crate) fn optional(i: usize, words: usize) -> Number {
+// One that is left out is 0. The words are those of the command line, the program's name among them.
+pub(crate) fn argument(i: usize, words: usize) -> Number {
     if words <= i {
         return Number::Whole(0);
     }
-    argument(i)
+    let mut text = [0u8; 20];
+    let n = os::arg(i, &mut text);
+    decimal(&text[..n])
 }

@@ -6,12 +6,12 @@ use records::Event;
 use streams::Stream;
 
 // "for line 8 it is refusal 1 and answer FFF": one line more than there are.
-const LINES: u8 = 9;
+const ASKED_LINES: u8 = 9;
 
 // What is seen after an event: refusal, answer and output, and "for each line 0 to 8 in order, its place in turn".
 fn add_seen(digest: u32, answer: Answer, controller: Controller) -> u32 {
     let mut sum = streams::add(digest, streams::outcome_mark(answer, controller.output()));
-    for line in 0..LINES {
+    for line in 0..ASKED_LINES {
         sum = streams::add(sum, streams::place_mark(controller.place(line)));
     }
     sum

@@ -22,7 +22,7 @@ use Rattle.controller.specs.RefusalLaws.{step-levels, read-keeps}
 use Rattle.controller.specs.Steps.{step}
 use Rattle.controller.specs.declared.Controller.{Controller}
 use Rattle.controller.specs.declared.Setup.{Setup}
-use Rattle.controller.specs.declared.Stepped.{Stepped}
+use Rattle.controller.specs.declared.Signalled.{Signalled}
 use Rattle.controller.specs.declared.Turn.the-variants.{Line}
 use Rattle.turn.specs.Runs.{after, answers}
 use Rattle.turn.specs.Waiting.{Start, word, paid, Names, Waits}
@@ -49,13 +49,13 @@ module _ (t v : ℕ) (s : Setup) (up : ready s ≡ true) (lt : t < 8) (c : Contr
 
   told : (g : ℕ) → granted c ≡ Line g → Run s t v (Vector (vector s g) ∷ answers (grant c g) rest) → Run s t v (answers c (acknowledge ∷ rest))
   told g e r =
-      subst (λ (x : Stepped). Run s t v (x .answer ∷ answers (x .controller) rest)) (sym (granted-step g e))
+      subst (λ (x : Signalled). Run s t v (x .answer ∷ answers (x .controller) rest)) (sym (granted-step g e))
       (subst (λ (x : Setup). Run s t v (Vector (vector x g) ∷ answers (grant c g) rest)) (sym (k .same)) r)
 
   waits-on : (g : ℕ) → granted c ≡ Line g → Waits t (not (c .setup .automatic)) (after c acknowledge) rest → Waits t (not (s .automatic)) (grant c g) rest
   waits-on g e z =
       subst (λ (x : Setup). Waits t (not (x .automatic)) (grant c g) rest) (k .same)
-      (subst (λ (x : Stepped). Waits t (not (c .setup .automatic)) (x .controller) rest) (granted-step g e) z)
+      (subst (λ (x : Signalled). Waits t (not (c .setup .automatic)) (x .controller) rest) (granted-step g e) z)
 
   its-own : (g : ℕ) → granted c ≡ Line g → g ≡ t → Run s t v (answers c (acknowledge ∷ rest))
   its-own g e z =

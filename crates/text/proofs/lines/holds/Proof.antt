@@ -24,8 +24,8 @@ returns-2 c =
 wide-requires : tie.Need-wide-requires
 wide-requires c κs = search needs
 
-places-requires : tie.Need-places-requires
-places-requires c κs = search needs
+digit-count-requires : tie.Need-digit-count-requires
+digit-count-requires c κs = search needs
 
 add-result : tie.Need-add-result
 add-result c =
@@ -34,9 +34,9 @@ add-result c =
 returns-3 : tie.Need-returns-3
 returns-3 c =
     let a = c .before .before .before .before .args in
-    let size : a .digits + (c .places .result + 9) ≡ a .digits + length (decimal (a .refusal)) + 9 =
-    omega (arith, c .places .ensures, ap (λ (x : ℕ). length (decimal x)) (c .before .wide .ensures)) in
-    room-left (a .digits) (c .places .result + 9) (a .room) (omega arith) ∙ ap (λ (m : ℕ). leb m (a .room)) size
+    let size : a .digits + (c .digit-count .result + 9) ≡ a .digits + length (decimal (a .refusal)) + 9 =
+    omega (arith, c .digit-count .ensures, ap (λ (x : ℕ). length (decimal x)) (c .before .wide .ensures)) in
+    room-left (a .digits) (c .digit-count .result + 9) (a .room) (omega arith) ∙ ap (λ (m : ℕ). leb m (a .room)) size
 
 pub holds-spec : {M : Type 1} → statement M
 holds-spec =
@@ -45,6 +45,6 @@ holds-spec =
     returns
     returns-2
     wide-requires
-    places-requires
+    digit-count-requires
     add-result
     returns-3)

@@ -1,4 +1,4 @@
-// A row of the table, looked up and taken apart.
+// A row of the table taken apart to its columns.
 ghost use Prim.Native.Nat.{_<_};
 
 pub(crate) struct Row {
@@ -16,11 +16,11 @@ pub(crate) struct Row {
 pub(crate) fn row_at(rows: &[u64], at: u16) -> Row
     ensures { λ r. ⌜ r .times < 128 ⌝ }
 {
-    let place = at as usize;
-    if rows.len() <= place {
+    let i = at as usize;
+    if rows.len() <= i {
         return unpacked(0);
     }
-    unpacked(rows[place])
+    unpacked(rows[i])
 }
 
 fn unpacked(packed: u64) -> Row

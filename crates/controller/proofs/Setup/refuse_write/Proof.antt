@@ -2,8 +2,8 @@ use Rattle.base.specs.PickLaws.{pick-true, pick-false}
 use borrow.Author.Tests.{le-ltb, lt-ltb}
 use Rattle.controller.specs.RefusalLaws.{refusal-by-grounds}
 use borrow.Author.Needs.{needs}
-use Rattle.controller.proofs.Setup.write_refusal.Statement.{statement}
-use Rattle.controller.proofs.Setup.write_refusal.Tie as tie
+use Rattle.controller.proofs.Setup.refuse_write.Statement.{statement}
+use Rattle.controller.proofs.Setup.refuse_write.Tie as tie
 
 returns : tie.Need-returns
 returns c = simp (refusal-by-grounds, lt-ltb _ _ (c .if1 .taken), pick-true)
@@ -23,7 +23,7 @@ returns-3 c = simp (refusal-by-grounds, ← c .before .not-served .ensures, ← 
 returns-4 : tie.Need-returns-4
 returns-4 c = simp (refusal-by-grounds, ← c .before .not-served .ensures, ← c .before .before .before .not-ready .ensures, c .if3 .left, c .before .before .if2 .left, le-ltb _ _ (c .before .before .before .before .if1 .left), pick-false)
 
-pub write-refusal-spec : {M : Type 1} → statement M
-write-refusal-spec =
+pub refuse-write-spec : {M : Type 1} → statement M
+refuse-write-spec =
     tie.close
     (tie.spec returns not-ready-requires returns-2 not-served-requires returns-3 returns-4)
