@@ -6,36 +6,21 @@
 
 #include "hailstoat.h"
 
-/* The ports of the controller and the words that this software writes. */
-#define PORT_COMMAND 0
-#define PORT_DATA 1
-#define ICW1_SINGLE_EDGE 0x13
-#define ICW2_BASE 0x40
-#define ICW4_PC 0x01
-#define OCW2_END 0x20
+#if HAILSTOAT_VERSION / 10000 != 1
+#error "this software is for version 1 of the bench"
+#endif
 
-/* The registers of a seat, and the bits in use. */
-#define RBR 0
-#define DLL 0
-#define IER 1
-#define DLM 1
-#define FCR 2
-#define LCR 3
-#define MCR 4
-#define LSR 5
-#define LCR_8_BITS 0x03
-#define LCR_DIVISOR 0x80
-#define FCR_FIFO_TRIGGER_4 0x41
-#define MCR_LINE 0x08
-#define IER_DATA 0x01
-#define LSR_DATA 0x01
+/* The words that this software writes. */
+#define ICW1_EDGE (HAILSTOAT_ICW1 | HAILSTOAT_ICW1_SINGLE | HAILSTOAT_ICW1_ICW4)
+#define ICW2_BASE 0x40
+#define FIFO_OF_4 (HAILSTOAT_FCR_FIFO | HAILSTOAT_FCR_TRIGGER_4)
+#define READY_TO_RECEIVE (HAILSTOAT_MCR_DTR | HAILSTOAT_MCR_RTS | HAILSTOAT_MCR_OUT2)
 
 #define BAUD_9600 96000
-#define CLOCK_1_8432 0
 
 struct pupil {
     const char *name;
-    uint8_t seat;
+    uint32_t seat;
     const char *upload; /* what the pupil sends */
     size_t sent;
     char file[64]; /* what was filed under the pupil's name */
@@ -51,53 +36,53 @@ static struct pupil pupils[] = {
 #define PUPILS (sizeof pupils / sizeof pupils[0])
 
 /* Nothing that this software does is refused; it says so if something is. */
-static unsigned event(uint8_t kind, uint8_t seat, uint8_t number, uint8_t value)
+static uint64_t event(uint32_t kind, uint32_t seat, uint32_t number, uint8_t value)
 {
-    uint32_t word = hailstoat_event(&bench, kind, seat, number, value);
-    if (hailstoat_word_refusal(word) != 0)
-        printf("refusal %u\n", hailstoat_word_refusal(word));
-    return hailstoat_word_answer(word);
+    uint64_t word = hailstoat_event(&bench, kind, seat, number, value);
+    if (hailstoat_word_refusal(word) != HAILSTOAT_ACCEPTED)
+        printf("refused: %s\n", hailstoat_refusal_words(hailstoat_word_refusal(word)));
+    return word;
 }
 
-static unsigned in(uint8_t seat, uint8_t number)
+static uint8_t in(uint32_t seat, uint32_t number)
 {
-    return event(HAILSTOAT_READ_REGISTER, seat, number, 0);
+    return (uint8_t)hailstoat_word_answer(event(HAILSTOAT_READ_REGISTER, seat, number, 0));
 }
 
-static void out(uint8_t seat, uint8_t number, unsigned byte)
+static void out(uint32_t seat, uint32_t number, unsigned byte)
 {
     event(HAILSTOAT_WRITE_REGISTER, seat, number, (uint8_t)byte);
 }
 
-static void controller_out(uint8_t port, uint8_t byte)
+static void controller_out(uint32_t port, uint8_t byte)
 {
     event(HAILSTOAT_WRITE_CONTROLLER, 0, port, byte);
 }
 
 static void initialise_controller(void)
 {
-    controller_out(PORT_COMMAND, ICW1_SINGLE_EDGE);
-    controller_out(PORT_DATA, ICW2_BASE);
-    controller_out(PORT_DATA, ICW4_PC);
+    controller_out(HAILSTOAT_PORT_COMMAND, ICW1_EDGE);
+    controller_out(HAILSTOAT_PORT_MASK, ICW2_BASE);
+    controller_out(HAILSTOAT_PORT_MASK, HAILSTOAT_ICW4_8086);
 }
 
-static void set_up(uint8_t seat)
+static void set_up(uint32_t seat)
 {
-    unsigned divisor = hailstoat_word_answer(hailstoat_divisor(BAUD_9600, CLOCK_1_8432));
-    out(seat, LCR, LCR_DIVISOR | LCR_8_BITS);
-    out(seat, DLL, divisor % 256);
-    out(seat, DLM, divisor / 256);
-    out(seat, LCR, LCR_8_BITS);
-    out(seat, FCR, FCR_FIFO_TRIGGER_4);
-    out(seat, MCR, MCR_LINE);
-    out(seat, IER, IER_DATA);
-    printf("seat %u: 9600 baud, divisor %u\n", seat, divisor);
+    unsigned divisor = hailstoat_word_answer(hailstoat_divisor(BAUD_9600, HAILSTOAT_CLOCK_1_8432));
+    out(seat, HAILSTOAT_LCR, HAILSTOAT_LCR_DIVISOR | HAILSTOAT_LCR_8_BITS);
+    out(seat, HAILSTOAT_DLL, divisor % 256);
+    out(seat, HAILSTOAT_DLM, divisor / 256);
+    out(seat, HAILSTOAT_LCR, HAILSTOAT_LCR_8_BITS);
+    out(seat, HAILSTOAT_FCR, FIFO_OF_4);
+    out(seat, HAILSTOAT_MCR, READY_TO_RECEIVE);
+    out(seat, HAILSTOAT_IER, HAILSTOAT_IER_DATA);
+    printf("seat %u: 9600 baud, divisor %u\n", (unsigned)seat, divisor);
 }
 
 static struct pupil *pupil_of(unsigned vector)
 {
     for (size_t i = 0; i < PUPILS; i += 1)
-        if (vector == (unsigned)ICW2_BASE + pupils[i].seat)
+        if (vector == ICW2_BASE + pupils[i].seat)
             return &pupils[i];
     return NULL;
 }
@@ -105,18 +90,19 @@ static struct pupil *pupil_of(unsigned vector)
 /* The interrupt routine: what the seat holds is filed under the pupil whose vector it is. */
 static void take_interrupt(void)
 {
-    unsigned vector = event(HAILSTOAT_ACKNOWLEDGE, 0, 0, 0);
+    uint64_t word = event(HAILSTOAT_ACKNOWLEDGE, 0, 0, 0);
+    unsigned vector = hailstoat_word_vector(word);
     struct pupil *pupil = pupil_of(vector);
-    if (pupil == NULL) {
-        printf("vector %03X: nobody's\n", vector);
+    if (hailstoat_word_spurious(word) || pupil == NULL) {
+        printf("vector %02X: nobody's\n", vector);
         return;
     }
     size_t before = pupil->filed;
-    while ((in(pupil->seat, LSR) & LSR_DATA) != 0 && pupil->filed < sizeof pupil->file - 1)
-        pupil->file[pupil->filed++] = (char)in(pupil->seat, RBR);
-    printf("vector %03X: %u bytes for %s: \"%s\"\n", vector, (unsigned)(pupil->filed - before),
+    while ((in(pupil->seat, HAILSTOAT_LSR) & HAILSTOAT_LSR_DATA) != 0 && pupil->filed < sizeof pupil->file - 1)
+        pupil->file[pupil->filed++] = (char)in(pupil->seat, HAILSTOAT_RBR);
+    printf("vector %02X: %u bytes for %s: \"%s\"\n", vector, (unsigned)(pupil->filed - before),
            pupil->name, pupil->file + before);
-    controller_out(PORT_COMMAND, OCW2_END);
+    controller_out(HAILSTOAT_PORT_COMMAND, HAILSTOAT_OCW2_END);
 }
 
 static void serve(void)
@@ -125,10 +111,11 @@ static void serve(void)
         take_interrupt();
 }
 
-/* The outside: the next character of an upload comes in, and time passes for the seat. */
+/* The outside: while the seat asks for it, the next character of an upload comes in; and time passes for the seat. */
 static void upload_one(struct pupil *pupil)
 {
-    if (pupil->sent < strlen(pupil->upload))
+    unsigned outputs = hailstoat_word_answer(hailstoat_modem_outputs(&bench, pupil->seat));
+    if ((outputs & HAILSTOAT_MCR_RTS) != 0 && pupil->sent < strlen(pupil->upload))
         event(HAILSTOAT_ARRIVAL, pupil->seat, 0, (uint8_t)pupil->upload[pupil->sent++]);
     event(HAILSTOAT_CHARACTER_TIME, pupil->seat, 0, 0);
 }
@@ -149,7 +136,7 @@ static int compare(void)
     for (size_t i = 0; i < PUPILS; i += 1) {
         const struct pupil *pupil = &pupils[i];
         int right = strcmp(pupil->upload, pupil->file) == 0;
-        printf("filed under %s, seat %u: \"%s\", %s\n", pupil->name, pupil->seat, pupil->file,
+        printf("filed under %s, seat %u: \"%s\", %s\n", pupil->name, (unsigned)pupil->seat, pupil->file,
                right ? "as it was sent" : "NOT as it was sent");
         wrong |= !right;
     }
@@ -158,6 +145,10 @@ static int compare(void)
 
 int main(void)
 {
+    if (hailstoat_version() != HAILSTOAT_VERSION || hailstoat_size() != sizeof bench) {
+        printf("the header is of another version than the library\n");
+        return 2;
+    }
     hailstoat_power_up(&bench);
     initialise_controller();
     for (size_t i = 0; i < PUPILS; i += 1)

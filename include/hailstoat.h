@@ -3,9 +3,12 @@
    says how to link it.
 
    The caller holds the bench and lends it for the time of a call; the library
-   keeps nothing. Every call is proved to give exactly the answer and the bench
-   that document 01 asks, on every bench and for every number. Answers are
-   written in hexadecimal below, as there.
+   keeps nothing, so different benches may be used in different threads at the
+   same time. Every call is proved to give exactly the answer and the bench that
+   document 01 asks, on every bench and for every number: kind, seat, number,
+   line, rate and clock are 32 bits wide and tested as they are, so that seat 258
+   is refused and not taken for seat 2. Only the value of an event is a byte, as
+   on a port. Answers are written in hexadecimal below, as in document 01.
 
    What C cannot be promised, since no contract reaches so far:
    - a null pointer, or one to fewer than HAILSTOAT_BYTES bytes, is not
@@ -16,6 +19,7 @@
 #ifndef HAILSTOAT_H
 #define HAILSTOAT_H
 
+#include <stddef.h>
 #include <stdint.h>
 
 #ifdef __cplusplus
@@ -23,6 +27,10 @@ extern "C" {
 #else
 #include <stdbool.h>
 #endif
+
+/* 10000 times the major number, 100 times the minor, and the patch. The major
+   number changes where a program must be changed, or compiled again. */
+#define HAILSTOAT_VERSION 10000
 
 #define HAILSTOAT_SEATS 8
 #define HAILSTOAT_SLOTS 16
@@ -38,7 +46,7 @@ extern "C" {
    is the bench at power-up (in C++, = {}). The fields may be read and copied
    at will; events are the way to change them. */
 
-/* Marks are 1 parity, 2 framing, 4 break. */
+/* Marks as in HAILSTOAT_MARK_PARITY. */
 struct hailstoat_character {
     uint8_t data;
     uint8_t marks;
@@ -75,7 +83,7 @@ struct hailstoat_transmitter {
     bool flag; /* the holding-empty flag */
 };
 
-/* CTS, DSR, RI and DCD are bits 0 to 3 of both. */
+/* CTS, DSR, RI and DCD are bits 0 to 3 of both, as in HAILSTOAT_LEVEL_CTS. */
 struct hailstoat_modem {
     uint8_t levels;
     uint8_t changes; /* MSR bits 0 to 3 */
@@ -125,21 +133,38 @@ struct hailstoat_bench {
 
    A call that can be refused answers with one word: 01RRAAAA where the output
    is high and 00RRAAAA where it is low, RR the refusal number (0 for none) and
-   AAAA the answer, which is 0FFF in every refusal. */
+   AAAA the answer, which is 0FFF in every refusal. The upper half of its 64 bits
+   is 0: later versions may use it, so compare what the functions below give, and
+   not the word. */
 
-static inline unsigned hailstoat_word_answer(uint32_t word)
+static inline unsigned hailstoat_word_refusal(uint64_t word)
 {
-    return word & 0xFFFFu;
+    return (unsigned)(word >> 16 & 0xFFu);
 }
 
-static inline unsigned hailstoat_word_refusal(uint32_t word)
+/* Cut to a byte, the answer to a read is the byte that was read, and FF where
+   the read was refused, as on a bus where nobody answers. */
+static inline unsigned hailstoat_word_answer(uint64_t word)
 {
-    return word >> 16 & 0xFFu;
+    return (unsigned)(word & 0xFFFFu);
 }
 
-static inline unsigned hailstoat_word_output(uint32_t word)
+static inline unsigned hailstoat_word_output(uint64_t word)
 {
-    return word >> 24 & 1u;
+    return (unsigned)(word >> 24 & 1u);
+}
+
+/* Of an acknowledge that was not refused: its vector, spurious or not, and 1 if
+   it was spurious. The answer 147 is the vector 47, and spurious. A refused
+   acknowledge was not spurious. */
+static inline unsigned hailstoat_word_vector(uint64_t word)
+{
+    return hailstoat_word_answer(word) & 0xFFu;
+}
+
+static inline unsigned hailstoat_word_spurious(uint64_t word)
+{
+    return hailstoat_word_refusal(word) == 0 ? hailstoat_word_answer(word) >> 8 & 1u : 0u;
 }
 
 /* ---- events */
@@ -153,32 +178,185 @@ enum hailstoat_kind {
     HAILSTOAT_MASTER_RESET = 5, /* none: 000 */
     HAILSTOAT_READ_CONTROLLER = 6, /* -, port: the byte */
     HAILSTOAT_WRITE_CONTROLLER = 7, /* -, port, byte: 000 */
-    HAILSTOAT_ACKNOWLEDGE = 8 /* none: the vector; 100 + vector if spurious */
+    HAILSTOAT_ACKNOWLEDGE = 8, /* none: the vector; 100 + vector if spurious */
 };
 
 enum hailstoat_refusal {
     HAILSTOAT_ACCEPTED = 0,
-    HAILSTOAT_SEAT_ABOVE = 1, /* seat (or line) above 7 */
-    HAILSTOAT_NUMBER_ABOVE = 2, /* register above 7, port above 1 */
-    HAILSTOAT_KIND_ABOVE = 3, /* kind above 8 */
-    HAILSTOAT_NO_DIVISOR = 5, /* arrival or character time while the divisor is 0 */
-    HAILSTOAT_ARRIVAL_WRONG = 6, /* marks above 7; data not within the word length;
-                                    parity mark with parity off; break with data not 0 */
-    HAILSTOAT_LEVELS_ABOVE = 7, /* modem levels above 15 */
-    HAILSTOAT_NOT_READY = 8, /* controller not ready */
+    HAILSTOAT_SEAT_ABOVE = 1,
+    HAILSTOAT_NUMBER_ABOVE = 2,
+    HAILSTOAT_KIND_ABOVE = 3,
+    HAILSTOAT_SHORT = 4, /* of records alone */
+    HAILSTOAT_NO_DIVISOR = 5,
+    HAILSTOAT_BAD_ARRIVAL = 6, /* marks above 7; data not within the word length;
+                                  parity mark with parity off; break with data not 0 */
+    HAILSTOAT_LEVELS_ABOVE = 7,
+    HAILSTOAT_NOT_READY = 8, /* any read, an acknowledge, a port 0 write without bit 4,
+                                or a port 1 write before any accepted ICW1 */
     HAILSTOAT_NOT_SERVED = 9, /* ICW1 with bit 0 or bit 1 clear; ICW4 with bit 0 clear;
                                  OCW3 with bit 2 set; MCR write with bit 4 set */
-    HAILSTOAT_NOT_LISTED = 10 /* rate or clock not in the divisor list */
+    HAILSTOAT_NOT_LISTED = 10, /* of hailstoat_divisor alone */
 };
 
-/* One event: kind, seat, number, value. Bytes that a kind does not use are not
-   looked at. An event touches the one seat it names, or the controller; a
-   master reset touches all eight seats. Line changes reach the controller's
-   latches in the same event. The word has the refusal, the answer, and the
-   output after the event. In a refusal nothing changes. Refusal 4, of a record
-   cut short, has no place here, nor has 10. */
-uint32_t hailstoat_event(struct hailstoat_bench *bench, uint8_t kind, uint8_t seat,
-                         uint8_t number, uint8_t value);
+/* A refusal in words, for a log. */
+static inline const char *hailstoat_refusal_words(unsigned refusal)
+{
+    switch (refusal) {
+    case HAILSTOAT_ACCEPTED: return "accepted";
+    case HAILSTOAT_SEAT_ABOVE: return "seat or line above 7";
+    case HAILSTOAT_NUMBER_ABOVE: return "register above 7, port above 1";
+    case HAILSTOAT_KIND_ABOVE: return "kind above 8";
+    case HAILSTOAT_SHORT: return "record cut off at the end";
+    case HAILSTOAT_NO_DIVISOR: return "arrival or character time while the divisor is 0";
+    case HAILSTOAT_BAD_ARRIVAL: return "a character that cannot arrive so";
+    case HAILSTOAT_LEVELS_ABOVE: return "modem levels above 15";
+    case HAILSTOAT_NOT_READY: return "controller not ready";
+    case HAILSTOAT_NOT_SERVED: return "not served (loopback, cascaded controllers, 8080 mode, poll)";
+    case HAILSTOAT_NOT_LISTED: return "rate or clock not in the divisor list";
+    default: return "no refusal that this header knows";
+    }
+}
+
+/* Other answers than a byte, a vector, a place or a divisor. */
+#define HAILSTOAT_IDLE 0x100 /* of a character time: nothing was sent */
+#define HAILSTOAT_BREAK 0x200 /* of a character time: a break was sent */
+#define HAILSTOAT_REFUSED 0xFFF
+
+/* ---- the numbers of events */
+
+/* Registers. Where two share a number, the first is read and the second written;
+   DLL and DLM are there, both ways, while LCR_DIVISOR is set. */
+enum hailstoat_register {
+    HAILSTOAT_RBR = 0,
+    HAILSTOAT_THR = 0,
+    HAILSTOAT_IER = 1,
+    HAILSTOAT_IIR = 2,
+    HAILSTOAT_FCR = 2,
+    HAILSTOAT_LCR = 3,
+    HAILSTOAT_MCR = 4,
+    HAILSTOAT_LSR = 5,
+    HAILSTOAT_MSR = 6,
+    HAILSTOAT_SCRATCH = 7,
+    HAILSTOAT_DLL = 0,
+    HAILSTOAT_DLM = 1,
+};
+
+/* The controller's ports. */
+enum hailstoat_port {
+    HAILSTOAT_PORT_COMMAND = 0, /* ICW1, OCW2 and OCW3; reads requests or in-service */
+    HAILSTOAT_PORT_MASK = 1, /* ICW2 and ICW4; the mask, both ways, once it is ready */
+};
+
+/* The marks of an arrival. */
+#define HAILSTOAT_MARK_PARITY 0x01
+#define HAILSTOAT_MARK_FRAMING 0x02
+#define HAILSTOAT_MARK_BREAK 0x04
+
+/* ---- the bits of registers; those without a name are read back, or are 0, and
+   do nothing else */
+
+/* IER: the causes that are let through. */
+#define HAILSTOAT_IER_DATA 0x01
+#define HAILSTOAT_IER_HOLDING_EMPTY 0x02
+#define HAILSTOAT_IER_LINE_STATUS 0x04
+#define HAILSTOAT_IER_MODEM 0x08
+
+/* IIR: the first cause; in FIFO mode IIR_FIFO is added. */
+#define HAILSTOAT_IIR_NONE 0x01
+#define HAILSTOAT_IIR_LINE_STATUS 0x06
+#define HAILSTOAT_IIR_DATA 0x04
+#define HAILSTOAT_IIR_TIMEOUT 0x0C
+#define HAILSTOAT_IIR_HOLDING_EMPTY 0x02
+#define HAILSTOAT_IIR_MODEM 0x00
+#define HAILSTOAT_IIR_FIFO 0xC0
+
+#define HAILSTOAT_FCR_FIFO 0x01
+#define HAILSTOAT_FCR_EMPTY_RECEIVE 0x02
+#define HAILSTOAT_FCR_EMPTY_TRANSMIT 0x04
+#define HAILSTOAT_FCR_TRIGGER_1 0x00
+#define HAILSTOAT_FCR_TRIGGER_4 0x40
+#define HAILSTOAT_FCR_TRIGGER_8 0x80
+#define HAILSTOAT_FCR_TRIGGER_14 0xC0
+
+#define HAILSTOAT_LCR_5_BITS 0x00
+#define HAILSTOAT_LCR_6_BITS 0x01
+#define HAILSTOAT_LCR_7_BITS 0x02
+#define HAILSTOAT_LCR_8_BITS 0x03
+#define HAILSTOAT_LCR_PARITY 0x08
+#define HAILSTOAT_LCR_BREAK 0x40
+#define HAILSTOAT_LCR_DIVISOR 0x80
+
+/* MCR; the first four are the answer of hailstoat_modem_outputs too. */
+#define HAILSTOAT_MCR_DTR 0x01
+#define HAILSTOAT_MCR_RTS 0x02
+#define HAILSTOAT_MCR_OUT1 0x04
+#define HAILSTOAT_MCR_OUT2 0x08 /* lets the seat's line through */
+#define HAILSTOAT_MCR_LOOP 0x10 /* refused: not served */
+
+#define HAILSTOAT_LSR_DATA 0x01
+#define HAILSTOAT_LSR_OVERRUN 0x02
+#define HAILSTOAT_LSR_PARITY 0x04
+#define HAILSTOAT_LSR_FRAMING 0x08
+#define HAILSTOAT_LSR_BREAK 0x10
+#define HAILSTOAT_LSR_HOLDING_EMPTY 0x20 /* the transmit queue is empty */
+#define HAILSTOAT_LSR_EMPTY 0x40 /* and so is the shift register */
+#define HAILSTOAT_LSR_MARKED 0x80 /* in FIFO mode: some queued character has a mark */
+
+#define HAILSTOAT_MSR_CTS_CHANGED 0x01
+#define HAILSTOAT_MSR_DSR_CHANGED 0x02
+#define HAILSTOAT_MSR_RI_ENDED 0x04
+#define HAILSTOAT_MSR_DCD_CHANGED 0x08
+#define HAILSTOAT_MSR_CTS 0x10
+#define HAILSTOAT_MSR_DSR 0x20
+#define HAILSTOAT_MSR_RI 0x40
+#define HAILSTOAT_MSR_DCD 0x80
+
+/* The levels of HAILSTOAT_MODEM_INPUTS: set is active. */
+#define HAILSTOAT_LEVEL_CTS 0x01
+#define HAILSTOAT_LEVEL_DSR 0x02
+#define HAILSTOAT_LEVEL_RI 0x04
+#define HAILSTOAT_LEVEL_DCD 0x08
+
+/* ---- the controller's words */
+
+/* At the command port ICW1, then at the mask port ICW2, whose top five bits are
+   the base, and ICW4. ICW1_SINGLE, ICW1_ICW4 and ICW4_8086 must be set. */
+#define HAILSTOAT_ICW1 0x10
+#define HAILSTOAT_ICW1_ICW4 0x01
+#define HAILSTOAT_ICW1_SINGLE 0x02
+#define HAILSTOAT_ICW1_LEVEL 0x08
+#define HAILSTOAT_ICW4_8086 0x01
+#define HAILSTOAT_ICW4_AUTOMATIC 0x02
+
+/* OCW2, at the command port; with the number of a line added where LINE or LAST
+   is in the name. */
+#define HAILSTOAT_OCW2_END 0x20
+#define HAILSTOAT_OCW2_END_ROTATING 0xA0
+#define HAILSTOAT_OCW2_END_LINE 0x60
+#define HAILSTOAT_OCW2_END_LINE_ROTATING 0xE0
+#define HAILSTOAT_OCW2_MAKE_LAST 0xC0
+#define HAILSTOAT_OCW2_ROTATION_ON 0x80
+#define HAILSTOAT_OCW2_ROTATION_OFF 0x00
+
+/* OCW3, at the command port: special mask on is OCW3 | OCW3_SETS_SPECIAL |
+   OCW3_SPECIAL, off the same without OCW3_SPECIAL; OCW3 | OCW3_SELECTS selects
+   requests for reads, with OCW3_SERVICE in-service. */
+#define HAILSTOAT_OCW3 0x08
+#define HAILSTOAT_OCW3_SERVICE 0x01
+#define HAILSTOAT_OCW3_SELECTS 0x02
+#define HAILSTOAT_OCW3_POLL 0x04 /* refused: not served */
+#define HAILSTOAT_OCW3_SPECIAL 0x20
+#define HAILSTOAT_OCW3_SETS_SPECIAL 0x40
+
+/* ---- calls */
+
+/* One event: kind, seat, number, value. What a kind does not use is not looked
+   at. An event touches the one seat it names, or the controller; a master reset
+   touches all eight seats. Line changes reach the controller's latches in the
+   same event. The word has the refusal, the answer, and the output after the
+   event. In a refusal nothing changes. */
+uint64_t hailstoat_event(struct hailstoat_bench *bench, uint32_t kind, uint32_t seat,
+                         uint32_t number, uint8_t value);
 
 /* Power-up: all registers, divisor, scratch, modem inputs, flags, marks and
    counts 0, queues and shift register empty; the controller not ready, all 0,
@@ -189,26 +367,41 @@ void hailstoat_power_up(struct hailstoat_bench *bench);
 
 /* A line's place in turn: the number of lines ranked above it. Line above 7
    gives refusal 1. The word's output is 0: no event has passed. */
-uint32_t hailstoat_place(const struct hailstoat_bench *bench, uint8_t line);
+uint64_t hailstoat_place(const struct hailstoat_bench *bench, uint32_t line);
+
+/* The modem outputs of a seat, HAILSTOAT_MCR_DTR to HAILSTOAT_MCR_OUT2: an output
+   is active where its bit of MCR is set. Seat above 7 gives refusal 1. The word's
+   output is 0. */
+uint64_t hailstoat_modem_outputs(const struct hailstoat_bench *bench, uint32_t seat);
 
 /* 1 if the controller's output is high, else 0: high exactly if the controller
    is ready and some line is grantable. */
 uint8_t hailstoat_output(const struct hailstoat_bench *bench);
 
-/* The divisor list: the divisor for a rate in tenths of a baud at the clock 0
-   (1.8432 MHz), 1 (2.4576 MHz) or 2 (3.072 MHz). A rate or clock not in the
-   list gives refusal 10. The word's output is 0. */
-uint32_t hailstoat_divisor(uint32_t rate, uint8_t clock);
+enum hailstoat_clock {
+    HAILSTOAT_CLOCK_1_8432 = 0, /* MHz */
+    HAILSTOAT_CLOCK_2_4576 = 1,
+    HAILSTOAT_CLOCK_3_072 = 2,
+};
+
+/* The divisor list: the divisor for a rate in tenths of a baud at a clock. A rate
+   or clock not in the list gives refusal 10. The word's output is 0. */
+uint64_t hailstoat_divisor(uint32_t rate, uint32_t clock);
+
+/* The version of the library, to compare with HAILSTOAT_VERSION at the start. */
+uint32_t hailstoat_version(void);
 
 /* The bytes of the bench that the library was built for. Where it is not
    sizeof (struct hailstoat_bench), this header is another version's. */
-uint32_t hailstoat_size(void);
+size_t hailstoat_size(void);
 
 #ifdef __cplusplus
 }
 static_assert(sizeof(hailstoat_bench) == HAILSTOAT_BYTES, "the bench has no padding");
 #elif defined __STDC_VERSION__ && __STDC_VERSION__ >= 201112L
 _Static_assert(sizeof(struct hailstoat_bench) == HAILSTOAT_BYTES, "the bench has no padding");
+#else
+typedef char hailstoat_bench_has_no_padding[sizeof(struct hailstoat_bench) == HAILSTOAT_BYTES ? 1 : -1];
 #endif
 
 #endif

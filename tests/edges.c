@@ -3,8 +3,6 @@
 
 #include <string.h>
 
-#define REFUSED_ANSWER 0xFFFU
-
 /* From power-up: divisor 1 with five bits and no parity, with eight bits, with
    eight bits and parity; a controller after ICW2, and one that is ready. */
 #define FIVE_BITS {{1, 0, 3, 0x80}, {1, 0, 0, 1}, {1, 0, 3, 0x00}}, 3
@@ -16,6 +14,11 @@
 
 const struct edge edge_list[] = {
     {"read: seat 7, 8", POWER_UP, {0, 7, 5, 0}, {0, 8, 5, 0}, 1},
+    {"read: seat 2, 258", POWER_UP, {0, 2, 5, 0}, {0, 258, 5, 0}, 1},
+    {"read: register 5, 261", POWER_UP, {0, 2, 5, 0}, {0, 2, 261, 0}, 2},
+    {"kind 5, 261", POWER_UP, {5, 0, 0, 0}, {261, 0, 0, 0}, 3},
+    {"arrival: marks 0, 256", FIVE_BITS, {2, 0, 0, 1}, {2, 0, 256, 1}, 6},
+    {"read controller: port 1, 257", READY, {6, 0, 1, 0}, {6, 0, 257, 0}, 2},
     {"write: seat 7, 255", POWER_UP, {1, 7, 7, 1}, {1, 255, 7, 1}, 1},
     {"modem inputs: seat 7, 8", POWER_UP, {3, 7, 0, 1}, {3, 8, 0, 1}, 1},
     {"arrival: seat 0, 8", FIVE_BITS, {2, 0, 0, 1}, {2, 8, 0, 1}, 1},
@@ -48,7 +51,7 @@ const struct edge edge_list[] = {
 };
 const size_t edge_count = sizeof edge_list / sizeof edge_list[0];
 
-static uint32_t play(struct hailstoat_bench *bench, struct step step)
+static uint64_t play(struct hailstoat_bench *bench, struct step step)
 {
     return hailstoat_event(bench, step.kind, step.seat, step.number, step.value);
 }
@@ -60,7 +63,7 @@ int edge_holds(const struct edge *edge)
         if (hailstoat_word_refusal(play(&bench, edge->steps[i])) != 0)
             return 0;
     struct hailstoat_bench before = bench;
-    uint32_t word = play(&bench, edge->past);
-    return hailstoat_word_refusal(word) == edge->refusal && hailstoat_word_answer(word) == REFUSED_ANSWER
-        && memcmp(&before, &bench, sizeof bench) == 0 && hailstoat_word_refusal(play(&bench, edge->within)) == 0;
+    uint64_t word = play(&bench, edge->past);
+    return hailstoat_word_refusal(word) == edge->refusal && hailstoat_word_answer(word) == HAILSTOAT_REFUSED
+        && (uint8_t)hailstoat_word_answer(word) == 0xFF && memcmp(&before, &bench, sizeof bench) == 0 && hailstoat_word_refusal(play(&bench, edge->within)) == 0;
 }

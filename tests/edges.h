@@ -6,9 +6,9 @@
 #include "hailstoat.h"
 
 struct step {
-    uint8_t kind;
-    uint8_t seat;
-    uint8_t number;
+    uint32_t kind;
+    uint32_t seat;
+    uint32_t number;
     uint8_t value;
 };
 

@@ -3,33 +3,29 @@
    refusal, answer). Prints one line for each test; stops at the first that
    fails. */
 #include <stdio.h>
-#include <stdlib.h>
 #include <string.h>
 
+#include "compare.h"
 #include "edges.h"
-#include "fields.h"
-#include "hailstoat.h"
-
-#include "bench.h"
+#include "names.h"
 #include "stream.h"
+#include "threads.h"
+#include "wide.h"
 
 #define EVENTS_EACH 200000UL
-#define LINES_ASKED 9U /* one past the last */
 
 static const uint32_t seeds[] = {1, 2, 3, 20261115, 4294967295};
 #define SEEDS (sizeof seeds / sizeof seeds[0])
 
-static void fail(const char *what)
+/* That library and header are one version. */
+static void version_and_size(void)
 {
-    fprintf(stderr, "tests/embed: %s\n", what);
-    exit(1);
-}
-
-static void sizes(void)
-{
+    if (hailstoat_version() != HAILSTOAT_VERSION)
+        fail("hailstoat_version() is not HAILSTOAT_VERSION");
     if (hailstoat_size() != sizeof(struct hailstoat_bench))
         fail("hailstoat_size() is not sizeof (struct hailstoat_bench)");
-    printf("size: %u bytes, in the library and in the header\n", (unsigned)hailstoat_size());
+    printf("version %lu, size %zu bytes, in the library and in the header\n", (unsigned long)hailstoat_version(),
+           hailstoat_size());
 }
 
 /* Whatever has happened to a bench, power-up leaves every byte 0. */
@@ -40,7 +36,7 @@ static void power_up(void)
     struct stream stream = stream_begin(7, 0);
     for (unsigned i = 0; i < 1000; i += 1) {
         struct event e = stream_next(&stream);
-        hailstoat_event(&bench, (uint8_t)e.kind, (uint8_t)e.seat, (uint8_t)e.number, (uint8_t)e.value);
+        hailstoat_event(&bench, e.kind, e.seat, e.number, (uint8_t)e.value);
     }
     if (memcmp(&bench, &zero, sizeof bench) == 0)
         fail("a thousand events leave the bench zero");
@@ -50,58 +46,19 @@ static void power_up(void)
     printf("power-up: every byte is 0\n");
 }
 
-static void differs(uint32_t seed, unsigned long at, const char *what, struct event e)
-{
-    fprintf(stderr, "seed %lu, event %lu (%02X %02X %02X %02X): ", (unsigned long)seed, at, e.kind, e.seat, e.number,
-            e.value);
-    fail(what);
-}
-
-static int told(uint32_t word, struct outcome outcome, unsigned output)
-{
-    return hailstoat_word_refusal(word) == (unsigned)outcome.refusal
-        && hailstoat_word_answer(word) == outcome.answer && hailstoat_word_output(word) == output && word >> 25 == 0;
-}
-
-static int same_places(const struct hailstoat_bench *lent, const struct bench *second)
-{
-    for (uint8_t line = 0; line < LINES_ASKED; line += 1)
-        if (!told(hailstoat_place(lent, line), bench_place(second, line), 0))
-            return 0;
-    return told(hailstoat_place(lent, 255), bench_place(second, 255), 0);
-}
-
-/* Returns 1 if the event was refused. */
-static unsigned one_event(struct hailstoat_bench *lent, struct bench *second, uint32_t seed, unsigned long at,
-                          struct event e)
-{
-    struct hailstoat_bench before = *lent;
-    uint32_t word = hailstoat_event(lent, (uint8_t)e.kind, (uint8_t)e.seat, (uint8_t)e.number, (uint8_t)e.value);
-    struct outcome outcome = bench_event(second, e);
-    if (!told(word, outcome, bench_output(second)))
-        differs(seed, at, "refusal, answer or output differs", e);
-    if (hailstoat_output(lent) != bench_output(second))
-        differs(seed, at, "the output differs", e);
-    if (outcome.refusal != REFUSAL_NONE && memcmp(&before, lent, sizeof before) != 0)
-        differs(seed, at, "a refused event changed the bench", e);
-    if (!same_places(lent, second))
-        differs(seed, at, "the place of a line differs", e);
-    if (fields_differ(lent, second) != NULL)
-        differs(seed, at, fields_differ(lent, second), e);
-    return outcome.refusal != REFUSAL_NONE;
-}
-
 static void streams(void)
 {
     unsigned long refused = 0;
     for (size_t i = 0; i < SEEDS; i += 1) {
+        char what[32];
+        snprintf(what, sizeof what, "seed %lu", (unsigned long)seeds[i]);
         struct hailstoat_bench lent = {0};
         struct bench second = bench_at_power_up();
         struct stream stream = stream_begin(seeds[i], 0);
         for (unsigned long at = 0; at < EVENTS_EACH; at += 1)
-            refused += one_event(&lent, &second, seeds[i], at, stream_next(&stream));
+            refused += one_event(&lent, &second, what, at, stream_next(&stream));
     }
-    printf("events: %lu, of which %lu refused; answers, outputs, places and fields as the second program's\n",
+    printf("events: %lu, of which %lu refused; answers, outputs, places, modem outputs and fields as the second program's\n",
            SEEDS * EVENTS_EACH, refused);
 }
 
@@ -117,15 +74,18 @@ static void edges(void)
 
 static void divisors(const char *path)
 {
+    static const struct outcome not_listed = {(enum refusal)HAILSTOAT_NOT_LISTED, HAILSTOAT_REFUSED};
     unsigned clock, refusal, answer, lines = 0;
     unsigned long rate;
     FILE *list = fopen(path, "r");
     if (list == NULL)
         fail("the stored divisor list cannot be read");
     while (fscanf(list, "%u %lu %u %x", &clock, &rate, &refusal, &answer) == 4) {
-        uint32_t word = hailstoat_divisor((uint32_t)rate, (uint8_t)clock);
+        uint64_t word = hailstoat_divisor((uint32_t)rate, clock);
         if (!told(word, (struct outcome){(enum refusal)refusal, answer}, 0))
             fail("a divisor differs from the stored list");
+        if (!told(hailstoat_divisor((uint32_t)rate, clock + 256), not_listed, 0))
+            fail("a clock past a byte is not refused");
         lines += 1;
     }
     if (!feof(list) || lines == 0)
@@ -138,9 +98,12 @@ int main(int count, char **words)
 {
     if (count != 2)
         fail("usage: embed RATES");
-    sizes();
+    version_and_size();
     power_up();
+    names_mean();
     streams();
+    wide_numbers();
+    two_threads();
     edges();
     divisors(words[1]);
     return fflush(stdout) != 0;

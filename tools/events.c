@@ -32,33 +32,33 @@
 
 static struct hailstoat_bench bench;
 
-static uint32_t set_up(void)
+static uint64_t set_up(void)
 {
-    uint32_t wrong = 0;
+    uint64_t wrong = 0;
     hailstoat_power_up(&bench);
     SET_UP(RUN)
     return wrong;
 }
 
-static uint32_t run_mix(long rounds)
+static uint64_t run_mix(long rounds)
 {
-    uint32_t wrong = set_up();
+    uint64_t wrong = set_up();
     for (long k = 0; k < rounds; k += 1) {
         MIX(RUN)
     }
     return wrong;
 }
 
-static uint32_t run_lsr(long rounds)
+static uint64_t run_lsr(long rounds)
 {
-    uint32_t wrong = set_up();
+    uint64_t wrong = set_up();
     for (long k = 0; k < rounds; k += 1) {
         LSR_READS(RUN)
     }
     return wrong;
 }
 
-static uint32_t write_records(long rounds)
+static uint64_t write_records(long rounds)
 {
     SET_UP(WRITE)
     for (long k = 0; k < rounds; k += 1) {
@@ -71,7 +71,7 @@ int main(int count, char **words)
 {
     static const struct {
         const char *name;
-        uint32_t (*run)(long rounds);
+        uint64_t (*run)(long rounds);
     } ways[] = {{"mix", run_mix}, {"lsr", run_lsr}, {"records", write_records}};
     if (count == 3)
         for (size_t i = 0; i < sizeof ways / sizeof ways[0]; i += 1)

@@ -196,10 +196,12 @@ streams-once M =
 pub embed-once : (M : Type 1) → EmbedOnce M
 embed-once M =
     record {
+      embed·hailstoat-version = value _ refl (λ κ a v w. refl);
       embed·hailstoat-size = value _ refl (λ κ a v w. refl);
       embed·hailstoat-divisor = told _ refl (λ κ a r s v w p q. (p .0 ∙ sym (q .0), refl));
       embed·hailstoat-power-up = told _ refl (λ κ a r s v w p q. (refl, λ i. ((p ∙ sym q) i, tt)));
       embed·hailstoat-event = told _ refl (λ κ a r s v w p q. (p .1 .0 ∙ sym (q .1 .0), λ i. ((p .0 ∙ sym (q .0)) i, (tt, (tt, (tt, (tt, tt)))))));
       embed·hailstoat-place = told _ refl (λ κ a r s v w p q. (p .0 ∙ sym (q .0), refl));
       embed·hailstoat-output = value _ refl (λ κ a v w. refl);
+      embed·hailstoat-modem-outputs = told _ refl (λ κ a r s v w p q. (p .0 ∙ sym (q .0), refl));
     }

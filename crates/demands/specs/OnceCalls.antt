@@ -191,9 +191,11 @@ pub record StreamsOnce (M : Type 1) : Type 2 where
 -- ---- embed: the C interface, with the bench that is lent back
 
 pub record EmbedOnce (M : Type 1) : Type 2 where
+  pub embed·hailstoat-version : Once M embed.hailstoat_version.ended embed.hailstoat_version.clauses embed.hailstoat_version.spec
   pub embed·hailstoat-size : Once M embed.hailstoat_size.ended embed.hailstoat_size.clauses embed.hailstoat_size.spec
   pub embed·hailstoat-divisor : Once M embed.hailstoat_divisor.ended embed.hailstoat_divisor.clauses embed.hailstoat_divisor.spec
   pub embed·hailstoat-power-up : Once M embed.hailstoat_power_up.ended embed.hailstoat_power_up.clauses embed.hailstoat_power_up.spec
   pub embed·hailstoat-event : Once M embed.hailstoat_event.ended embed.hailstoat_event.clauses embed.hailstoat_event.spec
   pub embed·hailstoat-place : Once M embed.hailstoat_place.ended embed.hailstoat_place.clauses embed.hailstoat_place.spec
   pub embed·hailstoat-output : Once M embed.hailstoat_output.ended embed.hailstoat_output.clauses embed.hailstoat_output.spec
+  pub embed·hailstoat-modem-outputs : Once M embed.hailstoat_modem_outputs.ended embed.hailstoat_modem_outputs.clauses embed.hailstoat_modem_outputs.spec

@@ -1,10 +1,11 @@
 -- What the contract of the divisor list for C requires, told by what the word shows.
-use Prim.Native.Nat.{ℕ, _<_}
+use Prim.Native.Nat.{ℕ, _<_, _≤_}
 use mathlib.Core.List.{List·Memᴰ}
 use mathlib.Core.Path.{_≡_, ap, sym, _∙_}
 use lib.ListN.{getD}
 use Rattle.base.specs.Answers.{refusalOf, valueOf}
 use Rattle.rates.specs.Rates.{divisorOf}
+use Rattle.rates.specs.RatesLaws.{clock-refused}
 use Rattle.rates.specs.ListedLaws.{rates, shown, no-other-rate}
 use Rattle.bench.specs.FrameLaws.{mapped-at}
 use Rattle.embed.specs.Word.{answerIn, refusalIn}
@@ -19,3 +20,9 @@ pub divisor-word-refused : (κ e : _) (rate clock r : ℕ) → (List·Memᴰ rat
 unfolding refusalOf valueOf
 divisor-word-refused κ e rate clock r other p =
     (p .1 .refusal ∙ ap refusalOf (no-other-rate rate clock other), p .1 .answer ∙ ap valueOf (no-other-rate rate clock other))
+
+-- no clock above 2 is taken for one that is
+pub divisor-word-clock : (κ e : _) (rate clock r : ℕ) → 3 ≤ clock → divisor.Post κ (rate, (clock, tt)) r e → (refusalIn r ≡ 10) × (answerIn r ≡ 0xFFF)
+unfolding refusalOf valueOf
+divisor-word-clock κ e rate clock r above p =
+    (p .1 .refusal ∙ ap refusalOf (clock-refused rate clock above), p .1 .answer ∙ ap valueOf (clock-refused rate clock above))

@@ -2,10 +2,14 @@
 use mathlib.Core.Bool.{true, false}
 use mathlib.Core.Path.{_≡_, refl}
 use Rattle.base.specs.Pick.{pick}
-use Rattle.base.specs.Bits.{digit}
+use Rattle.base.specs.Bits.{bit, digit, bits}
+use Rattle.base.specs.Refusals.{firstOf, refusalBy}
 use Rattle.base.specs.Answers.{refusalOf, valueOf}
-use Rattle.base.specs.declared.Answer.the-variants.{Refused, Vector}
-use Rattle.embed.specs.Word.{wordOf}
+use Rattle.base.specs.declared.Answer.the-variants.{Refused, Vector, Spurious}
+use Rattle.records.specs.Events.{whole, early}
+use Rattle.embed.specs.Word.{wordOf, vectorIn, spuriousIn}
+use Rattle.embed.specs.Numbers.{asByte}
+use Rattle.embed.specs.Outputs.{outputs}
 use Rattle.embed.specs.Bytes.{benchBytes}
 
 -- `undone`: the refusal stands above the answer's four digits
@@ -21,3 +25,27 @@ word-of-a-vector = refl
 -- `bench-bytes`: the machine's own size of a bench
 bench-has-668-bytes : benchBytes ≡ 668
 bench-has-668-bytes = refl
+
+-- `past-a-byte`: no seat has the number 258, and it is not cut to seat 2
+seat-258-refused : early (whole 0 (asByte 258) 5 0) ≡ 1
+unfolding asByte early refusalBy firstOf pick
+seat-258-refused = refl
+
+-- `output-bits`: OUT1 alone
+outputs-of-out1 : outputs 0x04 ≡ 0x04
+unfolding outputs bits bit digit pick
+outputs-of-out1 = refl
+
+-- `spurious-back`: "147"
+vector-of-147 : vectorIn (wordOf (Spurious 0x47) false) ≡ 0x47
+unfolding wordOf refusalOf valueOf digit pick
+vector-of-147 = refl
+
+spurious-147 : spuriousIn (wordOf (Spurious 0x47) false) ≡ true
+unfolding wordOf refusalOf valueOf digit pick bit
+spurious-147 = refl
+
+-- `refused-not-spurious`: "controller not ready"
+refused-8-not-spurious : spuriousIn (wordOf (Refused 8) false) ≡ false
+unfolding wordOf refusalOf valueOf digit pick bit
+refused-8-not-spurious = refl

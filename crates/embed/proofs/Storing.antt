@@ -23,23 +23,23 @@ use Rattle.records.specs.Events.{seatCount}
 use Rattle.bench.specs.Seats.{chair}
 use Rattle.embed.specs.Bytes.{seatBytes, seatsBytes}
 
--- a byte fits the machine's widest number, and so do a chair and the offset at which it lies
-wide : (n : ℕ) → n < 2 ^ 8 → n < 2 ^ 64
+-- a number of C fits the machine's widest number, and so do a chair and the offset at which it lies
+pub wide : (n : ℕ) → n < 2 ^ 32 → n < 2 ^ 64
 wide n fits = omega arith
 
-chair-fits : (n : ℕ) → chair n < 2 ^ 64
+pub chair-fits : (n : ℕ) → chair n < 2 ^ 64
 chair-fits n = omega arith
 
-offset-fits : (n : ℕ) → chair n * seatBytes < 2 ^ 64
+pub offset-fits : (n : ℕ) → chair n * seatBytes < 2 ^ 64
 offset-fits n = omega arith
 
-cast-ok : (n : ℕ) → n < 2 ^ 8 → Dom (op1Chk (cast unsigned unsigned w64) (vint w8 n))
+pub cast-ok : (n : ℕ) → n < 2 ^ 32 → Dom (op1Chk (cast unsigned unsigned w64) (vint w32 n))
 cast-ok n fits = record { fits = wide n fits }
 
-rem-ok : (n : ℕ) → Dom (op2Chk (rem unsigned) (vint w64 n) (vint w64 seatCount))
+pub rem-ok : (n : ℕ) → Dom (op2Chk (rem unsigned) (vint w64 n) (vint w64 seatCount))
 rem-ok n = omega arith
 
-mul-ok : (n : ℕ) → Dom (op2Chk (mul unsigned) (vint w64 (chair n)) (vint w64 seatBytes))
+pub mul-ok : (n : ℕ) → Dom (op2Chk (mul unsigned) (vint w64 (chair n)) (vint w64 seatBytes))
 mul-ok n = record { fits = offset-fits n }
 
 -- a local with nothing in it yet, and one that holds a value
@@ -53,18 +53,18 @@ module _ {M : Type 1} {𝓤 : URA M} where
 module _ {M : Type 1} {𝓤 : URA M} {H : Heap 𝓤} {A : Atoms 𝓤} (W : Given 𝓤 H A) (Cs : Calls 𝓤 H) (Λ : Loops 𝓤 H) (τ₁ τ₇ τB τS τK : Ty) (ν : Sym)
     (l₀ l₁ l₂ l₃ l₄ l₅ l₆ l₇ l₈ l₉ l₁₀ l₁₁ l₁₂ l₁₃ b o p k s n v : ℕ) where
   abbrev played : Ty
-  played = tyStruct ν (tcons τS (tcons τK (tcons (tyInt w32) tnil)))
+  played = tyStruct ν (tcons τS (tcons τK (tcons (tyInt w64) tnil)))
 
   abbrev E : Env 𝓤 H
-  E = (tyInt w32, l₀) ∷ (τ₁, l₁) ∷ (tyInt w8, l₂) ∷ (tyInt w8, l₃) ∷ (tyInt w8, l₄) ∷ (tyInt w8, l₅) ∷ (tyInt w64, l₆) ∷ (τ₇, l₇) ∷ (played, l₈) ∷ (tyInt w64, l₉)
+  E = (tyInt w64, l₀) ∷ (τ₁, l₁) ∷ (tyInt w32, l₂) ∷ (tyInt w32, l₃) ∷ (tyInt w32, l₄) ∷ (tyInt w8, l₅) ∷ (tyInt w64, l₆) ∷ (τ₇, l₇) ∷ (played, l₈) ∷ (tyInt w64, l₉)
       ∷ (tyPtr, l₁₀) ∷ (tyPtr, l₁₁) ∷ (τS, l₁₂) ∷ (τK, l₁₃) ∷ []
 
   -- the parameters, and the locals before the seat is found and after it
   abbrev params : List (Item 𝓤) → List (Item 𝓤)
-  params Γ = holds (tyInt w8) l₅ (vint w8 v) (holds (tyInt w8) l₄ (vint w8 n) (holds (tyInt w8) l₃ (vint w8 s) (holds (tyInt w8) l₂ (vint w8 k) (holds τ₁ l₁ (vptr b o) Γ))))
+  params Γ = holds (tyInt w8) l₅ (vint w8 v) (holds (tyInt w32) l₄ (vint w32 n) (holds (tyInt w32) l₃ (vint w32 s) (holds (tyInt w32) l₂ (vint w32 k) (holds τ₁ l₁ (vptr b o) Γ))))
 
   abbrev pub unfound : List (Item 𝓤) → List (Item 𝓤)
-  unfound Γ = bare tyPtr l₁₁ (bare tyPtr l₁₀ (bare (tyInt w64) l₉ (bare played l₈ (bare τ₇ l₇ (bare (tyInt w64) l₆ (params (bare (tyInt w32) l₀ Γ)))))))
+  unfound Γ = bare tyPtr l₁₁ (bare tyPtr l₁₀ (bare (tyInt w64) l₉ (bare played l₈ (bare τ₇ l₇ (bare (tyInt w64) l₆ (params (bare (tyInt w64) l₀ Γ)))))))
 
   abbrev pub found : (List (Item 𝓤) → List (Item 𝓤)) → (List (Item 𝓤) → List (Item 𝓤)) → List (Item 𝓤) → List (Item 𝓤)
   found result returned Γ =
@@ -72,9 +72,9 @@ module _ {M : Type 1} {𝓤 : URA M} {H : Heap 𝓤} {A : Atoms 𝓤} (W : Given
       (holds τ₇ l₇ (vptr b p) (holds (tyInt w64) l₆ (vint w64 (chair s)) (params (returned Γ)))))))
 
   -- where the seat lies
-  pub finds : {τA : Ty} {q : Post 𝓤 H} {rest : Body} {Γ : List (Item 𝓤)} → s < 2 ^ 8 → T (hasTy τ₇ (vptr b p)) × WT (vptr b p) → fieldOf τB 0 ≡ some (τA, 0) → chair s * seatBytes + (o + 0) ≡ p
+  pub finds : {τA : Ty} {q : Post 𝓤 H} {rest : Body} {Γ : List (Item 𝓤)} → s < 2 ^ 32 → T (hasTy τ₇ (vptr b p)) × WT (vptr b p) → fieldOf τB 0 ≡ some (τA, 0) → chair s * seatBytes + (o + 0) ≡ p
       → Step Go W
-      (bare τK l₁₃ (bare τS l₁₂ (found (bare played l₈) (bare (tyInt w32) l₀) Γ)))
+      (bare τK l₁₃ (bare τS l₁₂ (found (bare played l₈) (bare (tyInt w64) l₀) Γ)))
       (runs Cs Λ E rest q)
       (bare τK l₁₃ (bare τS l₁₂ (unfound Γ)))
       (runs Cs Λ E (seq (assign (place 9 []) (op1 (cast unsigned unsigned w64) (copy (place 3 [])))) (seq (assign (place 6 []) (op2 (rem unsigned) (copy (place 9 [])) (int w64 seatCount)))
@@ -100,9 +100,9 @@ module _ {M : Type 1} {𝓤 : URA M} {H : Heap 𝓤} {A : Atoms 𝓤} (W : Given
 
     pub copies : {q : Post 𝓤 H} {rest : Body} {Γ : List (Item 𝓤)} → fieldOf τB 1 ≡ some (τK, seatsBytes) → T (hasTy τS vS) × WT vS → T (hasTy τK vK) × WT vK
         → Step Go W
-        (cells vK vS i₁ i₂ i₃ i₄ (copied (found (bare played l₈) (bare (tyInt w32) l₀) Γ)))
+        (cells vK vS i₁ i₂ i₃ i₄ (copied (found (bare played l₈) (bare (tyInt w64) l₀) Γ)))
         (runs Cs Λ E rest q)
-        (cells vK vS i₁ i₂ i₃ i₄ (bare τK l₁₃ (bare τS l₁₂ (found (bare played l₈) (bare (tyInt w32) l₀) Γ))))
+        (cells vK vS i₁ i₂ i₃ i₄ (bare τK l₁₃ (bare τS l₁₂ (found (bare played l₈) (bare (tyInt w64) l₀) Γ))))
         (runs Cs Λ E (seq (assign (place 12 []) (rvOpd (copy (place 7 (deref τS ∷ []))))) (seq (assign (place 13 []) (rvOpd (copy (place 1 (deref τB ∷ field 1 ∷ []))))) rest)) q)
     copies second typed-s typed-c = step (λ t.
         assigns ! (of-opd ! (load ! (from ! (hop ! (look ! 18 refl) (stop !))) (look-raw ! 2 refl))) (from ! (stop !)) (init ! 8 refl typed-s) $
@@ -110,14 +110,14 @@ module _ {M : Type 1} {𝓤 : URA M} {H : Heap 𝓤} {A : Atoms 𝓤} (W : Given
 
     module _ (sS sK : Val) (word : ℕ) where
       abbrev three : Val
-      three = vstruct (vcons sS (vcons sK (vcons (vint w32 word) vnil)))
+      three = vstruct (vcons sS (vcons sK (vcons (vint w64 word) vnil)))
 
       -- what came back is stored where both lie, and its word in the result
-      pub stores : {q : Post 𝓤 H} {rest : Body} {Γ : List (Item 𝓤)} → fieldOf τB 1 ≡ some (τK, seatsBytes) → T (hasTy τS sS) × WT sS → T (hasTy τK sK) × WT sK → word < 2 ^ 32
+      pub stores : {q : Post 𝓤 H} {rest : Body} {Γ : List (Item 𝓤)} → fieldOf τB 1 ≡ some (τK, seatsBytes) → T (hasTy τS sS) × WT sS → T (hasTy τK sK) × WT sK → word < 2 ^ 64
           → Step Go W
-          (cells sK sS i₁ i₂ i₃ i₄ (copied (found (holds played l₈ three) (holds (tyInt w32) l₀ (vint w32 word)) Γ)))
+          (cells sK sS i₁ i₂ i₃ i₄ (copied (found (holds played l₈ three) (holds (tyInt w64) l₀ (vint w64 word)) Γ)))
           (runs Cs Λ E rest q)
-          (cells vK vS i₁ i₂ i₃ i₄ (copied (found (holds played l₈ three) (bare (tyInt w32) l₀) Γ)))
+          (cells vK vS i₁ i₂ i₃ i₄ (copied (found (holds played l₈ three) (bare (tyInt w64) l₀) Γ)))
           (runs Cs Λ E (seq (assign (place 7 (deref τS ∷ [])) (rvOpd (copy (place 8 (field 0 ∷ []))))) (seq (assign (place 1 (deref τB ∷ field 1 ∷ [])) (rvOpd (copy (place 8 (field 1 ∷ [])))))
           (seq (assign (place 0 []) (rvOpd (copy (place 8 (field 2 ∷ []))))) rest))) q)
       stores second typed-s typed-c fits = step (λ t.
@@ -126,9 +126,9 @@ module _ {M : Type 1} {𝓤 : URA M} {H : Heap 𝓤} {A : Atoms 𝓤} (W : Given
           assigns ! (of-opd ! (load ! (from ! (fld ! refl (stop !))) (look-in ! 16 (sub ! 2 refl (whole !))))) (from ! (stop !)) (init ! 32 refl (tt, record { fits = fits })) $ t)
 
       -- the result is returned, and every local freed
-      pub leaves : (Kf : Val → SProp 𝓤) (P₁ P₂ P₃ : Fml) {Γ : List (Item 𝓤)} → ent 𝓤 (sep 𝓤 (sem 𝓤 H A P₁) (sep 𝓤 (sem 𝓤 H A P₂) (sem 𝓤 H A P₃))) (Kf (vint w32 word))
+      pub leaves : (Kf : Val → SProp 𝓤) (P₁ P₂ P₃ : Fml) {Γ : List (Item 𝓤)} → ent 𝓤 (sep 𝓤 (sem 𝓤 H A P₁) (sep 𝓤 (sem 𝓤 H A P₂) (sem 𝓤 H A P₃))) (Kf (vint w64 word))
           → Seq Go W
-          (‵ P₁ ∷ ‵ P₂ ∷ ‵ P₃ ∷ copied (found (holds played l₈ three) (holds (tyInt w32) l₀ (vint w32 word)) Γ))
+          (‵ P₁ ∷ ‵ P₂ ∷ ‵ P₃ ∷ copied (found (holds played l₈ three) (holds (tyInt w64) l₀ (vint w64 word)) Γ))
           (runs Cs Λ E return (atRet E Kf))
       leaves Kf P₁ P₂ P₃ leave =
           returns ! (look ! 29 refl) $ forget ! 3 refl $ forget ! 5 refl $ forget ! 7 refl $ forget ! 9 refl $ forget ! 11 refl $ forget ! 13 refl $ forget ! 15 refl $ forget ! 17 refl $

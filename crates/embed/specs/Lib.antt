@@ -1,5 +1,10 @@
 pub mod Word
 pub mod Bytes
+pub mod Version
+pub mod Numbers
+pub mod Outputs
 pub mod Zeroed
 pub mod WordLaws
+pub mod NumberLaws
+pub mod OutputsLaws
 pub mod ZeroedLaws

@@ -1,7 +1,8 @@
 -- One word for C: the answer in its low four hexadecimal digits, the refusal in the two above them, the output in the digit above these.
 use Prim.Native.Nat.{ℕ, _+_, _*_, _/_, _%_}
-use mathlib.Core.Bool.{Bool}
+use mathlib.Core.Bool.{Bool, _&&_}
 use mathlib.Core.Path.{_≡_}
+use lib.Dec.{eqb}
 use Rattle.base.specs.Bits.{bit, digit}
 use Rattle.base.specs.Answers.{refusalOf, valueOf}
 use Rattle.base.specs.declared.Answer.{Answer}
@@ -24,8 +25,21 @@ refusalIn w = w / 0x10000 % 0x100
 abbrev pub outputIn : ℕ → Bool
 outputIn w = bit 24 w
 
--- this answer and this output are read back from a word
+-- the upper half of a word, which is kept free
+abbrev pub upperIn : ℕ → ℕ
+upperIn w = w / 0x100000000
+
+-- "the vector; 100 + vector if spurious": how an acknowledge is read back
+abbrev pub vectorIn : ℕ → ℕ
+vectorIn w = answerIn w % 0x100
+
+-- a refused one was not spurious
+abbrev pub spuriousIn : ℕ → Bool
+spuriousIn w = eqb (refusalIn w) 0 && bit 8 (answerIn w)
+
+-- this answer and this output are read back from a word, and nothing else is in it
 pub record Reads (w : ℕ) (a : Answer) (high : Bool) : Type 0 where
+  pub upper : upperIn w ≡ 0
   pub refusal : refusalIn w ≡ refusalOf a
   pub answer : answerIn w ≡ valueOf a
   pub output : outputIn w ≡ high

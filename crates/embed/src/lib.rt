@@ -18,30 +18,51 @@ ghost use Rattle.bench.specs.Seats.{powerUp};
 ghost use Rattle.bench.specs.Parts.{partly};
 ghost use Rattle.bench.specs.Steps.{met, outcome};
 ghost use Rattle.embed.specs.Word.{Tells, Told, Parted};
+ghost use Rattle.embed.specs.Numbers.{asByte};
+ghost use Rattle.embed.specs.Outputs.{outputsOf, outputsAt};
+ghost use Rattle.embed.specs.Version.{version};
 ghost use Rattle.embed.specs.Bytes.{benchBytes};
 
-const BENCH_BYTES: u32 = 668;
+const LAST_BYTE: u32 = 255;
+
+const MASTER_RESET: u32 = Event::MASTER_RESET as u32;
+
+const SEATS: u32 = records::SEATS as u32;
+
+const VERSION: u32 = 10000;
+
+const BENCH_BYTES: usize = 668;
 
 // A bench after a master reset, and the word that tells of it.
 pub struct Played {
     pub bench: Bench,
-    pub word: u32,
+    pub word: u64,
 }
 
 // A seat and the controller after a record, and the word that tells of it.
 pub struct PartsPlayed {
     pub seat: Seat,
     pub controller: Controller,
-    pub word: u32,
+    pub word: u64,
 }
 
-fn word(answer: Answer, output: bool) -> u32
+// A number of C as a byte: each that is past a byte becomes 255, which the rooms refuse, or do not look at, as they would it.
+fn as_byte(n: u32) -> u8
+    ensures { λ r. ⌜ r ≡ asByte n ⌝ }
+{
+    if n < LAST_BYTE {
+        return n as u8;
+    }
+    255
+}
+
+fn word(answer: Answer, output: bool) -> u64
     ensures { λ r. ⌜ Tells r answer output ⌝ }
 {
     let value = answer.value();
     let refusal = answer.refusal();
     let high = base::pick_byte(output, 1, 0);
-    value as u32 + 0x10000 * refusal as u32 + 0x1000000 * high as u32
+    value as u64 + 0x10000 * refusal as u64 + 0x1000000 * high as u64
 }
 
 // The one record that touches every seat.
@@ -62,14 +83,21 @@ fn play_reset(b: Bench) -> Played
 fn play_parts(
     seat: Seat,
     controller: Controller,
-    kind: u8,
-    n: u8,
-    number: u8,
+    kind: u32,
+    n: u32,
+    number: u32,
     value: u8,
 ) -> PartsPlayed
     ensures { λ r. ⌜ Parted r (parted seat controller (whole kind n number value)) ⌝ }
 {
-    let t = records::step_parts(seat, controller, kind, n, number, value);
+    let t = records::step_parts(
+        seat,
+        controller,
+        as_byte(kind),
+        as_byte(n),
+        as_byte(number),
+        value,
+    );
     let next = t.seat;
     let moved = t.controller;
     let answer = t.answer;
@@ -81,11 +109,33 @@ fn play_parts(
     }
 }
 
-fn place_word(controller: Controller, line: u8) -> u32
+fn place_word(controller: Controller, line: u32) -> u64
     ensures { λ r. ⌜ Tells r (placed controller line) false ⌝ }
 {
-    let answer = controller.place(line);
+    let answer = controller.place(as_byte(line));
     word(answer, false)
+}
+
+// "seat (or line) above 7": refused.
+fn outputs_word(mcr: u8, n: u32) -> u64
+    ensures { λ r. ⌜ Tells r (outputsOf mcr n) false ⌝ }
+{
+    if n < SEATS {
+        let outputs = base::nibble(
+            base::bit(0, mcr),
+            base::bit(1, mcr),
+            base::bit(2, mcr),
+            base::bit(3, mcr),
+        );
+        return word(Answer::Byte(outputs), false);
+    }
+    word(Answer::Refused(Answer::SEAT_ABOVE), false)
+}
+
+fn seat_outputs(held: Seat, n: u32) -> u64
+    ensures { λ r. ⌜ Tells r (outputsOf (held .channel .settings .mcr) n) false ⌝ }
+{
+    outputs_word(held.channel.settings.mcr, n)
 }
 
 fn output_byte(controller: Controller) -> u8
@@ -95,9 +145,17 @@ fn output_byte(controller: Controller) -> u8
     base::pick_byte(high, 1, 0)
 }
 
+// The version, to compare with the header's.
+#[no_mangle]
+pub extern "C" fn hailstoat_version() -> u32
+    ensures { λ r. ⌜ r ≡ version ⌝ }
+{
+    VERSION
+}
+
 // The bytes that the caller's bench must have.
 #[no_mangle]
-pub extern "C" fn hailstoat_size() -> u32
+pub extern "C" fn hailstoat_size() -> usize
     ensures { λ r. ⌜ r ≡ benchBytes ⌝ }
 {
     BENCH_BYTES
@@ -105,10 +163,10 @@ pub extern "C" fn hailstoat_size() -> u32
 
 // The divisor for a rate in tenths of a baud.
 #[no_mangle]
-pub extern "C" fn hailstoat_divisor(rate: u32, clock: u8) -> u32
+pub extern "C" fn hailstoat_divisor(rate: u32, clock: u32) -> u64
     ensures { λ r. ⌜ Tells r (divisorOf rate clock) false ⌝ }
 {
-    let answer = rates::divisor(rate, clock);
+    let answer = rates::divisor(rate, as_byte(clock));
     word(answer, false)
 }
 
@@ -120,7 +178,7 @@ pub extern "C" fn hailstoat_power_up(bench: &mut Bench)
 }
 
 // A master reset takes the bench out whole, and stores it whole.
-fn reset_event(bench: &mut Bench) -> u32
+fn reset_event(bench: &mut Bench) -> u64
     ensures { λ r. ⌜ (now (bench .exit) ≡ met (now (bench .entry)) MasterReset .bench) × Told r (met (now (bench .entry)) MasterReset) ⌝ }
 {
     let p = play_reset(*bench);
@@ -130,7 +188,7 @@ fn reset_event(bench: &mut Bench) -> u32
 
 // The seat that the record names and the controller are taken out, and stored where they lie: the rest of the bench is not moved.
 // The chair is worked out here, which is less to walk by hand than a call.
-fn seat_event(bench: &mut Bench, kind: u8, seat: u8, number: u8, value: u8) -> u32
+fn seat_event(bench: &mut Bench, kind: u32, seat: u32, number: u32, value: u8) -> u64
     ensures { λ r. ⌜ (now (bench .exit) ≡ partly (now (bench .entry)) (whole kind seat number value) .bench)
         × Told r (partly (now (bench .entry)) (whole kind seat number value)) ⌝ }
 {
@@ -146,15 +204,15 @@ fn seat_event(bench: &mut Bench, kind: u8, seat: u8, number: u8, value: u8) -> u
 #[no_mangle]
 pub extern "C" fn hailstoat_event(
     bench: &mut Bench,
-    kind: u8,
-    seat: u8,
-    number: u8,
+    kind: u32,
+    seat: u32,
+    number: u32,
     value: u8,
-) -> u32
+) -> u64
     ensures { λ r. ⌜ (now (bench .exit) ≡ outcome (now (bench .entry)) (whole kind seat number value) .bench)
         × Told r (outcome (now (bench .entry)) (whole kind seat number value)) ⌝ }
 {
-    if kind == Event::MASTER_RESET {
+    if kind == MASTER_RESET {
         return reset_event(bench);
     }
     seat_event(bench, kind, seat, number, value)
@@ -162,7 +220,7 @@ pub extern "C" fn hailstoat_event(
 
 // The place in turn of a line.
 #[no_mangle]
-pub extern "C" fn hailstoat_place(bench: &Bench, line: u8) -> u32
+pub extern "C" fn hailstoat_place(bench: &Bench, line: u32) -> u64
     ensures { λ r. ⌜ Tells r (placed (now (bench .entry) .controller) line) false ⌝ }
 {
     place_word(bench.controller, line)
@@ -174,4 +232,13 @@ pub extern "C" fn hailstoat_output(bench: &Bench) -> u8
     ensures { λ r. ⌜ r ≡ digit (outputOf (now (bench .entry) .controller)) ⌝ }
 {
     output_byte(bench.controller)
+}
+
+// The modem outputs of a seat: DTR, RTS, OUT1 and OUT2 as bits 0 to 3.
+#[no_mangle]
+pub extern "C" fn hailstoat_modem_outputs(bench: &Bench, seat: u32) -> u64
+    ensures { λ r. ⌜ Tells r (outputsAt (now (bench .entry)) seat) false ⌝ }
+{
+    let at = seat as usize % records::SEATS;
+    seat_outputs(bench.seats[at], seat)
 }

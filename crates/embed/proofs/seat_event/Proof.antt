@@ -26,7 +26,7 @@ use denote.Laws.{Is, shows}
 use denote.Memory.{mem, partAt}
 use denote.Index.{place-is}
 use denote.Plain.{uint-vals, uint-tells, uint-makes}
-use denote.Builtin.{u8, u32}
+use denote.Builtin.{u8, u32, u64}
 use denote.Ref.{RefT, MutRef, ptr-vals, mut-tells}
 use denote.Signature.{plain}
 use denote.Steps.{only, owned, facts, heard, nothing}
@@ -69,7 +69,7 @@ use Rattle.embed.proofs.seat_event.Statement as stated
 use Rattle.embed.proofs.seat_event.Code as code
 
 abbrev stayed : Stays (f.ended .signature .params) (f.ended .kept)
-stayed = (stay-ref (0 ∷ []) tt (plain (λ _. B.the-row)), (stay-none (λ _. u8) yes, (stay-none (λ _. u8) yes, (stay-none (λ _. u8) yes, (stay-none (λ _. u8) yes, tt)))))
+stayed = (stay-ref (0 ∷ []) tt (plain (λ _. B.the-row)), (stay-none (λ _. u32) yes, (stay-none (λ _. u32) yes, (stay-none (λ _. u32) yes, (stay-none (λ _. u8) yes, tt)))))
 
 -- the types of the lent bench and of the lent seat
 abbrev lender : Ty
@@ -85,7 +85,7 @@ is-seat r v is = LL.owed P.the-type P′.the-laws r (v ∷ []) is .0
 is-rest : (r : PartsPlayed) (v : Val) → Is P.the-row r (v ∷ []) → Is K.the-row (r .controller) (rest-val (r .controller) ∷ [])
 is-rest r v is = LL.owed P.the-type P′.the-laws r (v ∷ []) is .1 .0
 
-is-word : (r : PartsPlayed) (v : Val) → Is P.the-row r (v ∷ []) → r .word < 2 ^ 32
+is-word : (r : PartsPlayed) (v : Val) → Is P.the-row r (v ∷ []) → r .word < 2 ^ 64
 is-word r v is = LL.owed P.the-type P′.the-laws r (v ∷ []) is .1 .1 .0 .1
 
 -- the contract that the proof cites
@@ -93,12 +93,12 @@ abbrev Play : {M : Type 1} (𝓤 : URA M) (H : Heap 𝓤) (A : Atoms 𝓤) (mem 
 Play 𝓤 H A mem run = tripleOf 𝓤 H A play.signature (play.spec 𝓤 H A mem run)
 
 module _ {M : Type 1} (𝓤 : URA M) (H : Heap 𝓤) (A : Atoms 𝓤) (W : Given 𝓤 H A) (at-mem : Memory → SProp 𝓤) (run : Routine → Fun 𝓤) (κ : Lft) (q : Share) (b o : ℕ) (γ : GName) (h : Bench)
-    (k s n v : ℕ) (fk : k < 2 ^ 8) (fs : s < 2 ^ 8) (fn : n < 2 ^ 8) (fv : v < 2 ^ 8) where
+    (k s n v : ℕ) (fk : k < 2 ^ 32) (fs : s < 2 ^ 32) (fn : n < 2 ^ 32) (fv : v < 2 ^ 8) where
   abbrev x : RefT Bench × (ℕ × (ℕ × (ℕ × (ℕ × Unit {0}))))
   x = (record { ptr = (b, o); name = γ; now = h }, (k, (s, (n, (v, tt)))))
 
   abbrev at : List Val × (List Val × (List Val × (List Val × (List Val × Unit {0}))))
-  at = (vptr b o ∷ [], (vint w8 k ∷ [], (vint w8 s ∷ [], (vint w8 n ∷ [], (vint w8 v ∷ [], tt)))))
+  at = (vptr b o ∷ [], (vint w32 k ∷ [], (vint w32 s ∷ [], (vint w32 n ∷ [], (vint w8 v ∷ [], tt)))))
 
   abbrev Post : Val → SProp 𝓤
   Post = walkOf 𝓤 H A f.ended stayed (f.clauses 𝓤 H A at-mem run) .post (((κ, tt), (q, tt), tt, x, at), tt)
@@ -111,29 +111,29 @@ module _ {M : Type 1} (𝓤 : URA M) (H : Heap 𝓤) (A : Atoms 𝓤) (W : Given
   next r = withController (withSeat h s (r .seat)) (r .controller)
 
   exits : (r : PartsPlayed) (w : Val) → Is P.the-row r (w ∷ []) → Ensured r
-      → ent 𝓤 (sep 𝓤 (A .obs γ (B.the-row .coded .code (next r))) (sep 𝓤 (A .bor κ (Body (mem B.the-row) b o γ)) (A .lft κ q))) (Post (vint w32 (r .word)))
+      → ent 𝓤 (sep 𝓤 (A .obs γ (B.the-row .coded .code (next r))) (sep 𝓤 (A .bor κ (Body (mem B.the-row) b o γ)) (A .lft κ q))) (Post (vint w64 (r .word)))
   exits r w is eq =
       qed W (‵ (fobs γ (B.the-row .coded .code (next r))) ∷ ‵ (fbor κ (Body (mem B.the-row) b o γ)) ∷ ‵ (flft κ q) ∷ []) ∵
-      suffices ! _ (ends-at 𝓤 H A f.ended stayed (f.clauses 𝓤 H A at-mem run) W (((κ, tt), (q, tt), tt, x, at), tt) (vint w32 (r .word)) (r .word) (next r, (tt, (tt, (tt, (tt, tt))))) (tt, (tt, (tt, (tt, (tt, tt)))))) $
+      suffices ! _ (ends-at 𝓤 H A f.ended stayed (f.clauses 𝓤 H A at-mem run) W (((κ, tt), (q, tt), tt, x, at), tt) (vint w64 (r .word)) (r .word) (next r, (tt, (tt, (tt, (tt, tt))))) (tt, (tt, (tt, (tt, (tt, tt)))))) $
       says ! (ap₂ (λ (z : Seat) (c : Controller). withController (withSeat h s z) c) (eq .seat) (eq .controller), eq .told) $ nothing ! $ move ! (3 ∷ 0 ∷ []) $ join ! $
-      frame ! $ feqI ! (List Val) (vptr b o ∷ []) (vptr b o ∷ []) refl $ fjoin3 ! $ nothing ! $ owned ! u8 (Is u8) (uint-makes 𝓤 H A W w8) v _ (refl, fv) $ fjoin ! $ owned ! u8 (Is u8) (uint-makes 𝓤 H A W w8) n _ (refl, fn) $ fjoin ! $
-      owned ! u8 (Is u8) (uint-makes 𝓤 H A W w8) s _ (refl, fs) $ fjoin ! $ owned ! u8 (Is u8) (uint-makes 𝓤 H A W w8) k _ (refl, fk) $ fjoin ! $ move ! (1 ∷ 0 ∷ []) $ fjoin ! $
-      owned ! u32 (Is u32) (uint-makes 𝓤 H A W w32) (r .word) _ (refl, is-word r w is) $ move ! (1 ∷ 0 ∷ []) $ done !
+      frame ! $ feqI ! (List Val) (vptr b o ∷ []) (vptr b o ∷ []) refl $ fjoin3 ! $ nothing ! $ owned ! u8 (Is u8) (uint-makes 𝓤 H A W w8) v _ (refl, fv) $ fjoin ! $ owned ! u32 (Is u32) (uint-makes 𝓤 H A W w32) n _ (refl, fn) $ fjoin ! $
+      owned ! u32 (Is u32) (uint-makes 𝓤 H A W w32) s _ (refl, fs) $ fjoin ! $ owned ! u32 (Is u32) (uint-makes 𝓤 H A W w32) k _ (refl, fk) $ fjoin ! $ move ! (1 ∷ 0 ∷ []) $ fjoin ! $
+      owned ! u64 (Is u64) (uint-makes 𝓤 H A W w64) (r .word) _ (refl, is-word r w is) $ move ! (1 ∷ 0 ∷ []) $ done !
 
   -- what the triple of `play_parts` binds outside
   abbrev args : Seat × (Controller × (ℕ × (ℕ × (ℕ × (ℕ × Unit {0})))))
   args = (seat h s, (h .controller, (k, (s, (n, (v, tt))))))
 
   abbrev to-play : Play 𝓤 H A at-mem run .Ghost
-  to-play = ((tt, tt, tt, args, (seat-val (seat h s) ∷ [], (rest-val (h .controller) ∷ [], (vint w8 k ∷ [], (vint w8 s ∷ [], (vint w8 n ∷ [], (vint w8 v ∷ [], tt))))))), tt)
+  to-play = ((tt, tt, tt, args, (seat-val (seat h s) ∷ [], (rest-val (h .controller) ∷ [], (vint w32 k ∷ [], (vint w32 s ∷ [], (vint w32 n ∷ [], (vint w8 v ∷ [], tt))))))), tt)
 
   told : (r : PartsPlayed) → ent 𝓤 (ensured 𝓤 H A play.ended (play.clauses 𝓤 H A at-mem run) tt args tt r) (fact 𝓤 (Ensured r))
   told r = exE 𝓤 _ (λ ws. snd∗ 𝓤 (sem 𝓤 H A (lasts play.ended tt args ws)) (fact 𝓤 (Ensured r)))
 
   goes-play : Is S.the-row (seat h s) (seat-val (seat h s) ∷ []) → Is K.the-row (h .controller) (rest-val (h .controller) ∷ []) → ent 𝓤 (emp 𝓤) (Play 𝓤 H A at-mem run .pre to-play)
   goes-play is-s is-c =
-      qed W [] ∵ nothing ! $ owned ! u8 (Is u8) (uint-makes 𝓤 H A W w8) v _ (refl, fv) $ fjoin ! $ owned ! u8 (Is u8) (uint-makes 𝓤 H A W w8) n _ (refl, fn) $ fjoin ! $
-      owned ! u8 (Is u8) (uint-makes 𝓤 H A W w8) s _ (refl, fs) $ fjoin ! $ owned ! u8 (Is u8) (uint-makes 𝓤 H A W w8) k _ (refl, fk) $ fjoin ! $
+      qed W [] ∵ nothing ! $ owned ! u8 (Is u8) (uint-makes 𝓤 H A W w8) v _ (refl, fv) $ fjoin ! $ owned ! u32 (Is u32) (uint-makes 𝓤 H A W w32) n _ (refl, fn) $ fjoin ! $
+      owned ! u32 (Is u32) (uint-makes 𝓤 H A W w32) s _ (refl, fs) $ fjoin ! $ owned ! u32 (Is u32) (uint-makes 𝓤 H A W w32) k _ (refl, fk) $ fjoin ! $
       owned ! K.the-row (Is K.the-row) ((LL.makes K.the-type K′.the-plain) 𝓤 H A) (h .controller) _ is-c $ fjoin ! $ owned ! S.the-row (Is S.the-row) ((LL.makes S.the-type S′.the-plain) 𝓤 H A) (seat h s) _ is-s $ fjoin ! $
       nothing ! $ join ! $ nothing ! $ move ! (1 ∷ 0 ∷ []) $ frame ! $ done !
 
@@ -151,37 +151,37 @@ module _ {M : Type 1} (𝓤 : URA M) (H : Heap 𝓤) (A : Atoms 𝓤) (W : Given
     -- what `play_parts` returned is put in its local; both are stored where they lie, the bench is put together and the loan closed
     ends : (l₀ l₁ l₂ l₃ l₄ l₅ l₆ l₇ l₈ l₉ l₁₀ l₁₁ l₁₂ l₁₃ : ℕ) (w : Val) (r : PartsPlayed) → Is P.the-row r (w ∷ []) → Ensured r
         → Seq Go W
-        (‵ (fat fullShare (rawTy K′.mir) b (o + seatsBytes) (rest-val (h .controller))) ∷ raw (Kept 𝓤 H A W h s b o) ∷ ‵ (fat fullShare (rawTy S′.mir) b (seat-place o s) (seat-val (seat h s))) ∷ loan ∷ was ∷ is-now
-        ∷ copied W Cs Λ lender holder B′.mir S′.mir K′.mir (P.struct .name) l₀ l₁ l₂ l₃ l₄ l₅ l₆ l₇ l₈ l₉ l₁₀ l₁₁ l₁₂ l₁₃ b o (seat-place o s) k s n v (seat-val (seat h s)) (rest-val (h .controller)) (raw (Kept 𝓤 H A W h s b o)) loan was is-now
-        (found W Cs Λ lender holder B′.mir S′.mir K′.mir (P.struct .name) l₀ l₁ l₂ l₃ l₄ l₅ l₆ l₇ l₈ l₉ l₁₀ l₁₁ l₁₂ l₁₃ b o (seat-place o s) k s n v (bare P′.mir l₈) (bare (tyInt w32) l₀) []))
+        (‵ (fat fullShare (rawTy K′.mir) b (o + seatsBytes) (rest-val (h .controller))) ∷ raw (Kept 𝓤 H A W fullShare h s b o) ∷ ‵ (fat fullShare (rawTy S′.mir) b (seat-place o s) (seat-val (seat h s))) ∷ loan ∷ was ∷ is-now
+        ∷ copied W Cs Λ lender holder B′.mir S′.mir K′.mir (P.struct .name) l₀ l₁ l₂ l₃ l₄ l₅ l₆ l₇ l₈ l₉ l₁₀ l₁₁ l₁₂ l₁₃ b o (seat-place o s) k s n v (seat-val (seat h s)) (rest-val (h .controller)) (raw (Kept 𝓤 H A W fullShare h s b o)) loan was is-now
+        (found W Cs Λ lender holder B′.mir S′.mir K′.mir (P.struct .name) l₀ l₁ l₂ l₃ l₄ l₅ l₆ l₇ l₈ l₉ l₁₀ l₁₁ l₁₂ l₁₃ b o (seat-place o s) k s n v (bare P′.mir l₈) (bare (tyInt w64) l₀) []))
         (lands Cs Λ (envAt (code.function .locals) (l₀ ∷ l₁ ∷ l₂ ∷ l₃ ∷ l₄ ∷ l₅ ∷ l₆ ∷ l₇ ∷ l₈ ∷ l₉ ∷ l₁₀ ∷ l₁₁ ∷ l₁₂ ∷ l₁₃ ∷ [])) (place 8 []) w (past 9 (code.function .body)) (atRet (envAt (code.function .locals) (l₀ ∷ l₁ ∷ l₂ ∷ l₃ ∷ l₄ ∷ l₅ ∷ l₆ ∷ l₇ ∷ l₈ ∷ l₉ ∷ l₁₀ ∷ l₁₁ ∷ l₁₂ ∷ l₁₃ ∷ [])) Post))
     ends l₀ l₁ l₂ l₃ l₄ l₅ l₆ l₇ l₈ l₉ l₁₀ l₁₁ l₁₂ l₁₃ w r is eq =
         land ! (from ! (stop !)) (init ! 16 refl (LL.lawful P.the-type P′.the-laws 𝓤 H A W .typed r _ is .0)) $
         rewrite ! 16 (λ (u : Val). ‵ (fat fullShare P′.mir l₈ 0 u)) (ap only (LL.tells P.the-type P′.the-laws r (w ∷ []) is)) refl $
-        stores W Cs Λ lender holder B′.mir S′.mir K′.mir (P.struct .name) l₀ l₁ l₂ l₃ l₄ l₅ l₆ l₇ l₈ l₉ l₁₀ l₁₁ l₁₂ l₁₃ b o (seat-place o s) k s n v (seat-val (seat h s)) (rest-val (h .controller)) (raw (Kept 𝓤 H A W h s b o)) loan was is-now (seat-val (r .seat)) (rest-val (r .controller)) (r .word) controller-lies
+        stores W Cs Λ lender holder B′.mir S′.mir K′.mir (P.struct .name) l₀ l₁ l₂ l₃ l₄ l₅ l₆ l₇ l₈ l₉ l₁₀ l₁₁ l₁₂ l₁₃ b o (seat-place o s) k s n v (seat-val (seat h s)) (rest-val (h .controller)) (raw (Kept 𝓤 H A W fullShare h s b o)) loan was is-now (seat-val (r .seat)) (rest-val (r .controller)) (r .word) controller-lies
         (LL.lawful S.the-type S′.the-laws 𝓤 H A W .typed (r .seat) _ (is-seat r w is) .0) (LL.lawful K.the-type K′.the-laws 𝓤 H A W .typed (r .controller) _ (is-rest r w is) .0) (is-word r w is) $
         use1 W (‵ (partAt K.the-row fullShare (r .controller) b (o + seatsBytes))) (cell-in 𝓤 H A W fullShare K.the-row (LL.vals K.the-type K′.the-laws) (r .controller) b (o + seatsBytes) ((LL.makes K.the-type K′.the-plain) 𝓤 H A) (is-rest r w is)) $ move ! (2 ∷ []) $
         use1 W (‵ (partAt S.the-row fullShare (r .seat) b (seat-place o s))) (cell-in 𝓤 H A W fullShare S.the-row (LL.vals S.the-type S′.the-laws) (r .seat) b (seat-place o s) ((LL.makes S.the-type S′.the-plain) 𝓤 H A) (is-seat r w is)) $
-        use3 W (‵ (partAt B.the-row fullShare (next r) b o)) (comes-back 𝓤 H A W h s b o (r .seat) (r .controller)) $ close-ref ! tt (mem B.the-row) (next r) {b = b} {o = o} $
-        leaves W Cs Λ lender holder B′.mir S′.mir K′.mir (P.struct .name) l₀ l₁ l₂ l₃ l₄ l₅ l₆ l₇ l₈ l₉ l₁₀ l₁₁ l₁₂ l₁₃ b o (seat-place o s) k s n v (seat-val (seat h s)) (rest-val (h .controller)) (raw (Kept 𝓤 H A W h s b o)) loan was is-now (seat-val (r .seat)) (rest-val (r .controller)) (r .word) Post
+        use3 W (‵ (partAt B.the-row fullShare (next r) b o)) (comes-back 𝓤 H A W fullShare h s b o (r .seat) (r .controller)) $ close-ref ! tt (mem B.the-row) (next r) {b = b} {o = o} $
+        leaves W Cs Λ lender holder B′.mir S′.mir K′.mir (P.struct .name) l₀ l₁ l₂ l₃ l₄ l₅ l₆ l₇ l₈ l₉ l₁₀ l₁₁ l₁₂ l₁₃ b o (seat-place o s) k s n v (seat-val (seat h s)) (rest-val (h .controller)) (raw (Kept 𝓤 H A W fullShare h s b o)) loan was is-now (seat-val (r .seat)) (rest-val (r .controller)) (r .word) Post
         (fobs γ (B.the-row .coded .code (next r))) (fbor κ (Body (mem B.the-row) b o γ)) (flft κ q) (exits r w is eq)
 
-    walk : ent 𝓤 (onEntry 𝓤 H A f.signature (κ, tt) (q, tt) x at) (WpFn 𝓤 H Cs Λ code.function (vptr b o ∷ vint w8 k ∷ vint w8 s ∷ vint w8 n ∷ vint w8 v ∷ []) Post)
+    walk : ent 𝓤 (onEntry 𝓤 H A f.signature (κ, tt) (q, tt) x at) (WpFn 𝓤 H Cs Λ code.function (vptr b o ∷ vint w32 k ∷ vint w32 s ∷ vint w32 n ∷ vint w8 v ∷ []) Post)
     walk =
-        qed W ((‵ (flft κ q) ⊛ ‵ ftrue) ∷ ‵ (owns (MutRef (named 0) κ B.the-row ∷ u8 ∷ u8 ∷ u8 ∷ u8 ∷ []) x at) ∷ []) ∵ split ! $ move ! (2 ∷ []) $ fsplit ! $ fsplit3 ! $ drop ! $ move ! (0 ∷ 1 ∷ 3 ∷ []) $
+        qed W ((‵ (flft κ q) ⊛ ‵ ftrue) ∷ ‵ (owns (MutRef (named 0) κ B.the-row ∷ u32 ∷ u32 ∷ u32 ∷ u8 ∷ []) x at) ∷ []) ∵ split ! $ move ! (2 ∷ []) $ fsplit ! $ fsplit3 ! $ drop ! $ move ! (0 ∷ 1 ∷ 3 ∷ []) $
         -- [obs; the borrow; the token; what the numbers own; true]
-        enter ! Cs Λ code.function (vptr b o ∷ vint w8 k ∷ vint w8 s ∷ vint w8 n ∷ vint w8 v ∷ []) _ $
+        enter ! Cs Λ code.function (vptr b o ∷ vint w32 k ∷ vint w32 s ∷ vint w32 n ∷ vint w8 v ∷ []) _ $
         alloc1 ! (λ l₀. alloc1 ! (λ l₁. alloc1 ! (λ l₂. alloc1 ! (λ l₃. alloc1 ! (λ l₄. alloc1 ! (λ l₅. alloc1 ! (λ l₆. alloc1 ! (λ l₇. alloc1 ! (λ l₈. alloc1 ! (λ l₉. alloc1 ! (λ l₁₀. alloc1 ! (λ l₁₁. alloc1 ! (λ l₁₂. alloc1 ! (λ l₁₃. alloc0 ! $ params1 ! $ pass1 ! (init ! 24 refl (tt, tt)) $
         pass1 ! (init ! 22 refl (tt, record { fits = fk })) $ pass1 ! (init ! 20 refl (tt, record { fits = fs })) $ pass1 ! (init ! 18 refl (tt, record { fits = fn })) $ pass1 ! (init ! 16 refl (tt, record { fits = fv })) $ pass0 ! $
         finds W Cs Λ lender holder B′.mir S′.mir K′.mir (P.struct .name) l₀ l₁ l₂ l₃ l₄ l₅ l₆ l₇ l₈ l₉ l₁₀ l₁₁ l₁₂ l₁₃ b o (seat-place o s) k s n v fs (tt, tt) seats-lie (sym (place-is seatBytes (o + 0) (chair s))) $
         -- the loan is opened, and the seat and the controller are taken out where they lie
         move ! (28 ∷ 29 ∷ 30 ∷ []) $ open-ref ! tt (mem B.the-row) {x = h} {b = b} {o = o} $
-        use1 W (‵ (partAt S.the-row fullShare (seat h s) b (seat-place o s)) ⊛ (‵ (partAt K.the-row fullShare (h .controller) b (o + seatsBytes)) ⊛ raw (Kept 𝓤 H A W h s b o))) (reaches 𝓤 H A W h s b o) $ split ! $
+        use1 W (‵ (partAt S.the-row fullShare (seat h s) b (seat-place o s)) ⊛ (‵ (partAt K.the-row fullShare (h .controller) b (o + seatsBytes)) ⊛ raw (Kept 𝓤 H A W fullShare h s b o))) (reaches 𝓤 H A W fullShare h s b o) $ split ! $
         use1 W (given (Is S.the-row (seat h s) (seat-val (seat h s) ∷ [])) (‵ (fat fullShare (rawTy S′.mir) b (seat-place o s) (seat-val (seat h s))))) (cell-out 𝓤 H A W fullShare S.the-row (LL.vals S.the-type S′.the-laws) (seat h s) b (seat-place o s) (LL.tells S.the-type S′.the-laws)) $ learn ! (λ is-s.
         move ! (1 ∷ []) $ split ! $
         use1 W (given (Is K.the-row (h .controller) (rest-val (h .controller) ∷ [])) (‵ (fat fullShare (rawTy K′.mir) b (o + seatsBytes) (rest-val (h .controller))))) (cell-out 𝓤 H A W fullShare K.the-row (LL.vals K.the-type K′.the-laws) (h .controller) b (o + seatsBytes) (LL.tells K.the-type K′.the-laws)) $ learn ! (λ is-c.
         -- [the controller's cell; what stays behind; the seat's cell; the open borrow; obs; auth; the locals]
-        copies W Cs Λ lender holder B′.mir S′.mir K′.mir (P.struct .name) l₀ l₁ l₂ l₃ l₄ l₅ l₆ l₇ l₈ l₉ l₁₀ l₁₁ l₁₂ l₁₃ b o (seat-place o s) k s n v (seat-val (seat h s)) (rest-val (h .controller)) (raw (Kept 𝓤 H A W h s b o)) loan was is-now controller-lies
+        copies W Cs Λ lender holder B′.mir S′.mir K′.mir (P.struct .name) l₀ l₁ l₂ l₃ l₄ l₅ l₆ l₇ l₈ l₉ l₁₀ l₁₁ l₁₂ l₁₃ b o (seat-place o s) k s n v (seat-val (seat h s)) (rest-val (h .controller)) (raw (Kept 𝓤 H A W fullShare h s b o)) loan was is-now controller-lies
         (LL.lawful S.the-type S′.the-laws 𝓤 H A W .typed (seat h s) _ is-s .0) (LL.lawful K.the-type K′.the-laws 𝓤 H A W .typed (h .controller) _ is-c .0) $
         use0 W (raw (Play 𝓤 H A at-mem run .pre to-play)) (goes-play is-s is-c) $
         calls-at ! fm (Play 𝓤 H A at-mem run) known to-play
@@ -194,13 +194,13 @@ module _ {M : Type 1} (𝓤 : URA M) (H : Heap 𝓤) (A : Atoms 𝓤) (W : Given
 module _ {M : Type 1} (𝓤 : URA M) (H : Heap 𝓤) (A : Atoms 𝓤) (W : Given 𝓤 H A) (at-mem : Memory → SProp 𝓤) (run : Routine → Fun 𝓤) where
   seat-event-walks : (Cs : Calls 𝓤 H) (Λ : Loops 𝓤 H) → FmC 𝓤 H (W .laws) Cs → Triple 𝓤 (Cs #embed·play-parts) (Play 𝓤 H A at-mem run) → Walks 𝓤 H A f.ended stayed (WpFn 𝓤 H Cs Λ code.function) (f.clauses 𝓤 H A at-mem run)
   seat-event-walks Cs Λ fm known = walked 𝓤 H A f.ended stayed (f.clauses 𝓤 H A at-mem run) (WpFn 𝓤 H Cs Λ code.function)
-      (λ κs. (ptr-vals, (uint-vals w8, (uint-vals w8, (uint-vals w8, (uint-vals w8, tt)))))) (λ κs. (mut-tells (named 0) (κs .0) B.the-row, (uint-tells w8, (uint-tells w8, (uint-tells w8, (uint-tells w8, tt))))))
+      (λ κs. (ptr-vals, (uint-vals w32, (uint-vals w32, (uint-vals w32, (uint-vals w8, tt)))))) (λ κs. (mut-tells (named 0) (κs .0) B.the-row, (uint-tells w32, (uint-tells w32, (uint-tells w32, (uint-tells w8, tt))))))
       (λ κs qs bounds a _ are. via 𝓤 _ (fst∗ 𝓤 _ (emp 𝓤)) (walk 𝓤 H A W at-mem run (κs .0) (qs .0) (a .0 .ptr .0) (a .0 .ptr .1) (a .0 .name) (a .0 .now) (a .1 .0) (a .1 .1 .0) (a .1 .1 .1 .0) (a .1 .1 .1 .1 .0)
       (are .1 .0 .1) (are .1 .1 .0 .1) (are .1 .1 .1 .0 .1) (are .1 .1 .1 .1 .0 .1) Cs Λ fm known))
 
   goes : AllGo 𝓤 H A W 1 (f.signature .params) (f.ended .kept) stayed
   goes =
-      (goes-ref 𝓤 H A W 1 0 tt (plain (λ _. B.the-row)), (goes-none 𝓤 H A W 1 (λ _. u8) yes (λ κs x f. refl), (goes-none 𝓤 H A W 1 (λ _. u8) yes (λ κs x f. refl), (goes-none 𝓤 H A W 1 (λ _. u8) yes (λ κs x f. refl), (goes-none 𝓤 H A W 1 (λ _. u8) yes (λ κs x f. refl), tt)))))
+      (goes-ref 𝓤 H A W 1 0 tt (plain (λ _. B.the-row)), (goes-none 𝓤 H A W 1 (λ _. u32) yes (λ κs x f. refl), (goes-none 𝓤 H A W 1 (λ _. u32) yes (λ κs x f. refl), (goes-none 𝓤 H A W 1 (λ _. u32) yes (λ κs x f. refl), (goes-none 𝓤 H A W 1 (λ _. u8) yes (λ κs x f. refl), tt)))))
 
 seat-event-meets : {M : Type 1} (𝓤 : URA M) (H : Heap 𝓤) (A : Atoms 𝓤) → Given 𝓤 H A → (at-mem : Memory → SProp 𝓤) (run : Routine → Fun 𝓤) (𝓣 : Tables 𝓤 H) → Triple 𝓤 (𝓣 .C #embed·play-parts) (Play 𝓤 H A at-mem run)
     → Meets 𝓤 H A f.signature (WpFn 𝓤 H (𝓣 .C) (𝓣 .Λ) code.function) (f.spec 𝓤 H A at-mem run)

@@ -1,0 +1,19 @@
+use borrow.Author.Needs.{needs}
+use Rattle.base.specs.PickLaws.{tests}
+use Rattle.embed.specs.Numbers.{asByte}
+use Rattle.embed.proofs.as_byte.Statement.{statement}
+use Rattle.embed.proofs.as_byte.Tie as tie
+
+cast-result : tie.Need-cast-result
+cast-result c = search needs
+
+returns : tie.Need-returns
+unfolding asByte
+returns c = search tests
+
+returns-2 : tie.Need-returns-2
+unfolding asByte
+returns-2 c = search tests
+
+pub as-byte-spec : {M : Type 1} → statement M
+as-byte-spec = tie.close (tie.spec cast-result returns returns-2)

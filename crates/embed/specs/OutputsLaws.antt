@@ -1,0 +1,41 @@
+-- The modem outputs bit by bit, and what a write of MCR makes of them.
+use Prim.Native.Nat.{ℕ, zero, suc, _^_, _<_, _≤_}
+use mathlib.Core.Bool.{false, _&&_}
+use mathlib.Core.List.{[], _∷_}
+use mathlib.Core.Path.{_≡_, refl, _∙_}
+use lib.Dec.{ltb}
+use borrow.Author.Tests.{le-leb, lt-leb}
+use Rattle.base.specs.Pick.{pick}
+use Rattle.base.specs.Bits.{bit, bits}
+use Rattle.base.specs.BitLaws.{bit-bits, bits-small, bit-cut}
+use Rattle.base.specs.Refusals.{firstOf, refusalBy}
+use Rattle.base.specs.declared.Answer.the-variants.{Byte, Refused}
+use Rattle.registers.specs.Registers.{mcrKept}
+use Rattle.records.specs.Events.{seatCount}
+use Rattle.embed.specs.Outputs.{dtr, rts, out1, out2, outputs, outputsOf}
+
+-- each output in its own bit
+pub output-bits : (mcr : ℕ) → (bit 0 (outputs mcr) ≡ dtr mcr) × (bit 1 (outputs mcr) ≡ rts mcr) × (bit 2 (outputs mcr) ≡ out1 mcr) × (bit 3 (outputs mcr) ≡ out2 mcr)
+unfolding outputs
+output-bits mcr =
+    let four = dtr mcr ∷ rts mcr ∷ out1 mcr ∷ out2 mcr ∷ [] in
+    (bit-bits 0 four, bit-bits 1 four, bit-bits 2 four, bit-bits 3 four)
+
+-- and nothing above them
+pub outputs-small : (mcr : ℕ) → outputs mcr < 2 ^ 4
+unfolding outputs
+outputs-small mcr = bits-small (dtr mcr ∷ rts mcr ∷ out1 mcr ∷ out2 mcr ∷ [])
+
+-- "MCR its low 5": what is kept of a byte has the outputs of the byte
+pub outputs-written : (byte : ℕ) → outputs (mcrKept byte) ≡ outputs byte
+unfolding outputs
+outputs-written byte = rw (bit-cut 0 5 byte, bit-cut 1 5 byte, bit-cut 2 5 byte, bit-cut 3 5 byte)
+
+-- a seat that is there is answered, and "seat (or line) above 7" refused
+pub outputs-told : (mcr n : ℕ) → n < seatCount → outputsOf mcr n ≡ Byte (outputs mcr)
+unfolding outputsOf refusalBy firstOf pick
+outputs-told mcr n there = rw (lt-leb seatCount n there)
+
+pub outputs-refused : (mcr n : ℕ) → seatCount ≤ n → outputsOf mcr n ≡ Refused 1
+unfolding outputsOf refusalBy firstOf pick
+outputs-refused mcr n above = rw (le-leb seatCount n above)

@@ -1,0 +1,14 @@
+-- The version of the library as one number, which C can compare before it compiles.
+use Prim.Native.Nat.{ℕ, _+_, _*_}
+
+abbrev major : ℕ
+major = 1
+
+abbrev minor : ℕ
+minor = 0
+
+abbrev patch : ℕ
+patch = 0
+
+abbrev pub version : ℕ
+version = major * 10000 + minor * 100 + patch

@@ -1,0 +1,75 @@
+/* The library and the second program's bench, an event at a time. */
+#include "compare.h"
+
+#include <stdio.h>
+#include <stdlib.h>
+#include <string.h>
+
+#include "fields.h"
+
+#define OUTPUTS 0x0FU /* of MCR */
+
+void fail(const char *what)
+{
+    fprintf(stderr, "tests/embed: %s\n", what);
+    exit(1);
+}
+
+static void differs(const char *what, unsigned long at, const char *how, struct event e)
+{
+    fprintf(stderr, "%s, event %lu (%02X %02X %02X %02X): ", what, at, e.kind, e.seat, e.number, e.value);
+    fail(how);
+}
+
+int told(uint64_t word, struct outcome outcome, unsigned output)
+{
+    return hailstoat_word_refusal(word) == (unsigned)outcome.refusal
+        && hailstoat_word_answer(word) == outcome.answer && hailstoat_word_output(word) == output && word >> 25 == 0;
+}
+
+/* "acknowledge": "the vector; 100 + vector if spurious" */
+static int acknowledged(uint64_t word, struct outcome outcome)
+{
+    unsigned spurious = outcome.refusal == REFUSAL_NONE && outcome.answer >= 0x100;
+    return hailstoat_word_spurious(word) == spurious && hailstoat_word_vector(word) == outcome.answer % 0x100;
+}
+
+static int same_places(const struct hailstoat_bench *lent, const struct bench *second)
+{
+    static const uint32_t lines[] = {0, 1, 2, 3, 4, 5, 6, 7, 8, 255, 256, 264, 0x80000000, UINT32_MAX};
+    for (size_t i = 0; i < sizeof lines / sizeof lines[0]; i += 1)
+        if (!told(hailstoat_place(lent, lines[i]), bench_place(second, lines[i]), 0))
+            return 0;
+    return 1;
+}
+
+static int same_outputs(const struct hailstoat_bench *lent, const struct bench *second, uint32_t seat)
+{
+    struct outcome outcome = {REFUSAL_SEAT, HAILSTOAT_REFUSED};
+    if (seat < SEATS)
+        outcome = (struct outcome){REFUSAL_NONE, second->seats[seat].mcr & OUTPUTS};
+    return told(hailstoat_modem_outputs(lent, seat), outcome, 0);
+}
+
+unsigned one_event(struct hailstoat_bench *lent, struct bench *second, const char *what, unsigned long at,
+                   struct event e)
+{
+    struct hailstoat_bench before = *lent;
+    uint64_t word = hailstoat_event(lent, e.kind, e.seat, e.number, (uint8_t)e.value);
+    struct outcome outcome = bench_event(second, e);
+    if (!told(word, outcome, bench_output(second)))
+        differs(what, at, "refusal, answer or output differs", e);
+    if (e.kind == HAILSTOAT_ACKNOWLEDGE && !acknowledged(word, outcome))
+        differs(what, at, "the vector, or whether it was spurious, differs", e);
+    if (hailstoat_output(lent) != bench_output(second))
+        differs(what, at, "the output differs", e);
+    if (outcome.refusal != REFUSAL_NONE && memcmp(&before, lent, sizeof before) != 0)
+        differs(what, at, "a refused event changed the bench", e);
+    if (!same_places(lent, second))
+        differs(what, at, "the place of a line differs", e);
+    if (!same_outputs(lent, second, e.seat))
+        differs(what, at, "the modem outputs differ", e);
+    if (fields_differ(lent, second) != NULL)
+        differs(what, at, fields_differ(lent, second), e);
+    return outcome.refusal != REFUSAL_NONE;
+}
