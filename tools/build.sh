@@ -19,15 +19,18 @@ crates_needed() {
 }
 
 # Of all that rt says, a line for each crate that it proves, with the time gone by since the start. What has not changed
-# since it was last proved is counted and not told. The last crate is the program's own, and needs all the others.
+# since it was last proved is counted and not told. The last crate is the program's own, which needs all the others, and
+# the longest silence comes before it.
 tell_crates() {
     local all=$1 line count=0 began=$SECONDS gone more
     while IFS= read -r line; do
         [[ $line =~ ^'rt: '([A-Za-z0-9_]+)' proved ('(.*)')'$ ]] || continue
-        count=$((count + 1))
-        [[ ${BASH_REMATCH[2]} != unchanged* ]] || continue
-        gone=$((SECONDS - began)) more=
-        [ "$count" -ne $((all - 1)) ] || more="; the last takes about a minute"
+        count=$((count + 1)) gone=$((SECONDS - began)) more=
+        if [ "$count" -eq $((all - 1)) ]; then
+            more="; the last takes about a minute"
+        elif [[ ${BASH_REMATCH[2]} = unchanged* ]]; then
+            continue
+        fi
         printf '%d of %d: %s, %d:%02d%s\n' "$count" "$all" "${BASH_REMATCH[1]}" $((gone / 60)) $((gone % 60)) "$more" >&2
     done
 }

@@ -42,7 +42,7 @@ echo "$*" >>asked
 room=$(mktemp -d)
 echo "rt: base proved (unchanged since it was last proved)"
 echo "fn lamp::on: proved"
-echo "rt: lamp proved (11 s)"
+echo "rt: lamp proved (${STANDS:-11 s})"
 (while [ -n "$GATE" ] && [ ! -e "$GATE" ]; do sleep 0.1; done) & echo $! >worker
 wait
 [ -z "$UNPROVED" ] || { echo "rt: bench_main NOT PROVED (exit 1, 2 s)"; echo "rt: FAILED: bench_main"; exit 1; }
@@ -116,7 +116,7 @@ class Streams(Start):
     """Streams that are closed. Nothing is built for what cannot be run."""
 
     def closed(self, streams, *words):
-        return self.run_it(*words, before=("bash", "-c", f'"$0" "$@" {streams}'))
+        return self.run_it(*words, before=("bash", "-c", f'exec "$0" "$@" {streams}'))
 
     def test_input_that_is_closed(self):
         self.assertEqual(self.closed("<&-"), (1, "", CLOSED_INPUT))
@@ -146,6 +146,10 @@ class Building(Start):
         self.assertRegex(said, f"^{FIRST}{PROGRESS}$")
         log = (self.root / "target/bench-build.log").read_text("utf-8").splitlines()
         self.assertEqual((len(log), log[1]), (6, "fn lamp::on: proved"))
+
+    def test_silence_before_the_last_crate_is_told_where_the_others_stand(self):
+        said = self.run_it("lesson.hex", settings={"STANDS": "unchanged since it was last proved"})[2]
+        self.assertRegex(said, f"^{FIRST}{PROGRESS}$")
 
     def test_input_is_the_programs(self):
         status, listing, _ = self.run_it(given="abc")
