@@ -27,7 +27,7 @@ tell_crates() {
         [[ $line =~ ^'rt: '([A-Za-z0-9_]+)' proved ('(.*)')'$ ]] || continue
         count=$((count + 1)) gone=$((SECONDS - began)) more=
         if [ "$count" -eq $((all - 1)) ]; then
-            more="; the last takes about a minute"
+            more="; the last may take a minute"
         elif [[ ${BASH_REMATCH[2]} = unchanged* ]]; then
             continue
         fi
@@ -73,18 +73,19 @@ take_turn() {
 # The input is the program's, and the listing's place is no place for what the build says. The program's time is that at
 # which its build began, so that what changes meanwhile is newer.
 build() {
-    local rt all
+    local rt all sources
     rt=$("$top/tools/find-rt") || exit 2
     take_turn
     if ! fresh; then
         touch "$lock"
+        sources=$(sum_sources)
         all=$(crates_needed)
         tell "the program is proved and built first: $all crates, about 6 minutes on two processors where none is proved yet, and 2.5 GB of memory"
         prove "$rt" "$all" || fail
         rm -rf "$room"
         trap - EXIT INT TERM HUP
         touch -r "$lock" "$bench_main"
-        record_kit "$rt"
+        record_build "$rt" "$sources"
     fi
     exec 9>&-
 }

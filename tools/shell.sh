@@ -21,9 +21,22 @@ skip() {
     printf '%s\n' "$*" | tee -a "${HAILSTOAT_SKIPPED:-/dev/null}"
 }
 
-# What the program is proved with stands beside it, for `bench --version`.
-record_kit() {
-    "$1" version >"$bench_main.kit"
+# The sources by name and content, as a number.
+sum_sources() {
+    (cd "$top" && find crates crates.txt -type f -print0 | LC_ALL=C sort -z | xargs -0 sha256sum | sha256sum)
+}
+
+# Beside the program stands what it was proved with, by which it is known again, and the sum of its sources when its build began.
+record_build() {
+    local rt=$1 sources=$2
+    { "$rt" version && sha256sum <"$bench_main" && echo "$sources"; } >"$bench_main.made"
+}
+
+# Sets made to these three; fails where the program is not the one that they were recorded for.
+recall_build() {
+    [ -x "$bench_main" ] && [ -r "$bench_main.made" ] || return
+    mapfile -t made <"$bench_main.made"
+    [ "${made[1]:-}" = "$(sha256sum <"$bench_main")" ]
 }
 
 # The programs are for x86-64. Elsewhere the toolchain has an emulator, and a loader and C library for it; tools/machine.py

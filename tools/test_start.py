@@ -24,7 +24,7 @@ TERMINAL = "bench: waiting for records on standard input, four bytes each; Ctrl-
 WAITING = "bench: another bench is building the program; waiting for its end\n"
 FIRST = ("bench: the program is proved and built first: 3 crates, about 6 minutes on two processors where none is proved yet, "
          "and 2.5 GB of memory\n")
-PROGRESS = r"2 of 3: lamp, 0:\d\d; the last takes about a minute\n3 of 3: bench_main, 0:\d\d\n"
+PROGRESS = r"2 of 3: lamp, 0:\d\d; the last may take a minute\n3 of 3: bench_main, 0:\d\d\n"
 
 # What it is given and, without a lesson, what it reads.
 PROGRAM = """\
@@ -79,7 +79,7 @@ class Start(Room):
         self.setting.pop("RATTLE_HOME", None)
 
     def built(self):
-        (self.root / "target/bin").mkdir(parents=True)
+        (self.root / "target/bin").mkdir(parents=True, exist_ok=True)
         shutil.copy(self.root / "program", self.root / "target/bin/bench_main")
 
     def started(self, *words, before=(), settings=None, **how):
@@ -95,6 +95,11 @@ class Start(Room):
         running = self.started(*words, **({} if given is None else {"stdin": subprocess.PIPE}), **how)
         said = running.communicate(given and given.encode(), LIMIT)
         return running.returncode, *(text.decode("latin-1") for text in said)
+
+    def change(self, text):
+        """A source is written after the program was built."""
+        time.sleep(0.05)
+        self.write("crates/lamp/src/lib.rt", text)
 
     def asked(self):
         """What was asked of the toolchain."""
@@ -156,12 +161,16 @@ class Building(Start):
         self.assertEqual((status, listing), (0, "given \nabc"))
 
     def test_built_once_and_again_after_a_change(self):
-        for times in (1, 1, 2, 2):
-            if times == 2 and len(self.asked()) == 1:
-                time.sleep(0.05)
-                self.write("crates/lamp/src/lib.rt", "// changed")
+        for text, times in (("", 1), ("", 1), ("// changed", 2), ("// changed", 2), ("", 3)):
+            self.change(text)
             self.assertEqual(self.run_it("lesson.hex")[0], 0)
             self.assertEqual(self.asked(), times * ["check bench_main"])
+
+    def test_program_that_was_built_by_other_means_is_not_taken_for_the_recorded(self):
+        self.run_it("lesson.hex")
+        self.script("target/bin/bench_main", PROGRAM.replace("given", "other"))
+        self.change("")
+        self.assertEqual(self.run_it("lesson.hex")[1], "given lesson.hex\n")
 
     def test_failure_names_the_log_and_leaves_nothing_behind(self):
         status, listing, said = self.run_it("lesson.hex", settings={"UNPROVED": "1"})
@@ -203,6 +212,13 @@ class Building(Start):
         first.communicate(timeout=LIMIT)
         self.assertEqual(self.asked(), 2 * ["check bench_main"])
 
+    def test_running_program_keeps_nobody_from_building(self):
+        running = self.started(stdin=subprocess.PIPE)
+        self.assertEqual(running.stdout.readline(), b"given \n")
+        self.change("// changed")
+        self.assertRegex(self.run_it("lesson.hex")[2], f"^{FIRST}{PROGRESS}$")
+        self.assertEqual(running.communicate(b"abc", LIMIT)[0], b"abc")
+
 
 def alive(process):
     """A process that has ended may wait for its parent to hear of it."""
@@ -224,9 +240,12 @@ class ReadOnly(Start):
                 self.skipTest("root can write anything, and there is no setpriv")
             self.user = ("setpriv", "--reuid=65534", "--regid=65534", "--clear-groups")
 
+    def open(self):
+        subprocess.run(["chmod", "-R", "u+w", self.root], check=True)
+
     def shut(self):
         subprocess.run(["chmod", "-R", "a-w,a+rX", self.root], check=True)
-        self.addCleanup(subprocess.run, ["chmod", "-R", "u+w", self.root], check=True)
+        self.addCleanup(self.open)
         writing = subprocess.run([*self.user, "touch", self.root / "target"], stderr=subprocess.DEVNULL, check=False)
         self.assertNotEqual(writing.returncode, 0)
 
@@ -235,9 +254,21 @@ class ReadOnly(Start):
         self.shut()
         self.assertEqual(self.run_it("lesson.hex", before=self.user), (0, "given lesson.hex\n", ""))
 
-    def test_program_that_is_not_built_is_told(self):
+    def test_copied_tree_runs(self):
+        """What is copied may be older or newer than the program."""
+        self.run_it("lesson.hex")
+        self.change("")
         self.shut()
+        self.assertEqual(self.run_it("lesson.hex", before=self.user), (0, "given lesson.hex\n", ""))
+
+    def test_program_that_is_not_built_of_these_sources_is_told(self):
         told = f"bench: the program is not built of these sources, and {self.root}/target, where it would be, cannot be written\n"
+        self.shut()
+        self.assertEqual(self.run_it("lesson.hex", before=self.user), (2, "", told))
+        self.open()
+        self.run_it("lesson.hex")
+        self.change("// changed")
+        self.shut()
         self.assertEqual(self.run_it("lesson.hex", before=self.user), (2, "", told))
 
 
@@ -290,16 +321,14 @@ class Version(Start):
         self.run_it("lesson.hex")
         (self.root / "asked").unlink()
         self.assertEqual(self.told(), ["proved with kit 9"])
-        time.sleep(0.05)
-        self.write("crates/lamp/src/lib.rt", "// changed")
+        self.change("// changed")
         self.assertEqual(self.told(), ["proved with kit 9", "the sources have changed since; the next use proves and builds them"])
 
     def test_built_by_other_means_since(self):
-        self.built()
-        self.assertEqual(self.told(), ["proved and built; with which kit was not recorded"])
-        self.write("target/bin/bench_main.kit", "kit 7\n")
-        os.utime(self.root / "target/bin/bench_main.kit", (0, 0))
-        self.assertEqual(self.told(), ["proved and built; with which kit was not recorded"])
+        for text in ("", "kit 7\n", "kit 7\n0  -\n0  -\n"):
+            self.built()
+            self.write("target/bin/bench_main.made", text)
+            self.assertEqual(self.told(), ["proved and built; with which kit was not recorded"])
 
 
 class Input(Start):
