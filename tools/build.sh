@@ -61,7 +61,8 @@ prove() {
     wait "$group"
 }
 
-# One build at a time: another waits for its end, and finds the program built.
+# One build at a time: another waits for its end, and finds the program built. All that a build starts holds the lock with it,
+# so that nobody builds beside what is left of one that was killed.
 take_turn() {
     { mkdir -p "$top/target" && exec 9>>"$lock"; } 2>/dev/null ||
         refuse "the program is not built of these sources, and $top/target, where it would be, cannot be written"
@@ -80,7 +81,7 @@ build() {
         touch "$lock"
         sources=$(sum_sources)
         all=$(crates_needed)
-        tell "the program is proved and built first: $all crates, about 6 minutes on two processors where none is proved yet, and 2.5 GB of memory"
+        tell "the program is proved and built first: $all crates, 4 to 6 minutes on two processors where none is proved yet, and 2.5 GB of memory"
         prove "$rt" "$all" || fail
         rm -rf "$room"
         trap - EXIT INT TERM HUP
