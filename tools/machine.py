@@ -35,12 +35,16 @@ def proved(name, root=ROOT):
 
 
 def run_by(rt):
-    """Programs are for x86-64. On another processor the kit has an emulator beside its compiler."""
+    """What a program is run by, as find_runner of tools/shell.sh has it: nothing on x86-64; elsewhere the kit's emulator, and a
+    loader behind it, which a program that is linked statically does not need."""
+    if platform.machine() == "x86_64":
+        return []
     kit = Path(os.environ.get("RATTLE_HOME", rt.resolve().parent.parent))
     toolchain = kit / "on" / platform.machine() / "toolchain"
     emulator = toolchain / "bin/qemu-x86_64"
-    loader = [toolchain / "lib/ld-linux-x86-64.so.2", "--library-path", toolchain / "lib"]
-    return [emulator] + loader if emulator.exists() else loader
+    if not os.access(emulator, os.X_OK):
+        stop(f"the toolchain has no emulator for this machine at {emulator.parent}")
+    return [emulator, toolchain / "lib/ld-linux-x86-64.so.2", "--library-path", toolchain / "lib"]
 
 
 def second(out):

@@ -1,8 +1,10 @@
 """What the tests of the scripts share: a small repository in a temporary folder."""
+import shutil
 import tempfile
 import unittest
 from pathlib import Path
 
+TOP = Path(__file__).resolve().parent.parent
 
 class Room(unittest.TestCase):
     def setUp(self):
@@ -18,3 +20,21 @@ class Room(unittest.TestCase):
     def script(self, name, text):
         self.write(name, text)
         (self.root / name).chmod(0o755)
+
+    def copy(self, *names):
+        """Files of the project's own repository, as they are."""
+        for name in names:
+            (self.root / name).parent.mkdir(parents=True, exist_ok=True)
+            shutil.copy(TOP / name, self.root / name)
+
+    def only(self, *commands):
+        """A PATH that has these commands of the machine's and no other."""
+        folder = self.root / "only"
+        folder.mkdir(exist_ok=True)
+        for command in commands:
+            (folder / command).symlink_to(shutil.which(command))
+        return str(folder)
+
+    def no_toolchain(self):
+        """The kit at its usual place is not seen."""
+        self.script("tools/find-rt", (TOP / "tools/find-rt").read_text("utf-8").replace("/opt/rattle", f"{self.root}/none"))

@@ -13,7 +13,7 @@ RT = f"""#!/bin/sh
 case $1 in
 version) echo kit 9 ;;
 fmt) [ -z "$UNTIDY" ] ;;
-ci) echo proving; [ -z "$UNPROVED" ] && echo "{VERDICT}" || {{ echo "6 passed, 1 failed"; exit 1; }} ;;
+ci) echo proving; mkdir -p target/bin; : >target/bin/bench_main; [ -z "$UNPROVED" ] && echo "{VERDICT}" || {{ echo "6 passed, 1 failed"; exit 1; }} ;;
 esac
 """
 
@@ -28,7 +28,7 @@ class Gate(Room):
         self.script("tools/reading", '#!/bin/sh\necho "reading $*"\n')
         self.write("crates.txt", "lamp:\n")
         self.write("crates/lamp/src/lib.rt", "")
-        self.script("tools/find-rt", (TOOLS / "find-rt").read_text("utf-8"))
+        self.copy("tools/shell.sh", "tools/find-rt")
         self.gate("")
 
     def gate(self, landed):
@@ -39,8 +39,8 @@ class Gate(Room):
 
     def run_it(self, **settings):
         """The status, and the lines written."""
-        setting = {**os.environ, "HAILSTOAT_DOCUMENT_01": "nowhere", "HAILSTOAT_DOCUMENT_02": "nowhere", **settings}
-        setting["PATH"] = f"{self.root / 'bin'}:{os.environ['PATH']}"
+        setting = {**os.environ, "HAILSTOAT_DOCUMENT_01": "nowhere", "HAILSTOAT_DOCUMENT_02": "nowhere",
+                   "PATH": f"{self.root / 'bin'}:{os.environ['PATH']}", **settings}
         done = subprocess.run([self.root / "tools/test"], cwd="/", env=setting,
                               stdout=subprocess.PIPE, stderr=subprocess.STDOUT, encoding="utf-8")
         return done.returncode, done.stdout.splitlines()
@@ -88,7 +88,7 @@ class Gate(Room):
         self.assertEqual(self.read_with(), "reading --check")
         self.assertEqual(self.read_with(HAILSTOAT_DOCUMENT_02="paper.md"), "reading --check --and paper.md")
         first = self.read_with(HAILSTOAT_DOCUMENT_01="paper.md")
-        self.assertTrue(first.startswith("reading --check --against paper.md --complete "))
+        self.assertEqual(first, "reading --check --against paper.md --complete")
         self.assertEqual(self.read_with(HAILSTOAT_DOCUMENT_01="paper.md", HAILSTOAT_DOCUMENT_02="paper.md"), f"{first} --and paper.md")
 
     def test_tickets_that_have_landed_are_named(self):
@@ -102,6 +102,19 @@ class Gate(Room):
         status, said = self.run_it()
         self.assertEqual(status, 0)
         self.assertTrue(any("differ" in line for line in said))
+
+    def test_what_it_was_proved_with_stands_beside_the_program(self):
+        self.run_it()
+        self.assertEqual((self.root / "target/bin/bench_main.made").read_text("utf-8").splitlines()[0], "kit 9")
+
+    def test_what_is_missing_is_told_first_a_sentence_each(self):
+        path = self.only("bash", "dirname", "readlink")
+        lacking = [f"tools/test: {command} is missing. README.md says what the tests need." for command in ("gcc", "python3")]
+        self.assertEqual(self.run_it(PATH=f"{path}:{self.root / 'bin'}"), (1, lacking))
+        self.no_toolchain()
+        status, said = self.run_it(PATH=path)
+        self.assertEqual((status, said[1:]), (1, lacking))
+        self.assertRegex(said[0], r"^The Rattle toolchain is missing: .* README\.md says where it belongs\.$")
 
     def test_each_failure_stops_it(self):
         self.stops(f"failed: {self.root}/bin/rt fmt --check", UNTIDY="1")

@@ -23,7 +23,8 @@ class Trials(Room):
     def setUp(self):
         super().setUp()
         self.script("bin/rt", '#!/bin/sh\necho rt "$@"\nexit "${FAULT:-0}"\n')
-        self.script(f"on/{platform.machine()}/toolchain/lib/ld-linux-x86-64.so.2", '#!/bin/sh\nshift 2\nexec "$@"\n')
+        self.emulator = f"on/{platform.machine()}/toolchain/bin/qemu-x86_64"
+        self.script(self.emulator, '#!/bin/sh\nshift 3\nexec "$@"\n')
         self.script("second/build", f'#!/bin/sh\ncp "{self.root}/other" "$1/second"\n')
         for name in ("trials", "machine.py", "find-rt"):
             self.script(f"tools/{name}", (TOOLS / name).read_text("utf-8"))
@@ -66,6 +67,13 @@ class Trials(Room):
         self.assertEqual(self.run_it("3", "100", FAULT="1")[0], 2)
         self.script("target/bin/trials", "#!/bin/sh\nexit 0\n")
         self.assertEqual(self.run_it("3", "100")[0], 2)
+
+    def test_emulator_that_is_missing_is_told_where_the_processor_needs_one(self):
+        (self.root / self.emulator).unlink()
+        status, said = self.run_it("3", "100")
+        told = f"trials: the toolchain has no emulator for this machine at {(self.root / self.emulator).parent}"
+        native = platform.machine() == "x86_64"
+        self.assertEqual((status, said), (0, ["3 100 3100", "100 events, no difference"]) if native else (2, [told]))
 
     def test_words_that_are_not_understood(self):
         for words in ((), ("3",), ("5-3", "100"), ("4294967296", "1"), ("3", "-1"), ("x", "1"), ("3", "1", "x"),

@@ -1,0 +1,180 @@
+"""Tests of bench: streams, words and input, which are looked at before anything is built, the version, and the stack."""
+import os
+import pty
+import resource
+import unittest
+
+from room import TOP
+from standins import LESSON, LIMIT, Start
+
+KIB = 1024
+RECORD = b"\7\0\0\x13"
+
+CLOSED_INPUT = "bench: standard input is closed; there are no records to read. For a lesson: bench LESSON\n"
+CLOSED_OUTPUT = "bench: standard output is closed; there is nowhere for the listing\n"
+TEXT = "bench: standard input begins like a lesson's text; it is read as records, byte for byte. For a lesson: bench LESSON\n"
+TERMINAL = "bench: waiting for records on standard input, four bytes each; Ctrl-D ends them. For a lesson: bench LESSON\n"
+
+
+class Streams(Start):
+    """Streams that are closed. Nothing is built for what cannot be run."""
+
+    def closed(self, streams, *words):
+        return self.run_it(*words, before=("bash", "-c", f'exec "$0" "$@" {streams}'))
+
+    def test_input_that_is_closed(self):
+        self.assertEqual(self.closed("<&-"), (1, "", CLOSED_INPUT))
+        self.assertEqual(self.asked(), [])
+
+    def test_lesson_needs_no_input(self):
+        self.built()
+        self.assertEqual(self.closed("<&-", "lesson.hex"), (0, "given lesson.hex\n", ""))
+
+    def test_output_that_is_closed(self):
+        for words in ((), ("lesson.hex",)):
+            self.assertEqual(self.closed(">&-", *words), (1, "", CLOSED_OUTPUT))
+        self.assertEqual(self.asked(), [])
+
+    def test_standard_error_that_is_closed(self):
+        self.assertEqual(self.closed("2>&-", "lesson.hex"), (0, "given lesson.hex\n", ""))
+        self.assertEqual(self.asked(), ["check bench_main"])
+        self.script("target/bin/bench_main", "#!/bin/sh\necho a fault >&2\n")
+        self.assertEqual(self.closed("2>&-", "lesson.hex"), (1, "", ""))
+        self.assertEqual(self.closed("<&- >&- 2>&-"), (1, "", ""))
+
+
+class Words(Start):
+    """They are looked at before anything is built."""
+
+    def tearDown(self):
+        self.assertEqual(self.asked(), [])
+
+    def test_lesson_that_cannot_be_read(self):
+        self.assertEqual(self.run_it("no: lesson"), (1, "", "no: lesson: No such file or directory\n"))
+        self.assertEqual(self.run_it("bin"), (1, "", "bin: Is a directory\n"))
+        self.assertEqual(self.run_it("lesson.hex/x"), (1, "", "lesson.hex/x: Not a directory\n"))
+        name = 5000 * "x"
+        self.assertEqual(self.run_it(name), (1, "", f"{name}: File name too long\n"))
+
+    def test_wrong_words_are_answered_with_the_usage(self):
+        for words in (("--lesson",), ("-x",), ("-",), ("",), ("lesson.hex", "lesson.hex"), ("--help", "me")):
+            status, listing, said = self.run_it(*words)
+            self.assertEqual((status, listing), (2, ""), words)
+            self.assertIn("usage: bench LESSON >LISTING\n", said, words)
+        self.assertTrue(self.run_it("--lesson")[2].startswith("bench: there is no option --lesson\nusage: "))
+
+    def test_help(self):
+        status, said, _ = self.run_it("--help")
+        self.assertEqual((status, said[:29]), (0, "usage: bench LESSON >LISTING\n"))
+        self.assertEqual(self.run_it("-h")[1], said)
+
+    def test_missing_toolchain_is_told_first(self):
+        self.no_toolchain()
+        path = self.only("bash", "dirname", "readlink", "find", "uname")
+        status, listing, said = self.run_it("lesson.hex", settings={"PATH": path})
+        self.assertEqual((status, listing), (2, ""))
+        self.assertRegex(said, r"^The Rattle toolchain is missing: [^\n]* README\.md says where it belongs\.\n$")
+
+
+class Version(Start):
+    def told(self):
+        status, said, faults = self.run_it("--version")
+        self.assertEqual((status, faults, self.asked()), (0, "", []))
+        first, *rest = said.splitlines()
+        self.assertEqual(first, f"hailstoat {(TOP / 'VERSION').read_text('utf-8').strip()}")
+        return rest
+
+    def test_not_built(self):
+        self.write("docs/kit", "kit 8\n")
+        self.assertEqual(self.told(), ["not built yet; the tests were last passed with kit 8"])
+
+    def test_built(self):
+        self.run_it("lesson.hex")
+        (self.root / "asked").unlink()
+        self.assertEqual(self.told(), ["proved with kit 9"])
+        self.change("// changed")
+        self.assertEqual(self.told(), ["proved with kit 9", "the sources have changed since; the next use proves and builds them"])
+
+    def test_built_by_other_means_since(self):
+        for text in ("", "kit 7\n", "kit 7\n0  -\n0  -\n"):
+            self.built()
+            self.write("target/bin/bench_main.made", text)
+            self.assertEqual(self.told(), ["proved and built; with which kit was not recorded"])
+
+
+class Input(Start):
+    """Remarks on the input, which change neither status nor listing."""
+
+    def setUp(self):
+        super().setUp()
+        self.built()
+
+    def from_file(self, content, skipped=0):
+        (self.root / "input").write_bytes(content)
+        with open(self.root / "input", "rb", buffering=0) as source:
+            source.seek(skipped)
+            status, listing, said = self.run_it(stdin=source)
+        self.assertEqual((status, listing.encode("latin-1")), (0, b"given \n" + content[skipped:]))
+        return said
+
+    def test_text_is_told(self):
+        for text in (LESSON.encode(), b"# a comment\n", b"\r\n07000013", b"\t07", b"07", b"\xef\xbb\xbf07 00",
+                     "07 00".encode("utf-16"), b"\xfe\xff\x000"):
+            self.assertEqual(self.from_file(text), TEXT, text)
+
+    def test_records_are_not(self):
+        for records in (b"", RECORD, b"0" + RECORD, b"000\x13", b"\x08  \n", b"~~~\x7f", b"\xef\xbb\x13\0", b"\xff\xff\xfe\0"):
+            self.assertEqual(self.from_file(records), "", records)
+
+    def test_only_what_will_be_read_counts(self):
+        self.assertEqual(self.from_file(b"text" + RECORD, skipped=4), "")
+
+    def test_pipe_is_left_alone(self):
+        self.assertEqual(self.run_it(given=LESSON), (0, f"given \n{LESSON}", ""))
+
+    def test_terminal_is_told_what_is_waited_for(self):
+        user, terminal = pty.openpty()
+        self.addCleanup(os.close, user)
+        running = self.started(stdin=terminal)
+        os.close(terminal)
+        self.says(running, TERMINAL)
+        os.write(user, b"ab\n\4")
+        self.assertEqual(running.communicate(timeout=LIMIT), (b"given \nab\n", b""))
+
+    def test_lesson_on_a_terminal_waits_for_nothing(self):
+        user, terminal = pty.openpty()
+        self.assertEqual(self.run_it("lesson.hex", stdin=terminal), (0, "given lesson.hex\n", ""))
+        os.close(user)
+        os.close(terminal)
+
+
+class Stack(Start):
+    """A lesson's text is held on the stack."""
+
+    def setUp(self):
+        super().setUp()
+        self.built()
+
+    def limited(self, soft, hard, *words):
+        """The stack that the program is given, and what is said."""
+        limit = lambda: resource.setrlimit(resource.RLIMIT_STACK, (soft * KIB if soft > 0 else soft, hard * KIB if hard > 0 else hard))
+        status, listing, said = self.run_it(*words, settings={"STACK": "1"}, preexec_fn=limit)
+        self.assertEqual(status, 0)
+        return listing.splitlines()[1], said
+
+    def test_limit_is_raised(self):
+        most = resource.getrlimit(resource.RLIMIT_STACK)[1]
+        if most != resource.RLIM_INFINITY:
+            self.skipTest("the stack has a hard limit here")
+        self.assertEqual(self.limited(8192, most, "lesson.hex"), ("65536", ""))
+        self.assertEqual(self.limited(100000, most, "lesson.hex"), ("100000", ""))
+        self.assertEqual(self.limited(resource.RLIM_INFINITY, most), ("65536", ""))
+
+    def test_limit_that_cannot_be_raised_is_told_for_a_lesson(self):
+        self.assertEqual(self.limited(8192, 8192, "lesson.hex"),
+                         ("8192", "bench: the stack is limited to 8192 KiB here; a long lesson may need 65536\n"))
+        self.assertEqual(self.limited(8192, 8192), ("8192", ""))
+
+
+if __name__ == "__main__":
+    unittest.main()
