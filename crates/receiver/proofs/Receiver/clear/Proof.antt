@@ -1,4 +1,4 @@
-use Rattle.base.specs.PickLaws.{pick-true, pick-false}
+-- made by tools/answers for Receiver::clear of crates/receiver/src/lib.rt, sum 84987766a0f3c788: do not change it by hand, make it anew
 use Rattle.receiver.specs.Receiver.{cleared}
 use borrow.Author.Needs.{needs}
 use Rattle.receiver.proofs.Receiver.clear.Statement.{statement}
@@ -9,7 +9,7 @@ emptied-requires c κs = search needs
 
 returns : tie.Need-returns
 unfolding cleared
-returns c = simp (← c .emptied .ensures, pick-true, pick-false)
+returns c = simp (← c .emptied .ensures)
 
 pub clear-spec : {M : Type 1} → statement M
 clear-spec = tie.close (tie.spec emptied-requires returns)
