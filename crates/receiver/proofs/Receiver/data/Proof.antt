@@ -1,3 +1,4 @@
+-- made by tools/answers for Receiver::data of crates/receiver/src/lib.rt, sum 29a4775d663eda9b: do not change it by hand, make it anew
 use Rattle.base.specs.PickLaws.{pick-true, pick-false}
 use Rattle.receiver.specs.Receiver.{dataStands}
 use borrow.Author.Needs.{needs}

@@ -1,3 +1,4 @@
+-- made by tools/answers for Receiver::marks of crates/receiver/src/lib.rt, sum 931c569fb91a76f3: do not change it by hand, make it anew
 use Rattle.base.specs.PickLaws.{pick-true, pick-false}
 use Rattle.receiver.specs.Receiver.{shownMarks}
 use borrow.Author.Needs.{needs}

@@ -1,4 +1,4 @@
-use Rattle.base.specs.PickLaws.{pick-true, pick-false}
+-- made by tools/answers for Receiver::receive of crates/receiver/src/lib.rt, sum c70dbdad0b2e6e51: do not change it by hand, make it anew
 use Rattle.receiver.specs.Receiver.{received}
 use borrow.Author.Needs.{needs}
 use Rattle.receiver.proofs.Receiver.receive.Statement.{statement}
@@ -12,7 +12,7 @@ pick-byte-requires c κs = search needs
 
 returns : tie.Need-returns
 unfolding received
-returns c = simp (← c .pick-byte .ensures, ← c .before .before .before .before .before .before .accept .ensures, pick-true, pick-false)
+returns c = simp (← c .pick-byte .ensures, ← c .before .before .before .before .before .before .accept .ensures)
 
 pub receive-spec : {M : Type 1} → statement M
 receive-spec = tie.close (tie.spec accept-requires pick-byte-requires returns)

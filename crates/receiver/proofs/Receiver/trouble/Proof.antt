@@ -1,3 +1,4 @@
+-- made by tools/answers for Receiver::trouble of crates/receiver/src/lib.rt, sum bdfa5fab9caca9a7: do not change it by hand, make it anew
 use Rattle.receiver.specs.Receiver.{troubled}
 use borrow.Author.Needs.{needs}
 use Rattle.receiver.proofs.Receiver.trouble.Statement.{statement}

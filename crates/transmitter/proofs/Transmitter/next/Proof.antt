@@ -1,3 +1,4 @@
+-- made by tools/answers for Transmitter::next of crates/transmitter/src/lib.rt, sum dfe3ce169c45c27c: do not change it by hand, make it anew
 use Rattle.base.specs.PickLaws.{pick-true, pick-false}
 use Rattle.transmitter.specs.Transmitter.{next}
 use borrow.Author.Needs.{needs}
@@ -9,7 +10,7 @@ is-empty-requires c κs = search needs
 
 returns : tie.Need-returns
 unfolding next
-returns c = simp (← c .before .is-empty .ensures, c .if1 .taken, pick-true, pick-false)
+returns c = simp (← c .before .is-empty .ensures, c .if1 .taken, pick-true)
 
 load-requires : tie.Need-load-requires
 load-requires c κs = search needs
@@ -22,7 +23,7 @@ set-flag-if-requires c κs = search needs
 
 returns-2 : tie.Need-returns-2
 unfolding next
-returns-2 c = simp (← c .set-flag-if .ensures, ← c .before .is-empty2 .ensures, ← c .before .before .load .ensures, ← c .before .before .before .before .is-empty .ensures, c .before .before .before .if1 .left, pick-true, pick-false)
+returns-2 c = simp (← c .set-flag-if .ensures, ← c .before .is-empty2 .ensures, ← c .before .before .load .ensures, ← c .before .before .before .before .is-empty .ensures, c .before .before .before .if1 .left, pick-false)
 
 pub next-spec : {M : Type 1} → statement M
 next-spec =

@@ -1,4 +1,4 @@
-use Rattle.base.specs.PickLaws.{pick-true, pick-false}
+-- made by tools/answers for Transmitter::shift of crates/transmitter/src/lib.rt, sum 30f4325a0b50847e: do not change it by hand, make it anew
 use Rattle.transmitter.specs.Transmitter.{shifted}
 use borrow.Author.Needs.{needs}
 use Rattle.transmitter.proofs.Transmitter.shift.Statement.{statement}
@@ -9,7 +9,7 @@ next-requires c κs = search needs
 
 returns : tie.Need-returns
 unfolding shifted
-returns c = simp (← c .next .ensures, pick-true, pick-false)
+returns c = simp (← c .next .ensures)
 
 pub shift-spec : {M : Type 1} → statement M
 shift-spec = tie.close (tie.spec next-requires returns)

@@ -1,0 +1,51 @@
+"""The functions of a source file, and the definition that the contract of each says its answer is."""
+import re
+from pathlib import Path
+from typing import NamedTuple, Optional
+
+FUNCTION = re.compile(r'(?m)^( *)(?:pub |pub\(crate\) |)(?:[\w"]+ )*fn (\w+)')
+ANSWER = re.compile(r"ensures\s*\{\s*λ \w+\.\s*⌜\s*(\(?)\w+ ≡ (\S+)")
+
+# A choice by a test stays shut: the laws of a choice settle it.
+SHUT = {"pick"}
+
+
+class Contract(NamedTuple):
+    """`r ≡ NAME ..`; paired where that is the first of several parts, `(r ≡ NAME ..) × ..`."""
+
+    module: Optional[str] = None
+    name: Optional[str] = None
+    paired: bool = False
+
+
+def brought(source):
+    """The names that a source's `ghost use` lines bring: the module and the name there of each."""
+    found = {}
+    for module, names in re.findall(r"(?m)^ghost use (\S+?)\.\{([^}]*)\};", source):
+        for name in names.split(","):
+            there, _, here = name.strip().partition(" as ")
+            found[here or there] = module, there
+    return found
+
+
+def functions(source):
+    """The contract of each function of a source file, by the function's path: Queue::put, or output_digit."""
+    source, found = re.sub(r"//.*", "", source), {}
+    names = brought(source)
+    for function in FUNCTION.finditer(source):
+        body = re.compile(rf"(?m)^{function[1]}(?:\S.* )?\{{$").search(source, function.start())
+        owner = re.findall(r"(?m)^impl(?:<[^>]*>)? (\w+)|^(\})", source[: function.start()])
+        kind = owner[-1][0] if function[1] and owner else ""
+        said = ANSWER.search(source, function.start(), body.end() if body else len(source))
+        module, name = names.get(said[2], (None, None)) if said else (None, None)
+        found[f"{kind}::{function[2]}" if kind else function[2]] = Contract(module, name, bool(said and said[1]))
+    return found
+
+
+def is_unfoldable(root, contract):
+    """Whether a proof may open the definition: a room declares it so in specs/. An abbreviation is open already."""
+    found = re.fullmatch(r"Rattle·(\w+?)(?:·specs)?\.specs\.([\w.]+)", contract.module or "")
+    file = Path(root, "crates", found[1], "specs", *found[2].split(".")).with_suffix(".antt") if found else None
+    if not file or not file.is_file() or contract.name in SHUT:
+        return False
+    return bool(re.search(rf"(?m)^unfoldable (?:pub )?{re.escape(contract.name)} :", file.read_text("utf-8")))

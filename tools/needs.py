@@ -1,0 +1,97 @@
+"""What is known at each need of a function, and the standard answer to it.
+
+`rt dev CRATE --generated DIR` writes a function's Lts.antt. There each place of the code has a record: `before`, the
+record of the place before it, and one thing more, whose fields stand in a record of the same name with ·own behind it.
+Each need takes the record of its place as `c`, so what is known there is reached by `c .before .before .THING .FIELD`.
+"""
+import re
+from typing import NamedTuple, Optional
+
+HOLDS, FAILS = "pick-true", "pick-false"
+
+# By what a branch knows: how that settles the tests of a definition, and which laws of a choice may then serve.
+LAWS = {
+    "lt": (("lt-ltb", "lt-leb"), (HOLDS, FAILS)),
+    "le": (("le-ltb", "le-leb"), (HOLDS, FAILS)),
+    "eq": (("eq-eqb",), (HOLDS,)),
+    "ne": (("ne-eqb",), (FAILS,)),
+    "true": ((), (HOLDS,)),
+    "false": ((), (FAILS,)),
+}
+
+
+class Place(NamedTuple):
+    before: Optional[str]  # the record of the place before; none at the function's start
+    thing: str
+
+
+class Walk(NamedTuple):
+    """By the records' names, the places and the fields of each one's thing; by the needs' names, the record of each."""
+
+    places: dict
+    own: dict
+    needs: dict
+
+
+class Answer(NamedTuple):
+    words: str
+    choice: tuple = ()  # the names of base's PickLaws that it cites
+    tests: tuple = ()  # and of the library's tests
+
+
+def walk_of(text):
+    """The walk that an Lts.antt describes. Its declarations stand apart by blank lines."""
+    walk = Walk({}, {}, {})
+    for said in re.split(r"\n[ \t]*\n", text):
+        own = re.search(r"pub (?:record )?(\S+)·own : Type 0", said)
+        record = re.match(r"\s*pub record (\S+) : Type 0 where\s+pub (\S+) : (\S+)(?:\s+pub (\S+) :)?", said)
+        need = re.search(r"\bNeed-(\S+) =\s*\(c : ([^)\s]+)", said)
+        if own:
+            walk.own[own[1]] = said[own.end() :]
+        elif record:
+            inner = record[2] == "before"
+            walk.places[record[1]] = Place(record[3] if inner else None, record[4] if inner else record[2])
+        elif need:
+            walk.needs[need[1]] = need[2]
+    return walk
+
+
+def branch_of(own):
+    """The field of a branch's thing, `taken` or `left`, and what it says: two numbers compared, or the value of a test."""
+    field = re.match(r" where\s+pub (taken|left) :(.*)", own, re.S)
+    if not field:
+        return None, None
+    if re.search(r"\bNat['\d]*\._<_", field[2]):
+        return field[1], "lt"
+    if re.search(r"\bNat['\d]*\._≤_", field[2]):
+        return field[1], "le"
+    if re.search(r"\{A = Nat['\d]*\.ℕ\}", field[2]):
+        return field[1], "ne" if "→" in field[2] else "eq"
+    return field[1], "true" if field[1] == "taken" else "false"
+
+
+def known_at(walk, need):
+    """What is known at a need, the nearest first: the way to each thing, and the thing's own fields."""
+    way, record = "c", walk.needs.get(need)
+    while record in walk.places and walk.places[record].before:
+        yield f"{way} .{walk.places[record].thing}", walk.own.get(record, "")
+        way, record = f"{way} .before", walk.places[record].before
+
+
+def answer(need, walk, contract, paired):
+    """The standard answer. `paired` has the callees whose contracts say more than one thing: their equation is the first."""
+    calls, facts, choice, tests = [], [], set(), set()
+    for way, own in known_at(walk, need) if need.startswith("returns") else ():
+        field, kind = branch_of(own)
+        if "Called.Called" in own:
+            callee = re.sub(r"\d+$", "", way.split(" .")[-1]).replace("-", "_")
+            calls.append(f"← {way} .ensures" + (" .0" if callee in paired else ""))
+        elif field:
+            laws, choices = LAWS[kind]
+            facts += [f"{law} _ _ ({way} .{field})" for law in laws] or [f"{way} .{field}"]
+            choice.update(choices)
+            tests.update(laws)
+    if contract.paired or not calls + facts:
+        return Answer(f"search ({', '.join(['tests', *calls])})" if calls else "search tests", ("tests",))
+    chosen = tuple(sorted(choice, reverse=True))
+    return Answer(f"simp ({', '.join([*calls, *facts, *chosen])})", chosen, tuple(sorted(tests)))

@@ -1,0 +1,201 @@
+"""Tests of what tools/answers makes of the prover's words: contracts, needs and offers. The prover itself is not run.
+
+samples/ has what the toolchain says of Queue::take where its proof file is missing: in take.said the end of `rt dev`'s
+words, with ROOT for the tree's folder, and in take.lts the places and the needs of its Lts.antt.
+"""
+import unittest
+from pathlib import Path
+
+from contracts import Contract, functions, is_unfoldable
+from needs import answer, known_at, walk_of
+from offers import answered, function_at, offers, source_of
+from room import Room
+
+TOOLS = Path(__file__).parent
+SAID = (TOOLS / "samples/take.said").read_text("utf-8")
+LTS = (TOOLS / "samples/take.lts").read_text("utf-8")
+
+SOURCE = """// A queue.
+ghost use mathlib.Core.Path.{_≡_};
+ghost use Rattle.queue.specs.Queue.{emptyQueue, taken, capital as Queue·capital};
+ghost use Prim.Native.Nat.{_+_};
+
+impl Queue {
+    pub fn empty() -> Self
+        ensures { λ r. ⌜ r ≡ emptyQueue ⌝ }
+    {
+        Queue { count: 0 }
+    }
+
+    pub fn take(mut self) -> Taken
+        ensures { λ r. ⌜ r ≡ taken self ⌝ }
+    {
+        self.moved()
+    }
+}
+
+fn capital(digit: u16) -> u8
+    requires { ⌜ digit < 16 ⌝ }
+    ensures { λ r. ⌜ r ≡ Queue·capital digit ⌝ }
+{
+    48
+}
+
+fn put(out: &mut [u8], at: usize) -> usize
+    // once: ensures { λ r. ⌜ r ≡ taken at ⌝ }
+    ensures {
+        λ r. ⌜ (r ≡ at + 7) × (now (out .exit) ≡ now (out .entry)) ⌝
+    }
+{
+    at + 7
+}
+"""
+
+SPECS = """abbrev pub emptyQueue : Queue
+emptyQueue = record { count = 0 }
+
+unfoldable pub taken : Queue → Taken
+taken q = pick (eqb (q .count) 0) q q
+"""
+
+MADE = """use Rattle.base.specs.PickLaws.{pick-true, pick-false}
+use borrow.Author.Tests.{eq-eqb, ne-eqb}
+use Rattle.queue.specs.Queue.{taken}
+use borrow.Author.Needs.{needs}
+use Rattle.queue.proofs.Queue.take.Statement.{statement}
+use Rattle.queue.proofs.Queue.take.Tie as tie
+
+returns : tie.Need-returns
+unfolding taken
+returns c = simp (eq-eqb _ _ (c .if1 .taken), pick-true)
+
+element-copy-out-character : tie.Need-element-copy-out-character
+element-copy-out-character c = search needs
+
+moved-down-requires : tie.Need-moved-down-requires
+moved-down-requires c κs = search needs
+
+sub-self : tie.Need-sub-self
+sub-self c = search needs
+
+returns-2 : tie.Need-returns-2
+unfolding taken
+returns-2 c = simp (← c .moved-down .ensures, ne-eqb _ _ (c .before .before .before .if1 .left), pick-false)
+
+pub take-spec : {M : Type 1} → statement M
+take-spec =
+    tie.close (tie.spec returns element-copy-out-character moved-down-requires sub-self returns-2)
+"""
+
+TAKEN = Contract("Rattle.queue.specs.Queue", "taken")
+
+
+class Contracts(Room):
+    def test_the_definition_of_each_function(self):
+        self.assertEqual(functions(SOURCE), {
+            "Queue::empty": Contract("Rattle.queue.specs.Queue", "emptyQueue"),
+            "Queue::take": TAKEN,
+            "capital": Contract("Rattle.queue.specs.Queue", "capital"),
+            "put": Contract(paired=True),
+        })
+
+    def test_what_is_unfoldable(self):
+        self.write("crates/queue/specs/Queue.antt", SPECS)
+        self.write("crates/base/specs/Pick.antt", "unfoldable pub pick : Bool → A\n")
+        self.assertTrue(is_unfoldable(self.root, TAKEN))
+        self.assertTrue(is_unfoldable(self.root, TAKEN._replace(module="Rattle.queue.specs.Queue")))
+        self.assertFalse(is_unfoldable(self.root, TAKEN._replace(name="emptyQueue")))
+        self.assertFalse(is_unfoldable(self.root, Contract("Rattle.base.specs.Pick", "pick")))
+        self.assertFalse(is_unfoldable(self.root, Contract("lib.Dec", "leb")))
+        self.assertFalse(is_unfoldable(self.root, Contract()))
+
+
+def branching(said):
+    """A walk whose need `returns` stands behind one branch, which knows what is given."""
+    return walk_of(f"""
+      pub record Start : Type 0 where
+        pub args : Args
+
+      module _ (before· : Start) where
+        pub record Then1·own : Type 0 where
+          pub {said}
+
+      pub record Then1 : Type 0 where
+        pub before : Start
+        pub if1 : Then1·own before
+
+      abbrev pub Need-returns : Type 0
+      Need-returns = (c : Then1) → Post
+""")
+
+
+class Needs(unittest.TestCase):
+    def test_each_need_and_what_is_known_there(self):
+        walk = walk_of(LTS)
+        self.assertEqual(sorted(walk.needs), ["element-copy-out-character", "moved-down-requires", "returns", "returns-2", "sub-self"])
+        ways = [way for way, _ in known_at(walk, "returns-2")]
+        self.assertEqual(ways, ["c .moved-down", "c .before .slots", "c .before .before .character", "c .before .before .before .if1"])
+
+    def test_the_answer_by_what_a_branch_knows(self):
+        for said, words in (
+            ("taken : Path'._≡_ (Row.get 8 m6)\n              Bool'.true", "simp (c .if1 .taken, pick-true)"),
+            ("left : Path'._≡_ (Row.get 8 m6) Bool'.false", "simp (c .if1 .left, pick-false)"),
+            ("taken : Path'._≡_ {A = Nat.ℕ} (Row.get 5 m3) 0", "simp (eq-eqb _ _ (c .if1 .taken), pick-true)"),
+            ("left : Path'._≡_ {A = Nat.ℕ}\n              0 →\n              ⊥", "simp (ne-eqb _ _ (c .if1 .left), pick-false)"),
+            ("taken : Nat._<_ m 15", "simp (lt-ltb _ _ (c .if1 .taken), lt-leb _ _ (c .if1 .taken), pick-true, pick-false)"),
+            ("left : Nat'._≤_ 15 m", "simp (le-ltb _ _ (c .if1 .left), le-leb _ _ (c .if1 .left), pick-true, pick-false)"),
+        ):
+            self.assertEqual(answer("returns", branching(said), Contract(), set()).words, words)
+
+    def test_a_need_that_is_no_return_and_one_where_nothing_is_known(self):
+        self.assertEqual(answer("sub-self", walk_of(LTS), TAKEN, set()).words, "search tests")
+        self.assertEqual(answer("returns", walk_of(""), TAKEN, set()).words, "search tests")
+
+    def test_a_call_whose_contract_says_several_things(self):
+        self.assertIn("← c .moved-down .ensures .0, ", answer("returns-2", walk_of(LTS), TAKEN, {"moved_down"}).words)
+
+    def test_a_contract_that_says_several_things(self):
+        found = answer("returns-2", walk_of(LTS), Contract(paired=True), set())
+        self.assertEqual(found.words, "search (tests, ← c .moved-down .ensures)")
+        self.assertEqual((found.choice, found.tests), (("tests",), ()))
+
+
+class Offers(unittest.TestCase):
+    def lines(self, root="/srv/a b"):
+        return offers(SAID.replace("ROOT", root), "queue")["Queue/take"]
+
+    def test_the_offer_is_found_in_a_folder_with_spaces(self):
+        lines = self.lines()
+        self.assertEqual(lines[0], "use borrow.Author.Needs.{needs}")
+        self.assertEqual(lines[-1], "    tie.close (tie.spec returns element-copy-out-character moved-down-requires sub-self returns-2)")
+        self.assertEqual(source_of(lines), "src/lib.rt")
+        self.assertEqual(offers(SAID, "rank"), {})
+
+    def test_the_function_of_a_place(self):
+        self.assertEqual(function_at("Queue/take", {"take": 1, "Queue::take": 2}), "Queue::take")
+        self.assertEqual(function_at("lines/take", {"take": 1, "Queue::take": 2}), "take")
+        self.assertEqual(function_at("lines/Queue/take", {"Queue::take": 2}), "Queue::take")
+        self.assertIsNone(function_at("Queue/retake", {"take": 1, "Queue::take": 2}))
+
+    def test_the_answered_file(self):
+        self.assertEqual(answered("queue", self.lines(), walk_of(LTS), TAKEN, True, set()), MADE)
+
+    def test_the_laws_where_they_stand(self):
+        lines = [line.replace("sub-self c = search needs", "sub-self c = ?") for line in self.lines()]
+        first = "use Rattle.base.specs.PickLaws.{tests, pick-true, pick-false}"
+        self.assertEqual(answered("queue", lines, walk_of(LTS), TAKEN, True, set()).split("\n")[0], first)
+        inside = first.replace("base.specs", "base·specs.specs")
+        self.assertEqual(answered("base", lines, walk_of(LTS), TAKEN, True, set()).split("\n")[0], inside)
+
+    def test_a_definition_that_is_open_already(self):
+        text = answered("queue", self.lines(), walk_of(LTS), TAKEN, False, set())
+        self.assertEqual(text, MADE.replace("use Rattle.queue.specs.Queue.{taken}\n", "").replace("unfolding taken\n", ""))
+
+    def test_what_a_person_must_write(self):
+        loop = ["abbrev Inv-loop : tie.InvT-loop", "Inv-loop s i = ?"]
+        for more in (loop, ["take-spec 𝓤 H 𝓜 𝓖 𝓡 = ?"], ["    ?"]):
+            self.assertIsNone(answered("queue", [*self.lines(), *more], walk_of(LTS), TAKEN, True, set()))
+
+
+if __name__ == "__main__":
+    unittest.main()
