@@ -4,6 +4,7 @@ use base::Answer;
 use bench::Bench;
 use controller::Controller;
 use records::Event;
+use registers::Settings;
 use seat::Seat;
 ghost use mathlib.Core.Path.{_≡_};
 ghost use mathlib.Core.Bool.{false};
@@ -122,10 +123,10 @@ fn outputs_word(mcr: u8, n: u32) -> u64
 {
     if n < SEATS {
         let outputs = base::nibble(
-            base::bit(0, mcr),
-            base::bit(1, mcr),
-            base::bit(2, mcr),
-            base::bit(3, mcr),
+            base::bit(Settings::MCR_DTR, mcr),
+            base::bit(Settings::MCR_RTS, mcr),
+            base::bit(Settings::MCR_OUT1, mcr),
+            base::bit(Settings::MCR_LINE, mcr),
         );
         return word(Answer::Byte(outputs), false);
     }

@@ -99,6 +99,13 @@ impl Settings {
 
     pub const LCR_DIVISOR: u8 = 7;
 
+    pub const MCR_DTR: u8 = 0;
+
+    pub const MCR_RTS: u8 = 1;
+
+    pub const MCR_OUT1: u8 = 2;
+
+    // OUT2, which lets the seat raise its line.
     pub const MCR_LINE: u8 = 3;
 
     pub const MCR_LOOP: u8 = 4;
