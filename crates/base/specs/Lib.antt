@@ -1,5 +1,6 @@
 pub mod Pick
 pub mod Bits
+pub mod Marks
 pub mod Answers
 pub mod Refusals
 pub mod Every

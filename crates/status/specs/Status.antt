@@ -5,6 +5,7 @@ use mathlib.Core.List.{List, [], _∷_}
 use lib.Dec.{eqb}
 use Rattle.base.specs.Pick.{pick}
 use Rattle.base.specs.Bits.{bit, bits}
+use Rattle.base.specs.Marks as mark
 use Rattle.registers.specs.declared.Settings.{Settings}
 use Rattle.registers.specs.Words.{trigger}
 use Rattle.registers.specs.Modem.{someChange}
@@ -20,9 +21,9 @@ lsrOf fifo r t =
     bits
     (not (noneQueued r)
     ∷ r .overrun
-    ∷ bit 0 (shownMarks fifo r)
-    ∷ bit 1 (shownMarks fifo r)
-    ∷ bit 2 (shownMarks fifo r)
+    ∷ bit mark.Parity (shownMarks fifo r)
+    ∷ bit mark.Framing (shownMarks fifo r)
+    ∷ bit mark.Break (shownMarks fifo r)
     ∷ noneWaiting t
     ∷ allSent t
     ∷ someMarked fifo r
