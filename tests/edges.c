@@ -65,5 +65,6 @@ int edge_holds(const struct edge *edge)
     struct hailstoat_bench before = bench;
     uint64_t word = play(&bench, edge->past);
     return hailstoat_word_refusal(word) == edge->refusal && hailstoat_word_answer(word) == HAILSTOAT_REFUSED
-        && (uint8_t)hailstoat_word_answer(word) == 0xFF && memcmp(&before, &bench, sizeof bench) == 0 && hailstoat_word_refusal(play(&bench, edge->within)) == 0;
+        && (uint8_t)hailstoat_word_answer(word) == 0xFF /* as on a bus where nobody answers */
+        && memcmp(&before, &bench, sizeof bench) == 0 && hailstoat_word_refusal(play(&bench, edge->within)) == 0;
 }

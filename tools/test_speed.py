@@ -38,7 +38,7 @@ LIBRARY = """\
 #include "hailstoat.h"
 const char hailstoat_note[] = "costs COST;";
 void hailstoat_power_up(struct hailstoat_bench *bench) { bench->none = 0; }
-uint32_t hailstoat_event(struct hailstoat_bench *bench, uint8_t kind, uint8_t seat, uint8_t number, uint8_t value) {
+uint64_t hailstoat_event(struct hailstoat_bench *bench, uint32_t kind, uint32_t seat, uint32_t number, uint8_t value) {
     for (volatile int i = 0; i < 3 * COST; i++) { }
     switch (kind) {
     case 2: return 0x01000000;
@@ -52,7 +52,7 @@ HEADER = """\
 #include <stdint.h>
 struct hailstoat_bench { uint8_t none; };
 void hailstoat_power_up(struct hailstoat_bench *bench);
-uint32_t hailstoat_event(struct hailstoat_bench *bench, uint8_t kind, uint8_t seat, uint8_t number, uint8_t value);
+uint64_t hailstoat_event(struct hailstoat_bench *bench, uint32_t kind, uint32_t seat, uint32_t number, uint8_t value);
 """
 # It builds in the folder that it is run in, from what stands there.
 RT = """\

@@ -23,10 +23,10 @@ use denote.ArrayMemory.{array-apart, array-whole}
 use denote.Index.{place, others, takes, puts}
 use denote.Steps.{facts, owned, nothing}
 use denote.Struct.Steps.{spelt}
-use denote.Struct.Declared.{fields, row, field}
+use denote.Struct.Declared.{row, field}
 use denote.Struct.Laws as LL
 use denote.Struct.Laws.{lawfuls}
-use denote.Struct.Members.{Member, rowsOf}
+use denote.Struct.Members.{Member}
 use denote.Struct.Parts.{PartsBack}
 use denote.Struct.Pick.{restAt, record-field-out, record-field-back}
 use Rattle.controller.specs.declared.Controller.{Controller}

@@ -1,7 +1,7 @@
 -- The statements of `seat_event`, over any types and values of its locals: kept apart from the walk, since a seat spelled out in every step of
 -- it is too much to check at once.
 use mathlib.Core.Path.{_≡_, refl}
-use Prim.Native.Nat.{ℕ, _+_, _*_, _%_, _<_, _^_}
+use Prim.Native.Nat.{ℕ, _+_, _*_, _<_, _^_}
 use native.Mathlib.Omega.{arith}
 use mathlib.Core.List.{List, [], _∷_}
 use mathlib.Core.Option.{some}

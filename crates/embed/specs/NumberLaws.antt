@@ -1,16 +1,15 @@
 -- No number of C is cut: one that is past a byte has, as 255, the outcome that it has as it is.
-use Prim.Native.Nat.{ℕ, _<_, _≤_}
+use Prim.Native.Nat.{ℕ, _≤_}
 use mathlib.Core.Bool.{Bool, true, false}
 use mathlib.Core.List.{[], _∷_}
 use mathlib.Core.Logic.{⊎-elim}
 use mathlib.Core.Path.{_≡_, refl, ap, sym, _∙_}
 use native.Mathlib.Omega.{arith}
 use lib.Dec.{eqb, ltb}
-use borrow.Author.Tests.{lt-ltb, le-ltb, le-leb, ltb-true, ltb-false}
+use borrow.Author.Tests.{lt-ltb, ltb-true, ltb-false}
 use Rattle.base.specs.Pick.{pick}
 use Rattle.base.specs.PickLaws.{pick-true, pick-false, pick-cases, not-both, either-way}
-use Rattle.base.specs.Refusals.{Ground, firstOf, refusalBy}
-use Rattle.base.specs.declared.Answer.{Answer}
+use Rattle.base.specs.Refusals.{firstOf, refusalBy}
 use Rattle.base.specs.declared.Answer.the-variants.{Refused}
 use Rattle.rates.specs.Rates.{divisorOf}
 use Rattle.rates.specs.RatesLaws.{clock-refused}
@@ -27,11 +26,9 @@ use Rattle.controller.specs.RefusalLaws.{refusal-by-grounds, step-refused}
 use Rattle.controller.specs.Steps.{step, placed}
 use Rattle.controller.specs.LineLaws.{place-refused}
 use Rattle.records.specs.declared.Event.{Event}
-use Rattle.records.specs.declared.Event.the-variants.{ReadController, WriteController}
 use Rattle.records.specs.declared.Touched.{Touched}
-use Rattle.records.specs.declared.Decoded.{Decoded}
 use Rattle.records.specs.declared.Decoded.the-variants as decoded-as
-use Rattle.records.specs.Events.{whole, early, eventOf, decoded, usesSeat}
+use Rattle.records.specs.Events.{whole, early, eventOf, decoded}
 use Rattle.records.specs.EarlyLaws.{early-kind, early-seat}
 use Rattle.records.specs.UsesLaws.{decoded-alike}
 use Rattle.records.specs.Parts.{touched, besides, metParts, dealtParts, parted}

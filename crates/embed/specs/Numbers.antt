@@ -3,7 +3,6 @@ use Prim.Native.Nat.{ℕ}
 use lib.Dec.{ltb}
 use Rattle.base.specs.Pick.{pick}
 
--- a byte as it is, and every number past a byte as 255: "kind above 8", "seat (or line) above 7", "register above 7, port above 1", "marks
--- above 7" and no clock, as that number is itself
+-- a byte as it is, and every number past a byte as 255, which is, as that number itself, no kind, seat, line, register, port, marks or clock
 unfoldable pub asByte : ℕ → ℕ
 asByte n = pick (ltb n 255) n 255

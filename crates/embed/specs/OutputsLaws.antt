@@ -1,9 +1,7 @@
 -- The modem outputs bit by bit, and what a write of MCR makes of them.
-use Prim.Native.Nat.{ℕ, zero, suc, _^_, _<_, _≤_}
-use mathlib.Core.Bool.{false, _&&_}
+use Prim.Native.Nat.{ℕ, _^_, _<_, _≤_}
 use mathlib.Core.List.{[], _∷_}
-use mathlib.Core.Path.{_≡_, refl, _∙_}
-use lib.Dec.{ltb}
+use mathlib.Core.Path.{_≡_}
 use borrow.Author.Tests.{le-leb, lt-leb}
 use Rattle.base.specs.Pick.{pick}
 use Rattle.base.specs.Bits.{bit, bits}

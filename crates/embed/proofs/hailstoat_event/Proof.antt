@@ -14,7 +14,7 @@ use base.Fml.{GName, Lft, Share, ftrue, fat, flft, fres}
 use prog.Memory.{Memory}
 use prog.Routine.{Routine}
 use prog.Wp.{Heap, Calls, Loops, WpFn, Tables}
-use ghost.Atoms.{Atoms, sem}
+use ghost.Atoms.{Atoms}
 use contract.Monad.{Fun, fact}
 use contract.Running.{givenOf, tables, tablesOf}
 use types.Kit.{Given, atRet, ‵, raw, some, later, _⊛_, _$_, _∵_, !, qed, by, move, keep, drop, use1, use2, split, join, pick, rewrite, fsplit, fjoin, suffices, frame, await, done}
