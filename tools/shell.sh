@@ -16,6 +16,12 @@ stop() {
     exit 1
 }
 
+# The words or the machine are not such that anything could be done.
+refuse() {
+    tell "$*"
+    exit 2
+}
+
 # What this machine cannot try is told, and the test command tells it again at its end.
 skip() {
     printf '%s\n' "$*" | tee -a "${HAILSTOAT_SKIPPED:-/dev/null}"
