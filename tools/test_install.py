@@ -25,6 +25,7 @@ class Install(Room):
     def setUp(self):
         super().setUp()
         self.script("tools/install", (TOOLS / "install").read_text("utf-8"))
+        self.write("tools/shell.sh", (TOOLS / "shell.sh").read_text("utf-8"))
         self.script("tools/find-rt", FOUND)
         self.script("tools/rt", RT)
         self.write("include/hailstoat.h", "header\n")
