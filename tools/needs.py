@@ -17,6 +17,7 @@ LAWS = {
     "ne": (("ne-eqb",), (FAILS,)),
     "true": ((), (HOLDS,)),
     "false": ((), (FAILS,)),
+    "key": ((), (HOLDS, FAILS)),
 }
 
 
@@ -39,6 +40,19 @@ class Answer(NamedTuple):
     tests: tuple = ()  # and of the library's tests
 
 
+class Facts:
+    """The equations at a need: which variant an enum is, what the calls answered, and how the tests came out."""
+
+    def __init__(self):
+        self.variants, self.calls, self.tests, self.laws, self.choice = [], [], [], set(), set()
+
+    def add_branch(self, fact, kind):
+        laws, choice = LAWS[kind]
+        self.tests += [f"{law} _ _ ({fact})" for law in laws] or [fact]
+        self.laws.update(laws)
+        self.choice.update(choice)
+
+
 def walk_of(text):
     """The walk that an Lts.antt describes. Its declarations stand apart by blank lines."""
     walk = Walk({}, {}, {})
@@ -57,10 +71,12 @@ def walk_of(text):
 
 
 def branch_of(own):
-    """The field of a branch's thing, `taken` or `left`, and what it says: two numbers compared, or the value of a test."""
-    field = re.match(r" where\s+pub (taken|left) :(.*)", own, re.S)
+    """The field by which a branch's thing knows a value, and what it knows: two numbers compared, a test's value, a key."""
+    field = re.match(r" where\s+pub (taken|left|keys\d+) :(.*)", own, re.S)
     if not field:
         return None, None
+    if field[1].startswith("keys"):  # a key of several is no equation
+        return (field[1], "key") if re.match(r"\s*\S+\.OneOf\s+\(\S+_∷_ \d+ \S+\[\]\)", field[2]) else (None, None)
     if re.search(r"\bNat['\d]*\._<_", field[2]):
         return field[1], "lt"
     if re.search(r"\bNat['\d]*\._≤_", field[2]):
@@ -78,20 +94,32 @@ def known_at(walk, need):
         way, record = f"{way} .before", walk.places[record].before
 
 
-def answer(need, walk, contract, paired):
-    """The standard answer. `paired` has the callees whose contracts say more than one thing: their equation is the first."""
-    calls, facts, choice, tests = [], [], set(), set()
-    for way, own in known_at(walk, need) if need.startswith("returns") else ():
+def enums_of(walk):
+    """The things that tell which variant an enum is, by the needs that ask it."""
+    known = {re.sub(r"-\d+$", "", need.removeprefix("enum-known-")) for need in walk.needs if need.startswith("enum-known-")}
+    return known | {"enum-told"} if known else known
+
+
+def facts_at(walk, need, paired):
+    """The equations at a need. Where an enum is matched, the keys are its variants' numbers, of which no definition speaks."""
+    facts, enums = Facts(), enums_of(walk)
+    for way, own in known_at(walk, need):
+        thing = re.sub(r"\d+$", "", way.split(" .")[-1])
         field, kind = branch_of(own)
         if "Called.Called" in own:
-            callee = re.sub(r"\d+$", "", way.split(" .")[-1]).replace("-", "_")
-            calls.append(f"← {way} .ensures" + (" .0" if callee in paired else ""))
-        elif field:
-            laws, choices = LAWS[kind]
-            facts += [f"{law} _ _ ({way} .{field})" for law in laws] or [f"{way} .{field}"]
-            choice.update(choices)
-            tests.update(laws)
-    if contract.paired or not calls + facts:
-        return Answer(f"search ({', '.join(['tests', *calls])})" if calls else "search tests", ("tests",))
-    chosen = tuple(sorted(choice, reverse=True))
-    return Answer(f"simp ({', '.join([*calls, *facts, *chosen])})", chosen, tuple(sorted(tests)))
+            facts.calls.append(f"← {way} .ensures" + (" .0" if thing.replace("-", "_") in paired else ""))
+        elif thing in enums:
+            facts.variants.append(f"{way} .given .1")
+        elif field and not (enums and kind == "key"):
+            facts.add_branch(f"{way} .{field}", kind)
+    return facts
+
+
+def answer(need, walk, contract, paired):
+    """The standard answer. `paired` has the callees whose contracts say more than one thing: their equation is the first."""
+    facts = facts_at(walk, need, paired) if need.startswith("returns") else Facts()
+    told = facts.variants + facts.calls
+    if contract.paired or not told + facts.tests:
+        return Answer(f"search ({', '.join(['tests', *told])})" if told else "search tests", ("tests",))
+    choice = tuple(sorted(facts.choice, reverse=True))
+    return Answer(f"simp ({', '.join([*told, *facts.tests, *choice])})", choice, tuple(sorted(facts.laws)))

@@ -7,7 +7,7 @@ import unittest
 from pathlib import Path
 
 from contracts import Contract, functions, is_unfoldable
-from needs import answer, known_at, walk_of
+from needs import Answer, Place, answer, known_at, walk_of
 from offers import answered, function_at, offers, source_of
 from room import Room
 
@@ -143,6 +143,9 @@ class Needs(unittest.TestCase):
             ("taken : Path'._≡_ {A = Nat.ℕ} (Row.get 5 m3) 0", "simp (eq-eqb _ _ (c .if1 .taken), pick-true)"),
             ("left : Path'._≡_ {A = Nat.ℕ}\n              0 →\n              ⊥", "simp (ne-eqb _ _ (c .if1 .left), pick-false)"),
             ("taken : Nat._<_ m 15", "simp (lt-ltb _ _ (c .if1 .taken), lt-leb _ _ (c .if1 .taken), pick-true, pick-false)"),
+            ("keys2 : Run.OneOf (List._∷_ 1 List.[]) (Row.get 1 m)", "simp (c .if1 .keys2, pick-true, pick-false)"),
+            ("keys2 : Run.OneOf\n              (List._∷_ 1 (List._∷_ 2 List.[]))\n              (Row.get 1 m)", "search tests"),
+            ("rest : (Run.OneOf (List._∷_ 0 List.[]) m → ⊥)", "search tests"),
             ("left : Nat'._≤_ 15 m", "simp (le-ltb _ _ (c .if1 .left), le-leb _ _ (c .if1 .left), pick-true, pick-false)"),
         ):
             self.assertEqual(answer("returns", branching(said), Contract(), set()).words, words)
@@ -150,6 +153,16 @@ class Needs(unittest.TestCase):
     def test_a_need_that_is_no_return_and_one_where_nothing_is_known(self):
         self.assertEqual(answer("sub-self", walk_of(LTS), TAKEN, set()).words, "search tests")
         self.assertEqual(answer("returns", walk_of(""), TAKEN, set()).words, "search tests")
+
+    def test_the_variant_of_an_enum(self):
+        walk = branching("keys1 : Run.OneOf (List._∷_ 0 List.[]) m")
+        self.assertEqual(answer("returns", walk, TAKEN, set()).words, "simp (c .if1 .keys1, pick-true, pick-false)")
+        walk.needs.update({"enum-known-e-2": "Then1", "returns": "After-e2"})
+        walk.places.update({"After-e2": Place("Then1", "e2"), "After-enum-told": Place("Then1", "enum-told")})
+        walk.own.update({"After-e2": " where\n pub given : s0 .gives", "After-enum-told": " where\n pub given : s1 .gives"})
+        self.assertEqual(answer("returns", walk, TAKEN, set()), Answer("simp (c .e2 .given .1)"))
+        walk.needs["returns"] = "After-enum-told"
+        self.assertEqual(answer("returns", walk, TAKEN, set()).words, "simp (c .enum-told .given .1)")
 
     def test_a_call_whose_contract_says_several_things(self):
         self.assertIn("← c .moved-down .ensures .0, ", answer("returns-2", walk_of(LTS), TAKEN, {"moved_down"}).words)
