@@ -1,6 +1,6 @@
 -- The program's loop: what stands in the block between two reads, and what a run makes of it.
-use Prim.Native.Nat.{ℕ, _+_, _-_, _*_, _/_, _%_, _≤_, _<_}
-use mathlib.Core.Path.{_≡_, ap, _∙_}
+use Prim.Native.Nat.{ℕ, zero, suc, _+_, _-_, _*_, _/_, _%_, _≤_, _<_}
+use mathlib.Core.Path.{_≡_, refl, ap, _∙_}
 use mathlib.Core.Bool.{Bool, false}
 use mathlib.Core.List.{List}
 use native.Mathlib.Omega.{arith}
@@ -8,7 +8,7 @@ use lib.ListN.{length, take, drop, length-take, length-drop}
 use Rattle.bench.specs.declared.Bench.{Bench}
 use Rattle.listing.specs.Run.{Runs, recordsOf}
 use Rattle.listing.specs.Places.{recordCount}
-use Rattle.listing.specs.RunLaws.{record-count, whole-count}
+use Rattle.listing.specs.RunLaws.{record-count, record-inside, whole-count}
 use Rattle.listing.specs.declared.Ran.{Ran}
 
 -- at most three bytes wait, at a place where a record may stand; the numbers suffice for the reads that are left
@@ -42,3 +42,27 @@ module _ (b : Bench) (n : ℕ) (l : List ℕ) (a e : ℕ) (last : Bool) (d d′ 
 
   pub all-used : r .used ≡ 4 * ((e - a) / 4)
   all-used = let c : r .records ≡ (e - a) / 4 = all-records in omega (arith, h .used, size)
+
+-- ---- the blocks of a lesson
+
+-- so many records were played, of so many bytes
+pub record Played (records out : List ℕ) (number start : ℕ) : Type 0 where
+  pub room : length out ≡ 524288
+  pub few : length records ≤ 1048576
+  pub order : start ≤ length records
+  pub numbers : number ≤ start
+
+count-few : (last : Bool) (bytes count : ℕ) → recordCount last bytes ≡ count → 4 * count < bytes + 4
+count-few last bytes zero e = omega arith
+count-few last bytes (suc k) e = let inside : 4 * k < bytes = record-inside last bytes k (omega arith) in omega arith
+
+-- a block that has room for all its lines is answered whole, and its records are no more than its bytes
+pub block-few : (b : Bench) (n : ℕ) (l : List ℕ) (a e : ℕ) (last : Bool) (d d′ : List ℕ) (r : Ran) → Runs b n (take (e - a) (drop a l)) last d d′ r
+    → a ≤ e → e ≤ length l → e ≤ a + 65536 → length d ≡ 524288 → n ≤ 1048576 → r .records ≤ e - a
+block-few b n l a e last d d′ r h order inside block room numbers =
+    let size : length (take (e - a) (drop a l)) ≡ e - a = simp (length-take, length-drop) (omega arith) in
+    let count : length (recordsOf last (take (e - a) (drop a l))) ≡ recordCount last (e - a) =
+    record-count last (take (e - a) (drop a l)) ∙ ap (recordCount last) size in
+    let few : 4 * recordCount last (e - a) < e - a + 4 = count-few last (e - a) _ refl in
+    let all : r .records ≡ length (recordsOf last (take (e - a) (drop a l))) = h .enough (omega arith) (omega arith) in
+    omega arith

@@ -1,47 +1,34 @@
 // A lesson from a file: its text is read whole, and run only where it has no fault.
 use crate::files;
 use crate::files::Filled;
+use crate::told;
 use bench::Bench;
 use lesson::Lesson;
-use libc::STDERR_FILENO;
 use libc::STDOUT_FILENO;
 ghost use mathlib.Core.Path.{_≡_};
-ghost use Prim.Native.Nat.{_≤_};
+ghost use Prim.Native.Nat.{_+_, _≤_, _<_};
 ghost use lib.ListN.{length};
 
-// A lesson's text is shorter. Its bytes then fit a block of 65536, and their lines the room that there is for lines.
-fn text() -> [u8; 131072]
-    ensures { λ r. ⌜ 131072 ≡ length r ⌝ }
+// A lesson's text is shorter.
+fn long_text() -> [u8; 16777216]
+    ensures { λ r. ⌜ 16777216 ≡ length r ⌝ }
 {
-    [0u8; 131072]
+    [0u8; 16777216]
 }
 
-fn too_long(path: &[u8]) {
-    io::write_all(STDERR_FILENO, path);
-    io::write_all(
-        STDERR_FILENO,
-        b": a lesson has at most 131071 characters; nothing was run\n",
-    );
+// Room for 262144 records.
+fn records() -> [u8; 1048576]
+    ensures { λ r. ⌜ 1048576 ≡ length r ⌝ }
+{
+    [0u8; 1048576]
 }
 
-// The place is told as compilers tell it, so that an editor finds it.
-fn fault(path: &[u8], line: usize, column: usize) {
-    io::write_all(STDERR_FILENO, path);
-    io::write_all(STDERR_FILENO, b":");
-    io::print_decimal(STDERR_FILENO, line as u64);
-    io::write_all(STDERR_FILENO, b":");
-    io::print_decimal(STDERR_FILENO, column as u64);
-    io::write_all(
-        STDERR_FILENO,
-        b": the text is at fault here, or the record before it is not four bytes; nothing was run\n",
-    );
-}
-
-// Reads until the file ends, the buffer is full or a read fails.
-fn read_whole(fd: i32, text: &mut [u8]) -> Filled
+// Reads behind `start` until the file ends, the buffer is full or a read fails.
+fn read_on(fd: i32, text: &mut [u8], start: usize) -> Filled
+    requires { ⌜ start ≤ length (now text) ⌝ }
     ensures { λ r. ⌜ r .end ≤ length (now (text .entry)) ⌝ }
 {
-    let mut end: usize = 0;
+    let mut end = start;
     while end < text.len() {
         let filled = files::fill(&mut *text, end, fd);
         if filled.failed | (filled.end == end) {
@@ -52,51 +39,118 @@ fn read_whole(fd: i32, text: &mut [u8]) -> Filled
     Filled { failed: false, end }
 }
 
-fn play(records: &[u8]) {
+// Where a block of 16384 records ends, or all.
+fn block_end(start: usize, all: usize) -> usize
+    requires { ⌜ start < all ⌝ }
+    ensures { λ r. ⌜ (start < r) × (r ≤ all) × (r ≤ start + 65536) ⌝ }
+{
+    if all - start <= 65536 {
+        return all;
+    }
+    start + 65536
+}
+
+// Only the last block can end within a record.
+fn play(records: &[u8])
+    requires { ⌜ length (now records) ≤ 1048576 ⌝ }
+{
     let mut out = files::lines();
-    let ran = listing::run(Bench::power_up(), 0, records, true, &mut out);
-    let written = ran.written;
-    if !io::write_all(STDOUT_FILENO, &out[..written]) {
-        files::write_failed();
+    let mut bench = Bench::power_up();
+    let mut number: u64 = 0;
+    let mut start: usize = 0;
+    while start < records.len() {
+        let end = block_end(start, records.len());
+        let ran = listing::run(bench, number, &records[start..end], true, &mut out);
+        let written = ran.written;
+        if !io::write_all(STDOUT_FILENO, &out[..written]) {
+            files::write_failed();
+            return;
+        }
+        let after = ran.bench;
+        bench = after;
+        number += ran.records as u64;
+        start = end;
     }
 }
 
 fn play_text(path: &[u8], text: &[u8]) {
-    let mut records = io::large_buffer();
+    let mut records = records();
     match lesson::read(text, &mut records) {
         Lesson::Bytes(count) => play(&records[..count]),
-        Lesson::Fault(line, column) => fault(path, line, column),
-        Lesson::TooLong => too_long(path),
+        Lesson::Fault(line, column, cause) => told::fault(path, line, column, cause),
+        Lesson::TooLong => told::too_long(path),
+        Lesson::NoRoom => told::too_many(path),
     }
 }
 
-fn play_file(path: &[u8], fd: i32) {
-    let mut text = text();
-    let filled = read_whole(fd, &mut text);
+fn copy(from: &[u8], to: &mut [u8])
+    requires { ⌜ length (now from) ≤ length (now to) ⌝ }
+{
+    for i in 0..from.len() {
+        to[i] = from[i];
+    }
+}
+
+// A text of which no more was read than there was room for.
+fn play_long(path: &[u8], fd: i32, read: &[u8])
+    requires { ⌜ length (now read) ≤ 65536 ⌝ }
+{
+    let mut text = long_text();
+    copy(read, &mut text);
+    let filled = read_on(fd, &mut text, read.len());
     let end = filled.end;
     if filled.failed {
         os::fail(path);
         return;
     }
     if end == text.len() {
-        too_long(path);
+        told::too_long(path);
         return;
     }
     play_text(path, &text[..end]);
 }
 
-pub(crate) fn run() {
+fn is_dashes(word: &[u8]) -> bool {
+    if word.len() != 2 {
+        return false;
+    }
+    (word[0] == b'-') & (word[1] == b'-')
+}
+
+// The lesson that a word names; `--` before the last word says that a name follows, whatever it begins with.
+//
+// No compiler puts a function that calls itself into its caller, nor one with a large room into it: so a usual lesson is run on little
+// stack, and standard input on none of this.
+pub(crate) fn run(word: usize, last: usize) {
     let mut path = io::buffer();
-    let length = os::arg(1, &mut path);
+    let mut text = io::large_buffer();
+    let length = os::arg(word, &mut path);
     if os::errno() != 0 {
         os::fail(b"bench: the lesson's name");
         return;
     }
-    let fd = os::open_read(&path[..length]);
-    if fd < 0 {
-        os::fail(&path[..length]);
+    let name = &path[..length];
+    if word < last {
+        if is_dashes(name) {
+            run(word + 1, last);
+            return;
+        }
+        told::usage();
         return;
     }
-    play_file(&path[..length], fd);
+    let fd = os::open_read(name);
+    if fd < 0 {
+        os::fail(name);
+        return;
+    }
+    let filled = read_on(fd, &mut text, 0);
+    let end = filled.end;
+    if filled.failed {
+        os::fail(name);
+    } else if end < text.len() {
+        play_text(name, &text[..end]);
+    } else {
+        play_long(name, fd, &text);
+    }
     libc::close(fd);
 }

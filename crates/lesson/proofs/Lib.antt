@@ -1,4 +1,5 @@
 pub mod Walks
 pub mod Ends
+pub mod Stops
 pub mod Slips
 pub mod LentLaws

@@ -5,24 +5,37 @@ use mathlib.Core.Path.{_≡_, refl}
 use Rattle.base.specs.Pick.{pick}
 use Rattle.lesson.specs.Text.{digit, apart, commented, told, worths, paired, digitsOf, bytesOf}
 use Rattle.lesson.specs.Fault.{faulty, next, after, faultFrom, faultOf}
+use Rattle.lesson.specs.Cause.{finding, stoppedAt, marked, wide, alien, begins, begunFrom, begunIn}
 use Rattle.lesson.specs.Place.{onward, placeFrom, placeBehind}
 use Rattle.lesson.specs.Lesson.{answerBy, lessonOf}
 use Rattle.lesson.specs.declared.Lesson.{Lesson}
-use Rattle.lesson.specs.declared.Lesson.the-variants.{Bytes, Fault, TooLong}
+use Rattle.lesson.specs.declared.Lesson.the-variants.{Bytes, Fault, TooLong, NoRoom}
+use Rattle.lesson.specs.declared.Cause.{Cause}
+use Rattle.lesson.specs.declared.Cause.the-variants.{NoDigit, OneDigit, ShortRecord, ByteOrderMark, Utf16}
 
--- an answer in numbers: how many bytes, or line and column
+-- a cause in numbers; a short record has how many bytes it has
+abbrev caused : Cause → List ℕ
+caused NoDigit = 10 ∷ []
+caused OneDigit = 20 ∷ []
+caused (ShortRecord bytes) = 30 ∷ bytes ∷ []
+caused ByteOrderMark = 40 ∷ []
+caused Utf16 = 50 ∷ []
+
+-- an answer in numbers: how many bytes, or line, column and cause
 abbrev numbers : Lesson → List ℕ
 numbers (Bytes n) = n ∷ []
-numbers (Fault line column) = line ∷ column ∷ []
+numbers (Fault line column cause) = line ∷ column ∷ caused cause
 numbers TooLong = []
+numbers NoRoom = []
 
 -- what is answered to a text where four bytes have room; it opens what reading computes with
 unfoldable answer : List ℕ → List ℕ
-unfolding lessonOf answerBy faultOf faultFrom faulty next after placeBehind placeFrom onward bytesOf digitsOf paired worths told commented apart digit pick
+unfolding lessonOf answerBy finding stoppedAt marked wide alien begins begunFrom begunIn
+    faultOf faultFrom faulty next after placeBehind placeFrom onward bytesOf digitsOf paired worths told commented apart digit pick
 answer text = numbers (lessonOf text 4)
 
 -- `later-line`; 08000000, a line feed, x
-columns-count-from-1 : answer (48 ∷ 56 ∷ 48 ∷ 48 ∷ 48 ∷ 48 ∷ 48 ∷ 48 ∷ 10 ∷ 120 ∷ []) ≡ 2 ∷ 1 ∷ []
+columns-count-from-1 : answer (48 ∷ 56 ∷ 48 ∷ 48 ∷ 48 ∷ 48 ∷ 48 ∷ 48 ∷ 10 ∷ 120 ∷ []) ≡ 2 ∷ 1 ∷ 10 ∷ []
 unfolding answer
 columns-count-from-1 = refl
 
@@ -32,12 +45,12 @@ unfolding answer
 number-sign-begins-a-comment = refl
 
 -- `forgotten-byte`; 08, a line feed, 00
-forgotten-byte-is-found : answer (48 ∷ 56 ∷ 10 ∷ 48 ∷ 48 ∷ []) ≡ 2 ∷ 1 ∷ []
+forgotten-byte-is-found : answer (48 ∷ 56 ∷ 10 ∷ 48 ∷ 48 ∷ []) ≡ 1 ∷ 1 ∷ 30 ∷ 1 ∷ []
 unfolding answer
 forgotten-byte-is-found = refl
 
 -- `wrong-character`; 0, a space, 8
-digits-stand-together : answer (48 ∷ 32 ∷ 56 ∷ []) ≡ 1 ∷ 2 ∷ []
+digits-stand-together : answer (48 ∷ 32 ∷ 56 ∷ []) ≡ 1 ∷ 1 ∷ 20 ∷ []
 unfolding answer
 digits-stand-together = refl
 
@@ -45,3 +58,13 @@ digits-stand-together = refl
 small-a-is-10 : bytesOf (48 ∷ 97 ∷ []) ≡ 0x0A ∷ []
 unfolding answer
 small-a-is-10 = refl
+
+-- `short-record`; a space, 08, a number sign, two line feeds, 00: told at the first line's second column, where the record begins
+short-record-is-told-at-its-start : answer (32 ∷ 48 ∷ 56 ∷ 35 ∷ 10 ∷ 10 ∷ 48 ∷ 48 ∷ []) ≡ 1 ∷ 2 ∷ 30 ∷ 1 ∷ []
+unfolding answer
+short-record-is-told-at-its-start = refl
+
+-- `short-record`; 080000, a line feed, 0
+short-record-is-counted : answer (48 ∷ 56 ∷ 48 ∷ 48 ∷ 48 ∷ 48 ∷ 10 ∷ 48 ∷ []) ≡ 1 ∷ 1 ∷ 30 ∷ 3 ∷ []
+unfolding answer
+short-record-is-counted = refl

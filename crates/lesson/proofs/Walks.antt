@@ -1,18 +1,20 @@
 -- One character further along a text: what each loop keeps.
-use Prim.Native.Nat.{ℕ, suc, _+_, _*_, _≤_, _<_}
+use Prim.Native.Nat.{ℕ, zero, suc, _+_, _*_, _%_, _≤_, _<_}
 use mathlib.Core.Bool.{Bool, true, false}
 use mathlib.Core.List.{List, [], _∷_, _++_}
 use mathlib.Core.Path.{_≡_, refl, sym, ap, _∙_}
 use native.Mathlib.Omega.{arith}
 use native.Mathlib.Numerals.{add-one}
+use native.Mathlib.Nat.{not-suc-le-zero, le-of-suc-le-suc}
 use lib.Dec.{ltb, eqb}
-use lib.ListN.{length, length-set, set, getD, drop, drop-of-length-le}
+use lib.ListN.{length, length-set, set, getD, take, drop, drop-of-length-le}
 use lib.Seq.{drop-cons, sets}
 use borrow.Author.Tests.{lt-ltb, le-ltb}
 use Rattle.base.specs.Pick.{pick}
 use Rattle.base.specs.PickLaws.{pick-true, pick-false, pick-either}
 use Rattle.lesson.specs.Text.{lineFeed, digit, commented, told, worths, paired, bytesOf, digitsOf}
-use Rattle.lesson.specs.Fault.{faulty, after, half, faultFrom}
+use Rattle.lesson.specs.Fault.{start, faulty, after, behind, half, faultFrom}
+use Rattle.lesson.specs.Cause.{begins, begunFrom}
 use Rattle.lesson.specs.Place.{onward, placeFrom}
 use Rattle.lesson.specs.declared.faults.Reading.{Reading}
 use Rattle.lesson.specs.declared.faults.Found.the-variants.{At, Nowhere}
@@ -33,6 +35,35 @@ module _ (s : Reading) (text : List ℕ) (i : ℕ) where
   pub fault-end : length text ≤ i → faultFrom s i (drop i text) ≡ pick (half s) (At i) Nowhere
   unfolding faultFrom
   fault-end h = rw (drop-of-length-le text h)
+
+-- ---- causes
+
+-- a character that the text has is the same, whatever would stand behind its end
+pub same-there : (text : List ℕ) (i d e : ℕ) → i < length text → getD text i d ≡ getD text i e
+same-there [] i d e h = absurd (not-suc-le-zero h)
+same-there (c ∷ text) zero d e h = refl
+same-there (c ∷ text) (suc i) d e h = same-there text i d e (le-of-suc-le-suc h)
+
+module _ (s : Reading) (begun : ℕ) (text : List ℕ) (i : ℕ) where
+  pub behind-on : i < length text → behind s (drop i text) ≡ behind (after s (getD text i 0)) (drop (i + 1) text)
+  behind-on h = rw (drop-cons text i 0 h, add-one i)
+
+  pub begun-on : i < length text
+      → begunFrom s begun i (drop i text) ≡ begunFrom (after s (getD text i 0)) (pick (begins s (getD text i 0)) i begun) (i + 1) (drop (i + 1) text)
+  unfolding begunFrom
+  begun-on h = rw (drop-cons text i 0 h, add-one i)
+
+  pub behind-end : length text ≤ i → behind s (drop i text) ≡ s
+  behind-end h = rw (drop-of-length-le text h)
+
+  pub begun-end : length text ≤ i → begunFrom s begun i (drop i text) ≡ begun
+  unfolding begunFrom
+  begun-end h = rw (drop-of-length-le text h)
+
+-- where one digit of a byte is read, a character has been read
+pub half-behind : (text : List ℕ) (at : ℕ) → behind start (take at text) .digits % 2 ≡ 1 → 1 ≤ at
+half-behind text zero odd = absurd (omega arith)
+half-behind text (suc at) odd = omega arith
 
 -- ---- places
 

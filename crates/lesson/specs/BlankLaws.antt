@@ -13,8 +13,8 @@ use Rattle.base.specs.Pick.{pick}
 use Rattle.base.specs.PickLaws.{pick-false}
 use Rattle.lesson.specs.Text.{lineFeed, digit, white, apart, commented, told, worths, digitsOf, bytesOf}
 use Rattle.lesson.specs.TextLaws.{white-is, commentedAfter, told-parts, worths-parts}
-use Rattle.lesson.specs.Fault.{start, faulty, after, faultFrom, faultOf}
-use Rattle.lesson.specs.FaultLaws.{behind, parts-from, opened, moved, moved-from}
+use Rattle.lesson.specs.Fault.{start, faulty, after, behind, faultFrom, faultOf}
+use Rattle.lesson.specs.FaultLaws.{parts-from, opened, moved, moved-from}
 use Rattle.lesson.specs.Plain.{Blank, OneLine}
 use Rattle.lesson.specs.declared.faults.Reading.{Reading}
 use Rattle.lesson.specs.declared.faults.Found.the-variants.{Nowhere}

@@ -33,7 +33,12 @@ after s c =
     (pick (isDigit c) (record { digits = next (s .digits); cut = s .cut; comment = false })
     (pick (eqb c lineFeed) (record { digits = s .digits; cut = not (eqb (s .digits) 0); comment = false }) s))
 
--- the first fault from a place on: how many characters of the text stand before it
+-- where reading stands behind some characters that are none
+abbrev pub behind : Reading → List ℕ → Reading
+behind s [] = s
+behind s (c ∷ rest) = behind (after s c) rest
+
+-- where the first fault from a place on is found: how many characters of the text stand before it
 unfoldable pub faultFrom : Reading → ℕ → List ℕ → Found
 faultFrom s at [] = pick (half s) (At at) Nowhere
 faultFrom s at (c ∷ rest) = pick (faulty s c) (At at) (faultFrom (after s c) (suc at) rest)

@@ -13,7 +13,7 @@ use Rattle.base.specs.Pick.{pick}
 use Rattle.base.specs.PickLaws.{pick-true, pick-false, pick-same, pick-either, pick-through, either-way}
 use Rattle.lesson.specs.Text.{lineFeed, numberSign, digit, isDigit, white, apart, commented}
 use Rattle.lesson.specs.TextLaws.{digit-told, comment-goes, white-is}
-use Rattle.lesson.specs.Fault.{start, half, faulty, next, after, faultFrom, faultOf}
+use Rattle.lesson.specs.Fault.{start, half, faulty, next, after, behind, faultFrom, faultOf}
 use Rattle.lesson.specs.Plain.{Digits, Blank, OneLine, comment}
 use Rattle.lesson.specs.declared.faults.Reading.{Reading}
 use Rattle.lesson.specs.declared.faults.Found.{Found}
@@ -37,11 +37,6 @@ within-from s at (c ∷ l) =
 pub fault-within : (text : List ℕ) → Within (faultOf text) (length text)
 unfolding faultOf
 fault-within text = rw (zero-add (length text)) at (within-from start 0 text)
-
--- where reading stands behind some characters
-abbrev pub behind : Reading → List ℕ → Reading
-behind s [] = s
-behind s (c ∷ l) = behind (after s c) l
 
 -- what follows characters without a fault is read from where they leave off
 pub parts-from : (s : Reading) (at : ℕ) (a b : List ℕ) → faultFrom s at a ≡ Nowhere
@@ -104,7 +99,7 @@ pub digit-after : (k c : ℕ) → digit c < 16 → after (opened k) c ≡ opened
 unfolding after
 digit-after k c h = pick-false _ _ _ (digit-told c h) ∙ pick-true _ _ _ (lt-ltb (digit c) 16 h)
 
-next-is : (k : ℕ) → k < 7 → next k ≡ k + 1
+pub next-is : (k : ℕ) → k < 7 → next k ≡ k + 1
 unfolding next
 next-is k h = pick-true _ _ _ (lt-ltb k 7 h)
 
@@ -138,7 +133,7 @@ not-there k c none other =
     other
 
 -- a line has ended behind k digits of a record
-abbrev cutBehind : ℕ → Reading
+abbrev pub cutBehind : ℕ → Reading
 cutBehind k = record { digits = k; cut = true; comment = false }
 
 feed-cuts : (k at : ℕ) (l : List ℕ) → 0 < k → k % 2 ≡ 0 → faultFrom (opened k) at (lineFeed ∷ l) ≡ faultFrom (cutBehind k) (suc at) l
@@ -148,7 +143,7 @@ feed-cuts k at l some even =
     let begun : eqb k 0 ≡ false = ne-eqb k 0 (λ e. absurd (omega arith)) in
     rw (second, begun)
 
-blank-fine : (k : ℕ) → 0 < k → k % 2 ≡ 0 → (c : ℕ) → white c ≡ true
+pub blank-fine : (k : ℕ) → 0 < k → k % 2 ≡ 0 → (c : ℕ) → white c ≡ true
     → (faulty (cutBehind k) c ≡ false) × (after (cutBehind k) c ≡ cutBehind k)
 unfolding faulty after commented digit apart pick
 blank-fine k some even =

@@ -1,29 +1,27 @@
--- Reading from end to end: what was written is handed out, and a fault is told where it stands.
-use Prim.Native.Nat.{ℕ, zero, suc, _+_, _*_, _/_, _%_, _≤_, _<_}
-use mathlib.Core.Bool.{Bool, false}
-use mathlib.Core.List.{List, [], _∷_, _++_, append-assoc}
+-- Reading from end to end: what was written is handed out.
+use Prim.Native.Nat.{ℕ, zero, suc, _*_, _/_, _%_, _≤_, _<_}
+use mathlib.Core.Bool.{Bool}
+use mathlib.Core.List.{List, [], _∷_, _++_}
 use mathlib.Core.Path.{_≡_, refl, sym, ap, subst, _∙_}
-use mathlib.Core.Logic.{_⊎_}
 use native.Mathlib.Omega.{arith}
 use lib.Dec.{ltb}
-use lib.ListN.{length, take, length-append}
-use lib.Seq.{sets, take-at}
+use lib.ListN.{length}
+use lib.Seq.{sets}
 use borrow.Author.Tests.{le-ltb, ltb-false}
 use Rattle.base.specs.Pick.{pick}
 use Rattle.base.specs.PickLaws.{pick-false, pick-either, pick-cases}
-use Rattle.lesson.specs.Text.{lineFeed, digit, isDigit, apart, commented, bytesOf}
-use Rattle.lesson.specs.TextLaws.{letter-worth, plain-back, feed-no-digit}
-use Rattle.lesson.specs.Fault.{start, faulty, next, after, faultFrom, faultOf}
-use Rattle.lesson.specs.FaultLaws.{opened, behind, digit-on, digit-after, Whole, wrong-character}
-use Rattle.lesson.specs.PlaceLaws.{later-line}
+use Rattle.lesson.specs.Text.{lineFeed, digit, apart, commented, bytesOf}
+use Rattle.lesson.specs.TextLaws.{letter-worth, plain-back}
+use Rattle.lesson.specs.Fault.{start, faulty, next, after, behind, faultFrom, faultOf}
+use Rattle.lesson.specs.FaultLaws.{opened, digit-on, digit-after, Whole}
 use Rattle.lesson.specs.Lesson.{longest, answerBy, lessonOf, handedOut, Reads}
-use Rattle.lesson.specs.Plain.{letter, two, plain, Digits, OneLine, feeds}
+use Rattle.lesson.specs.Plain.{letter, two, plain}
 use Rattle.lesson.specs.Plain as plain-form
 use Rattle.lesson.specs.declared.faults.Reading.{Reading}
 use Rattle.lesson.specs.declared.faults.Found.{Found}
 use Rattle.lesson.specs.declared.faults.Found.the-variants.{At, Nowhere}
 use Rattle.lesson.specs.declared.Lesson.{Lesson}
-use Rattle.lesson.specs.declared.Lesson.the-variants.{Bytes, Fault, TooLong}
+use Rattle.lesson.specs.declared.Lesson.the-variants.{Bytes, Fault, TooLong, NoRoom}
 
 -- ---- the plain form has no fault
 
@@ -120,14 +118,15 @@ reads-back small bs d d′ r all room short reads =
 -- as many bytes as an answer tells, or more, were lent
 abbrev pub Fits : Lesson → ℕ → Type 0
 Fits (Bytes n) room = n ≤ room
-Fits (Fault line column) room = Unit {0}
+Fits (Fault line column cause) room = Unit {0}
 Fits TooLong room = Unit {0}
+Fits NoRoom room = Unit {0}
 
 answer-fits : (f : Found) (text : List ℕ) (room : ℕ) → Fits (answerBy f text room) room
 unfolding answerBy
 answer-fits (At at) text room = tt
 answer-fits Nowhere text room =
-    pick-cases (λ (r : Lesson). Fits r room) (ltb room (length (bytesOf text))) TooLong (Bytes (length (bytesOf text)))
+    pick-cases (λ (r : Lesson). Fits r room) (ltb room (length (bytesOf text))) NoRoom (Bytes (length (bytesOf text)))
     (λ more. tt)
     (λ less. ltb-false room (length (bytesOf text)) less)
 
@@ -136,29 +135,3 @@ unfolding lessonOf
 bytes-fit text d d′ n reads =
     subst (λ (r : Lesson). Fits r (length d)) (sym (reads .told))
     (pick-either (λ (r : Lesson). Fits r (length d)) (ltb longest (length text)) _ _ tt (answer-fits (faultOf text) text (length d)))
-
-digits-line : (ds : List ℕ) → Digits ds → OneLine ds
-digits-line [] all = tt
-digits-line (c ∷ ds) all = (λ e. absurd (omega (arith, ap digit e, feed-no-digit, all .0)), digits-line ds (all .1))
-
--- A character that may not stand there, at any digit of a record that begins a line behind whole lines, is told by its line and column,
--- and nothing is handed out.
-pub told-there : (a ds rest d d′ : List ℕ) (c : ℕ) (r : Lesson) → Whole (a ++ (lineFeed ∷ []))
-    → Digits ds → length ds < 8 → isDigit c ≡ false → (apart c ≡ false) ⊎ (length ds % 2 ≡ 1)
-    → length (a ++ (lineFeed ∷ (ds ++ (c ∷ rest)))) ≤ longest
-    → Reads (a ++ (lineFeed ∷ (ds ++ (c ∷ rest)))) d d′ r
-    → (r ≡ Fault (2 + feeds a) (1 + length ds)) × (d′ ≡ d)
-unfolding lessonOf answerBy handedOut
-told-there a ds rest d d′ c r w all few none other short reads =
-    let apart-so : (a ++ (lineFeed ∷ [])) ++ (ds ++ (c ∷ rest)) ≡ a ++ (lineFeed ∷ (ds ++ (c ∷ rest))) = append-assoc a (lineFeed ∷ []) (ds ++ (c ∷ rest)) in
-    let fault : faultOf (a ++ (lineFeed ∷ (ds ++ (c ∷ rest)))) ≡ At (length (a ++ (lineFeed ∷ [])) + length ds) =
-    rw (← apart-so) (wrong-character (a ++ (lineFeed ∷ [])) ds rest c w all few none other) in
-    let size : length (a ++ (lineFeed ∷ ds)) ≡ length (a ++ (lineFeed ∷ [])) + length ds =
-    omega (arith, length-append a (lineFeed ∷ ds), length-append a (lineFeed ∷ [])) in
-    let before : take (length (a ++ (lineFeed ∷ [])) + length ds) (a ++ (lineFeed ∷ (ds ++ (c ∷ rest)))) ≡ a ++ (lineFeed ∷ ds) =
-    rw (← append-assoc a (lineFeed ∷ ds) (c ∷ rest)) (take-at (a ++ (lineFeed ∷ ds)) (c ∷ rest) (length (a ++ (lineFeed ∷ [])) + length ds) size) in
-    let is : r ≡ Fault (2 + feeds a) (1 + length ds) =
-    reads .told
-    ∙ pick-false _ _ _ (le-ltb longest (length (a ++ (lineFeed ∷ (ds ++ (c ∷ rest))))) short)
-    ∙ rw (fault, before, later-line a ds (digits-line ds all)) in
-    (is, reads .bytes ∙ rw is)

@@ -1,5 +1,6 @@
 pub mod Text
 pub mod Fault
+pub mod Cause
 pub mod Place
 pub mod Lesson
 pub mod Plain
@@ -12,3 +13,5 @@ pub mod WrittenLaws
 pub mod BlankLaws
 pub mod RoomLaws
 pub mod RecordLaws
+pub mod CauseLaws
+pub mod ShortLaws

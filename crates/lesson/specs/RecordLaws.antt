@@ -12,8 +12,8 @@ use Rattle.base.specs.Pick.{pick}
 use Rattle.base.specs.PickLaws.{pick-true, pick-false}
 use Rattle.lesson.specs.Text.{lineFeed, numberSign, digit, isDigit, apart, commented}
 use Rattle.lesson.specs.TextLaws.{comment-goes}
-use Rattle.lesson.specs.Fault.{start, faulty, next, after, faultFrom, faultOf}
-use Rattle.lesson.specs.FaultLaws.{behind, Whole, whole-parts, whole-digits, opened, digit-after, digit-on, wrong-character, moved, moved-from}
+use Rattle.lesson.specs.Fault.{start, faulty, next, after, behind, faultFrom, faultOf}
+use Rattle.lesson.specs.FaultLaws.{Whole, whole-parts, whole-digits, opened, digit-after, digit-on, wrong-character, moved, moved-from}
 use Rattle.lesson.specs.Lesson.{longest}
 use Rattle.lesson.specs.Plain.{Digits, OneLine}
 use Rattle.lesson.specs.declared.faults.Reading.{Reading}
@@ -21,7 +21,7 @@ use Rattle.lesson.specs.declared.faults.Found.the-variants.{At, Nowhere}
 
 -- ---- where a record ends
 
-behind-parts : (s : Reading) (a b : List ℕ) → behind s (a ++ b) ≡ behind (behind s a) b
+pub behind-parts : (s : Reading) (a b : List ℕ) → behind s (a ++ b) ≡ behind (behind s a) b
 behind-parts s [] b = refl
 behind-parts s (c ∷ a) b = behind-parts (after s c) a b
 
@@ -128,6 +128,6 @@ module _ (a ds words : List ℕ) (w : Whole a) (all : Digits ds) (few : length d
 
 -- ---- sizes
 
--- rule 7's number is the largest of 32 bits
+-- rule 9's number is the largest of 32 bits
 pub longest-is : longest + 1 ≡ 2 ^ 32
 longest-is = refl

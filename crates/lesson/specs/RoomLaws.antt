@@ -2,18 +2,18 @@
 use Prim.Native.Nat.{ℕ, _≤_, _<_}
 use mathlib.Core.List.{List}
 use mathlib.Core.Path.{_≡_, ap, _∙_}
-use lib.ListN.{length, take}
+use lib.ListN.{length}
 use lib.Seq.{sets}
 use borrow.Author.Tests.{lt-ltb, le-ltb}
 use Rattle.base.specs.PickLaws.{pick-true, pick-false}
 use Rattle.lesson.specs.Text.{bytesOf}
 use Rattle.lesson.specs.Fault.{faultOf}
-use Rattle.lesson.specs.Place.{placeBehind}
-use Rattle.lesson.specs.Lesson.{longest, answerBy, lessonOf, handedOut, Reads}
+use Rattle.lesson.specs.Cause.{finding}
+use Rattle.lesson.specs.Lesson.{longest, faultBy, answerBy, lessonOf, handedOut, Reads}
 use Rattle.lesson.specs.declared.faults.Found.{Found}
 use Rattle.lesson.specs.declared.faults.Found.the-variants.{At, Nowhere}
 use Rattle.lesson.specs.declared.Lesson.{Lesson}
-use Rattle.lesson.specs.declared.Lesson.the-variants.{Bytes, Fault, TooLong}
+use Rattle.lesson.specs.declared.Lesson.the-variants.{Bytes, TooLong, NoRoom}
 
 module _ (text d d′ : List ℕ) (r : Lesson) (reads : Reads text d d′ r) where
   -- a text that is too long is not read, whatever it holds
@@ -29,9 +29,9 @@ module _ (text d d′ : List ℕ) (r : Lesson) (reads : Reads text d d′ r) whe
     by-fault f found =
         reads .told ∙ pick-false _ _ _ (le-ltb longest (length text) short) ∙ ap (λ (x : Found). answerBy x text (length d)) found
 
-    -- a fault is told by the line and column behind the characters before it, and nothing is handed out
+    -- a fault is told by its cause, and by the line and column behind the characters before it, and nothing is handed out
     pub fault-told : (at : ℕ) → faultOf text ≡ At at
-        → (r ≡ Fault (placeBehind (take at text) .line) (placeBehind (take at text) .column)) × (d′ ≡ d)
+        → (r ≡ faultBy (finding text at) text) × (d′ ≡ d)
     unfolding answerBy handedOut
     fault-told at found = (by-fault (At at) found, reads .bytes ∙ ap (λ (x : Lesson). handedOut x text d) (by-fault (At at) found))
 
@@ -43,8 +43,8 @@ module _ (text d d′ : List ℕ) (r : Lesson) (reads : Reads text d d′ r) whe
         (is, reads .bytes ∙ ap (λ (x : Lesson). handedOut x text d) is)
 
     -- and bytes that do not fit are not, not one of them
-    pub no-room : faultOf text ≡ Nowhere → length d < length (bytesOf text) → (r ≡ TooLong) × (d′ ≡ d)
+    pub no-room : faultOf text ≡ Nowhere → length d < length (bytesOf text) → (r ≡ NoRoom) × (d′ ≡ d)
     unfolding answerBy handedOut
     no-room good full =
-        let is : r ≡ TooLong = by-fault Nowhere good ∙ pick-true _ _ _ (lt-ltb (length d) (length (bytesOf text)) full) in
+        let is : r ≡ NoRoom = by-fault Nowhere good ∙ pick-true _ _ _ (lt-ltb (length d) (length (bytesOf text)) full) in
         (is, reads .bytes ∙ ap (λ (x : Lesson). handedOut x text d) is)

@@ -8,9 +8,12 @@
 --  4. A record stands on one line. Where a line ends within a record, with or without a comment, the next digit of the text is a fault.
 --     But the text may end within a record: what there is of it goes to the bench, which refuses it by number 4.
 --  5. Any other character is a fault. Where a byte's second digit is due, so is white space, a comment or the text's end.
---  6. The first fault is told by its line and column, both from 1. A column is one byte of the text, and a line ends after a line feed. The
---     text's end stands right behind its last character.
---  7. A text of more than 4294967295 characters is not read, nor one whose bytes do not fit the buffer.
+--  6. The first fault, in the order of reading, is told by its cause and its place: no digit, at the character of rule 5; one digit alone, at
+--     that digit; a record of fewer than four bytes, and of how many, at its first digit, which stands on an earlier line than the digit of rule 4.
+--  7. Where a text that has a fault begins with a byte order mark (EF BB BF), or as UTF-16 does (FF FE, FE FF, or 00 among the first two bytes),
+--     that is its cause, and its place the text's start.
+--  8. A place is a line and a column, both from 1. A column is one byte of the text, and a line ends after a line feed.
+--  9. A text of more than 4294967295 characters is not read, nor one whose bytes do not fit the buffer, and which of the two is told.
 use Prim.Native.Nat.{ℕ, _+_, _-_, _*_}
 use mathlib.Core.Bool.{Bool, true, false, _&&_, _||_}
 use mathlib.Core.List.{List, [], _∷_}

@@ -6,9 +6,11 @@ use native.Mathlib.Omega.{arith}
 use Rattle.base.specs.Pick.{pick}
 use Rattle.lesson.specs.Text.{digit, apart, commented, told, worths, paired, digitsOf, bytesOf}
 use Rattle.lesson.specs.Fault.{faulty, next, after, faultFrom, faultOf}
+use Rattle.lesson.specs.Cause.{finding, stoppedAt, marked, wide, alien, begins, begunFrom, begunIn}
 use Rattle.lesson.specs.Place.{onward, placeFrom, placeBehind}
 use Rattle.lesson.specs.Lesson.{longest, answerBy, lessonOf}
 use Rattle.lesson.specs.declared.Lesson.the-variants.{Bytes, Fault}
+use Rattle.lesson.specs.declared.Cause.the-variants.{NoDigit, OneDigit, ShortRecord, ByteOrderMark, Utf16}
 
 -- 08, a space, 0a, a tab, 00F0, a space, a number sign, a space, 9, a carriage return, a line feed: one record, and a comment
 pub written-record :
@@ -17,9 +19,10 @@ pub written-record :
 unfolding lessonOf answerBy faultOf faultFrom faulty next after bytesOf digitsOf paired worths told commented apart digit pick
 written-record = (refl, refl)
 
--- 080000, a line feed, a space, 08: a byte is forgotten, and the second line's second column tells it
-pub written-fault : lessonOf (48 ∷ 56 ∷ 48 ∷ 48 ∷ 48 ∷ 48 ∷ 10 ∷ 32 ∷ 48 ∷ 56 ∷ []) 4 ≡ Fault 2 2
-unfolding lessonOf answerBy faultOf faultFrom faulty next after placeBehind placeFrom onward bytesOf digitsOf paired worths told commented apart digit pick
+-- a space, 080000, a line feed, a space, 08: a byte is forgotten, and the record is told that has three, at the second column of its own line
+pub written-fault : lessonOf (32 ∷ 48 ∷ 56 ∷ 48 ∷ 48 ∷ 48 ∷ 48 ∷ 10 ∷ 32 ∷ 48 ∷ 56 ∷ []) 4 ≡ Fault 1 2 (ShortRecord 3)
+unfolding lessonOf answerBy finding stoppedAt marked wide alien begins begunFrom begunIn
+    faultOf faultFrom faulty next after placeBehind placeFrom onward bytesOf digitsOf paired worths told commented apart digit pick
 written-fault = refl
 
 -- 08000000, a carriage return, a line feed, a number sign, x: a carriage return between records, and a comment in which the text ends
@@ -28,8 +31,9 @@ unfolding lessonOf answerBy faultOf faultFrom faulty next after bytesOf digitsOf
 written-ends = refl
 
 -- 0800, a number sign, x, a line feed, 00: a line ends within a record behind a comment
-pub written-cut : lessonOf (48 ∷ 56 ∷ 48 ∷ 48 ∷ 35 ∷ 120 ∷ 10 ∷ 48 ∷ 48 ∷ []) 4 ≡ Fault 2 1
-unfolding lessonOf answerBy faultOf faultFrom faulty next after placeBehind placeFrom onward bytesOf digitsOf paired worths told commented apart digit pick
+pub written-cut : lessonOf (48 ∷ 56 ∷ 48 ∷ 48 ∷ 35 ∷ 120 ∷ 10 ∷ 48 ∷ 48 ∷ []) 4 ≡ Fault 1 1 (ShortRecord 2)
+unfolding lessonOf answerBy finding stoppedAt marked wide alien begins begunFrom begunIn
+    faultOf faultFrom faulty next after placeBehind placeFrom onward bytesOf digitsOf paired worths told commented apart digit pick
 written-cut = refl
 
 -- 0800, a line feed: the text ends within a record, behind a line's end
@@ -37,6 +41,34 @@ pub written-short : lessonOf (48 ∷ 56 ∷ 48 ∷ 48 ∷ 10 ∷ []) 4 ≡ Bytes
 unfolding lessonOf answerBy faultOf faultFrom faulty next after bytesOf digitsOf paired worths told commented apart digit pick
 written-short = refl
 
+-- 08000000, a line feed, 0, a carriage return: one digit alone, on the second line
+pub written-alone : lessonOf (48 ∷ 56 ∷ 48 ∷ 48 ∷ 48 ∷ 48 ∷ 48 ∷ 48 ∷ 10 ∷ 48 ∷ 13 ∷ []) 4 ≡ Fault 2 1 OneDigit
+unfolding lessonOf answerBy finding stoppedAt marked wide alien begins begunFrom begunIn
+    faultOf faultFrom faulty next after placeBehind placeFrom onward bytesOf digitsOf paired worths told commented apart digit pick
+written-alone = refl
+
+-- 0, G: the second digit of a byte is none
+pub written-letter : lessonOf (48 ∷ 71 ∷ []) 4 ≡ Fault 1 2 NoDigit
+unfolding lessonOf answerBy finding stoppedAt marked wide alien begins begunFrom begunIn
+    faultOf faultFrom faulty next after placeBehind placeFrom onward bytesOf digitsOf paired worths told commented apart digit pick
+written-letter = refl
+
+-- EF BB BF, 0; and EF BB alone, which is no byte order mark
+pub written-mark : (lessonOf (0xEF ∷ 0xBB ∷ 0xBF ∷ 48 ∷ []) 4 ≡ Fault 1 1 ByteOrderMark)
+    × (lessonOf (0xEF ∷ 0xBB ∷ []) 4 ≡ Fault 1 1 NoDigit)
+unfolding lessonOf answerBy finding stoppedAt marked wide alien begins begunFrom begunIn
+    faultOf faultFrom faulty next after placeBehind placeFrom onward bytesOf digitsOf paired worths told commented apart digit pick
+written-mark = (refl, refl)
+
+-- 0 as UTF-16 writes it, the low byte first or the high one, with FF FE or FE FF before it or without; and a number sign and a line feed, the low
+-- byte first
+pub written-wide : (lessonOf (0xFF ∷ 0xFE ∷ 48 ∷ 0 ∷ []) 4 ≡ Fault 1 1 Utf16) × (lessonOf (0xFE ∷ 0xFF ∷ 0 ∷ 48 ∷ []) 4 ≡ Fault 1 1 Utf16)
+    × (lessonOf (48 ∷ 0 ∷ []) 4 ≡ Fault 1 1 Utf16) × (lessonOf (0 ∷ 48 ∷ []) 4 ≡ Fault 1 1 Utf16)
+    × (lessonOf (35 ∷ 0 ∷ 10 ∷ 0 ∷ []) 4 ≡ Fault 1 1 Utf16)
+unfolding lessonOf answerBy finding stoppedAt marked wide alien begins begunFrom begunIn
+    faultOf faultFrom faulty next after placeBehind placeFrom onward bytesOf digitsOf paired worths told commented apart digit pick
+written-wide = (refl, refl, refl, refl, refl)
+
 -- and the longest lesson of the bench program is not too long
-pub longest-enough : 131071 ≤ longest
+pub longest-enough : 16777215 ≤ longest
 longest-enough = omega arith

@@ -13,6 +13,12 @@ pub(crate) struct Reading {
     pub(crate) comment: bool,
 }
 
+pub(crate) const START: Reading = Reading {
+    digits: 0,
+    cut: false,
+    comment: false,
+};
+
 pub(crate) enum Found {
     At(usize),
     Nowhere,
@@ -43,7 +49,7 @@ impl Reading {
         0
     }
 
-    fn after(self, c: u8) -> Reading
+    pub(crate) fn after(self, c: u8) -> Reading
         ensures { λ r. ⌜ r ≡ Fault·after self c ⌝ }
     {
         if characters::is_commented(self.comment, c) {
@@ -74,11 +80,7 @@ impl Reading {
 pub(crate) fn first_fault(text: &[u8]) -> Found
     ensures { λ r. ⌜ r ≡ faultOf (now (text .entry)) ⌝ }
 {
-    let mut reading = Reading {
-        digits: 0,
-        cut: false,
-        comment: false,
-    };
+    let mut reading = START;
     for i in 0..text.len() {
         let c = text[i];
         if reading.is_faulty(c) {

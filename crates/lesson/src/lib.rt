@@ -1,11 +1,11 @@
-// Lessons as text: what a teacher writes in an editor goes in, the bytes of its records come out, or the place of its first fault.
+// Lessons as text: what a teacher writes in an editor goes in, the bytes of its records come out, or its first fault.
 mod bytes;
+mod causes;
 mod characters;
 mod faults;
 mod places;
 
 use faults::Found;
-use places::Place;
 ghost use Rattle.lesson.specs.Lesson.{Reads};
 
 // Of a text that is not longer, every line and column is a number that there is.
@@ -14,10 +14,21 @@ const LONGEST: usize = 4294967295;
 pub enum Lesson {
     // So many bytes stand at the start of the buffer.
     Bytes(usize),
-    // The line and the column of the first fault.
-    Fault(usize, usize),
-    // The text is longer than any that is read, or its bytes do not fit the buffer.
+    // The line, the column and the cause of the first fault.
+    Fault(usize, usize, Cause),
+    // The text is longer than any that is read.
     TooLong,
+    // The bytes do not fit the buffer.
+    NoRoom,
+}
+
+pub enum Cause {
+    NoDigit,
+    OneDigit,
+    // So many bytes of four.
+    ShortRecord(u8),
+    ByteOrderMark,
+    Utf16,
 }
 
 // Reads a text into the buffer. Where it has a fault or is too long, the buffer stays as it was.
@@ -28,12 +39,15 @@ pub fn read(text: &[u8], out: &mut [u8]) -> Lesson
         return Lesson::TooLong;
     }
     if let Found::At(at) = faults::first_fault(text) {
-        let place = places::place_behind(&text[..at]);
-        return Lesson::Fault(place.line, place.column);
+        let finding = causes::find(text, at);
+        let before = finding.at;
+        let cause = finding.cause;
+        let place = places::place_behind(&text[..before]);
+        return Lesson::Fault(place.line, place.column, cause);
     }
     let count = bytes::count_digits(text) / 2;
     if out.len() < count {
-        return Lesson::TooLong;
+        return Lesson::NoRoom;
     }
     bytes::put_bytes(text, &mut *out);
     Lesson::Bytes(count)

@@ -1,6 +1,6 @@
-use mathlib.Core.Path.{_≡_, subst, sym, _∙_}
-use Rattle.lesson.proofs.Ends.{too-long, faulted, no-room, handed, byte-count}
-use Rattle.lesson.specs.FaultLaws.{Within, fault-within}
+use mathlib.Core.Path.{_≡_, sym, _∙_}
+use Rattle.lesson.proofs.Ends.{too-long, found-within, faulted, no-room, handed, byte-count}
+use Rattle.lesson.proofs.Stops.{finding-within}
 use Rattle.lesson.specs.Text.{bytesOf}
 use native.Mathlib.Omega.{arith}
 use lib.Seq.{length-take-le}
@@ -19,18 +19,21 @@ first-fault-requires c κs = search needs
 enum-known-at : tie.Need-enum-known-at
 enum-known-at c = search needs
 
+find-requires : tie.Need-find-requires
+find-requires c κs = found-within (c .before .before .before .before .before .before .before .args .text .now) (c .before .at .given .0 .0) (sym (c .before .before .before .first-fault .ensures) ∙ c .before .at .given .1)
+
 slice-aggregate-place-behind : tie.Need-slice-aggregate-place-behind
 slice-aggregate-place-behind c =
-    let inside : c .before .before .at .given .0 .0 ≤ length (c .before .before .before .before .before .before .before .before .args .text .now) = subst (λ f. Within f (length (c .before .before .before .before .before .before .before .before .args .text .now))) (sym (c .before .before .before .before .first-fault .ensures) ∙ c .before .before .at .given .1) (fault-within (c .before .before .before .before .before .before .before .before .args .text .now)) in
+    let inside : c .before .find .result .at ≤ length (c .before .before .before .before .before .before .before .before .before .args .text .now) = rw (c .before .find .ensures) (finding-within (c .before .before .before .before .before .before .before .before .before .args .text .now) (c .before .before .before .at .given .0 .0) (found-within (c .before .before .before .before .before .before .before .before .before .args .text .now) (c .before .before .before .at .given .0 .0) (sym (c .before .before .before .before .before .first-fault .ensures) ∙ c .before .before .before .at .given .1))) in
     sym (length-take-le _ _ inside)
 
 place-behind-requires : tie.Need-place-behind-requires
 place-behind-requires c κs =
-    let inside : c .before .before .at .given .0 .0 ≤ length (c .before .before .before .before .before .before .before .before .args .text .now) = subst (λ f. Within f (length (c .before .before .before .before .before .before .before .before .args .text .now))) (sym (c .before .before .before .before .first-fault .ensures) ∙ c .before .before .at .given .1) (fault-within (c .before .before .before .before .before .before .before .before .args .text .now)) in
-    omega (arith, length-take-le _ (c .before .before .before .before .before .before .before .before .args .text .now) inside)
+    let inside : c .before .find .result .at ≤ length (c .before .before .before .before .before .before .before .before .before .args .text .now) = rw (c .before .find .ensures) (finding-within (c .before .before .before .before .before .before .before .before .before .args .text .now) (c .before .before .before .at .given .0 .0) (found-within (c .before .before .before .before .before .before .before .before .before .args .text .now) (c .before .before .before .at .given .0 .0) (sym (c .before .before .before .before .before .first-fault .ensures) ∙ c .before .before .before .at .given .1))) in
+    omega (arith, inside, length-take-le _ (c .before .before .before .before .before .before .before .before .before .args .text .now) inside)
 
 returns-2 : tie.Need-returns-2
-returns-2 c = rw (c .place-behind .ensures) (faulted _ _ (c .before .before .before .before .before .before .if1 .left) _ (sym (c .before .before .before .before .before .first-fault .ensures) ∙ c .before .before .before .at .given .1))
+returns-2 c = rw (c .place-behind .ensures, c .before .before .find .ensures) (faulted _ _ (c .before .before .before .before .before .before .before .if1 .left) _ (sym (c .before .before .before .before .before .before .first-fault .ensures) ∙ c .before .before .before .before .at .given .1))
 
 enum-told : tie.Need-enum-told
 enum-told c = search needs
@@ -59,6 +62,7 @@ read-spec =
     returns
     first-fault-requires
     enum-known-at
+    find-requires
     slice-aggregate-place-behind
     place-behind-requires
     returns-2

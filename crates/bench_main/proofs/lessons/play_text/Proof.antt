@@ -1,4 +1,5 @@
 use Rattle.lesson.specs.LessonLaws.{bytes-fit}
+use lib.ListN.{length-take}
 use lib.Seq.{length-take-le}
 use mathlib.Core.Path.{sym}
 use native.Mathlib.Omega.{arith}
@@ -6,8 +7,8 @@ use borrow.Author.Needs.{needs}
 use Rattle.bench_main.proofs.lessons.play_text.Statement.{statement}
 use Rattle.bench_main.proofs.lessons.play_text.Tie as tie
 
-large-buffer-requires : tie.Need-large-buffer-requires
-large-buffer-requires c κs = search needs
+records-requires : tie.Need-records-requires
+records-requires c κs = search needs
 
 slice-aggregate-read : tie.Need-slice-aggregate-read
 slice-aggregate-read c = search needs
@@ -31,7 +32,10 @@ slice-aggregate-play c =
     sym (length-take-le _ _ (omega (arith, fit, c .before .before .before .before .before .read .kept)))
 
 play-requires : tie.Need-play-requires
-play-requires c κs = search needs
+play-requires c κs =
+    let reads : _ = rw (c .before .before .count .given .1) at (c .before .before .before .before .before .read .ensures) in
+    let fit : _ = bytes-fit _ _ _ _ reads in
+    simp length-take (omega (arith, fit, c .before .before .before .before .before .read .kept))
 
 enum-known-line : tie.Need-enum-known-line
 enum-known-line c = search needs
@@ -45,6 +49,12 @@ enum-told c = search needs
 too-long-requires : tie.Need-too-long-requires
 too-long-requires c κs = search needs
 
+enum-told-2 : tie.Need-enum-told-2
+enum-told-2 c = search needs
+
+too-many-requires : tie.Need-too-many-requires
+too-many-requires c κs = search needs
+
 returns : tie.Need-returns
 returns c = search needs
 
@@ -54,11 +64,14 @@ returns-2 c = search needs
 returns-3 : tie.Need-returns-3
 returns-3 c = search needs
 
+returns-4 : tie.Need-returns-4
+returns-4 c = search needs
+
 pub play-text-spec : {M : Type 1} → statement M
 play-text-spec =
     tie.close
     (tie.spec
-    large-buffer-requires
+    records-requires
     slice-aggregate-read
     read-requires
     enum-known-count
@@ -69,6 +82,9 @@ play-text-spec =
     fault-requires
     enum-told
     too-long-requires
+    enum-told-2
+    too-many-requires
     returns
     returns-2
-    returns-3)
+    returns-3
+    returns-4)

@@ -6,18 +6,18 @@ use borrow.Author.Tests.{eqb-false}
 use lib.Dec.{T, eqb}
 use Prim.Native.Nat.{ℕ, _≤_, _-_}
 use borrow.Author.Needs.{needs}
-use Rattle.bench_main.proofs.lessons.read_whole.Statement.{statement}
-use Rattle.bench_main.proofs.lessons.read_whole.Tie as tie
+use Rattle.bench_main.proofs.lessons.read_on.Statement.{statement}
+use Rattle.bench_main.proofs.lessons.read_on.Tie as tie
 
 goes-on : (failed : Bool) (e end : ℕ) → (failed || eqb e end) ≡ false → e ≡ end → ⊥
 goes-on false e end h q = eqb-false e end h q
 goes-on true e end h q = subst T h tt
 
 abbrev Inv-loop : tie.InvT-loop
-Inv-loop fd text₀ end₀ text end = (length text ≡ length text₀) × (end ≤ length text)
+Inv-loop fd text₀ start end₀ text end = (length text ≡ length text₀) × (end ≤ length text)
 
 abbrev μ-loop : tie.MeasureT-loop
-μ-loop fd text₀ end₀ text end = length text₀ - end
+μ-loop fd text₀ start end₀ text end = length text₀ - end
 
 loop-holds : tie.Need-loop-holds Inv-loop μ-loop
 loop-holds c = search needs
@@ -43,8 +43,8 @@ same-length-2 c = search needs
 returns-2 : tie.Need-returns-2 Inv-loop μ-loop
 returns-2 c = search needs
 
-pub read-whole-spec : {M : Type 1} → statement M
-read-whole-spec =
+pub read-on-spec : {M : Type 1} → statement M
+read-on-spec =
     tie.close
     (tie.spec
     Inv-loop
