@@ -120,6 +120,12 @@ class Once(unittest.TestCase):
         self.assertTold("cups.sip has no heading", promises=PROMISES.replace("### `sip`", "`sip`"))
         self.assertTold("cups.sip has no heading", promises=None)
 
+    def test_a_heading_without_a_function_is_told(self):
+        self.assertTold("docs/PROMISES.md has a heading for sup, and there is no", promises=PROMISES.replace("`sip`", "`sip`, `sup`"))
+        self.assertTold("has a heading for Mug::sip", promises=PROMISES.replace("`sip`", "`sip`, `Mug::sip`"))
+        self.assertTold("has a heading for spill", promises=PROMISES.replace("`sip`", "`sip`, `spill`"))
+        self.assertEqual(self.faults(promises=PROMISES.replace("## More", "### program `cups`\n\n## More")), [])
+
     def test_a_heading_may_name_type_or_room_or_neither(self):
         self.assertEqual(self.faults(promises=PROMISES.replace("Cup::filled_to", "filled_to")), [])
         moved = PROMISES.replace("`sip`, ", "").replace("`plates::wash`", "`cups::sip(c)`")
