@@ -238,6 +238,10 @@ class Reading(Room):
         self.passes(*self.against("--complete", "The channel", "The controller"))
         self.fails('"Divisor list" is to be complete', *self.against("--complete", "Divisor list", "The channel"))
 
+    def test_every_chapter_is_to_be_complete_where_none_is_named(self):
+        self.fails('"What is on the bench" is to be complete', *self.against("--complete"))
+        self.fails('"Divisor list" is to be complete', *self.against("--complete"))
+
     def test_excused_passages(self):
         self.write("docs/unquoted.txt", "# why not\nNot built now: dimmers. -- left out\n")
         self.assertIn("What is on the bench: 1 of 3 ", self.passes(*self.against()))
