@@ -20,6 +20,8 @@ CODE = """impl Answer {
 pub const LCR_BREAK: u8 = 6;
 
 const END: u8 = 0b001;
+
+pub const BREAK: u8 = 2;
 """
 
 HEADER = """#define HAILSTOAT_VERSION 10000
@@ -36,6 +38,7 @@ enum hailstoat_refusal { HAILSTOAT_SEAT_ABOVE = 1, HAILSTOAT_NOT_LISTED = 10 };
 #define HAILSTOAT_FIFO (1u << 0)
 #define HAILSTOAT_END 0x20
 #define HAILSTOAT_LATE 0x0C
+#define HAILSTOAT_BREAK 0x200
 
     case HAILSTOAT_SEAT_ABOVE: return "seat above 7";
     case HAILSTOAT_NOT_LISTED: return "not in the list";
@@ -101,6 +104,15 @@ Numbers.
 | IIR | Name | Definition |
 |---|---|---|
 | 0C | `LATE` | `base/Refusals.order` |
+
+| Answer | Name | When |
+|---|---|---|
+| 200 | `BREAK` | of the header alone |
+
+| Bit | Name | Marks |
+|---|---|---|
+| 0-1 | - | others |
+| 2 | `base::BREAK` | of the room alone |
 
 | Rate in tenths | Clock 0 | Clock 1 | Clock 2 |
 |---|---|---|---|
@@ -170,6 +182,14 @@ class Names(Room):
 
     def test_a_name_that_nobody_has(self):
         self.assertTold("neither the rooms nor include/hailstoat.h have LATER", "docs/MANUAL.md", "`LATE`", "`LATER`")
+
+    def test_a_name_of_a_room(self):
+        self.assertTold("base::BREAK is 2 here, and 4 in crates/base/src/lib.rt", "crates/base/src/lib.rt", "BREAK: u8 = 2", "BREAK: u8 = 4")
+        self.assertTold("neither the rooms nor include/hailstoat.h have queue::BREAK", "docs/MANUAL.md", "base::BREAK", "queue::BREAK")
+        self.assertTold("neither the rooms nor include/hailstoat.h have base::LATE", "docs/MANUAL.md", "base::BREAK", "base::LATE")
+
+    def test_a_name_of_the_header_that_the_manual_has_not(self):
+        self.assertTold("docs/MANUAL.md does not have MORE of include/hailstoat.h", "include/hailstoat.h", "READ = 0,", "READ = 0, HAILSTOAT_MORE = 2,")
 
     def test_a_name_of_one_side_is_enough(self):
         self.assertEqual(self.told("include/hailstoat.h", "#define HAILSTOAT_END 0x20\n", ""), "")
