@@ -63,9 +63,25 @@ cups-once M = record { }
 
 DECLARED = "pub mod OnceCalls\n"
 
+PROMISES = """# Promises
+
+## cups
+
+### `Cup::filled_to(mark)`
+
+- spills
+  Shut out by: contract
+
+### `sip`, `cups_empty`
+
+## More
+
+### `plates::wash`
+"""
+
 
 class Once(unittest.TestCase):
-    def faults(self, source=SOURCE, name="lib.rt", calls=CALLS, specs_lib=DECLARED, proofs=PROOFS, proofs_lib=DECLARED):
+    def faults(self, source=SOURCE, name="lib.rt", calls=CALLS, specs_lib=DECLARED, proofs=PROOFS, proofs_lib=DECLARED, promises=PROMISES):
         with tempfile.TemporaryDirectory() as folder:
             demands = pathlib.Path(folder) / once.DEMANDS
             files = {
@@ -74,6 +90,7 @@ class Once(unittest.TestCase):
                 demands / "proofs/Lib.antt": proofs_lib,
                 demands / "proofs/OnceCalls.antt": proofs,
                 pathlib.Path(folder) / "crates/cups/src" / name: source,
+                pathlib.Path(folder) / once.PROMISES: promises,
             }
             for path, text in files.items():
                 path.parent.mkdir(parents=True, exist_ok=True)
@@ -95,6 +112,24 @@ class Once(unittest.TestCase):
 
     def test_a_function_for_c_without_a_line_is_told(self):
         self.assertTold("cups·cups-full has no line", source=SOURCE.replace("cups_empty", "cups_full"))
+
+    def test_a_function_without_a_heading_is_told(self):
+        self.assertTold("cups.sip has no heading in docs/PROMISES.md", promises=PROMISES.replace("`sip`, ", ""))
+        self.assertTold("cups.Cup.filled_to has no heading", promises=PROMISES.replace("Cup::filled_to", "Mug::filled_to"))
+        self.assertTold("cups.sip has no heading", promises=PROMISES.replace("## cups", "## plates"))
+        self.assertTold("cups.sip has no heading", promises=PROMISES.replace("### `sip`", "`sip`"))
+        self.assertTold("cups.sip has no heading", promises=None)
+
+    def test_a_heading_without_a_function_is_told(self):
+        self.assertTold("docs/PROMISES.md has a heading for sup, and there is no", promises=PROMISES.replace("`sip`", "`sip`, `sup`"))
+        self.assertTold("has a heading for Mug::sip", promises=PROMISES.replace("`sip`", "`sip`, `Mug::sip`"))
+        self.assertTold("has a heading for spill", promises=PROMISES.replace("`sip`", "`sip`, `spill`"))
+        self.assertEqual(self.faults(promises=PROMISES.replace("## More", "### program `cups`\n\n## More")), [])
+
+    def test_a_heading_may_name_type_or_room_or_neither(self):
+        self.assertEqual(self.faults(promises=PROMISES.replace("Cup::filled_to", "filled_to")), [])
+        moved = PROMISES.replace("`sip`, ", "").replace("`plates::wash`", "`cups::sip(c)`")
+        self.assertEqual(self.faults(promises=moved), [])
 
     def test_a_private_function_needs_no_line(self):
         self.assertEqual(self.faults(source=SOURCE.replace("spill", "spilt").replace("wipe", "wiped")), [])

@@ -72,11 +72,30 @@ LAWS = """\
 pub rings : once
 """
 
-ROWS = """\
-| Turned up: the lamp is on; turned down: the lamp is off | `shining` | crates/lamp/specs/Lamp.antt |
+TABLES = """\
+## Events and their numbers
+
+| Document 01 | Definition | File |
+|---|---|---|
 | 1 lamp above 1 | `refused` | crates/lamp/specs/Lamp.antt |
-| Lamp 1 is red | `refused` | crates/lamp/specs/Lamp.antt |
+
+## The channel
+
+| Document 01 | Definition | File |
+|---|---|---|
+| Turned up: the lamp is on; turned down: the lamp is off | `shining` | crates/lamp/specs/Lamp.antt |
+
+## The controller
+
+| Document 01 | Definition | File |
+|---|---|---|
 | The bell rings once (none: 0). | `rings` (law) | crates/lamp/specs/BellLaws.antt |
+
+## Tasting spoons
+
+| Document 01 | Definition | File |
+|---|---|---|
+| Lamp 1 is red | `refused` | crates/lamp/specs/Lamp.antt |
 """
 
 
@@ -126,13 +145,60 @@ class Reading(Room):
     def against(self, *words):
         return ("--against", str(self.root / "paper.md"), *words)
 
-    def test_page_has_each_quotation_with_its_definition(self):
-        self.passes()
-        self.assertTrue((self.root / "docs/READING.md").read_text("utf-8").endswith(ROWS))
+    def page(self):
+        return (self.root / "docs/READING.md").read_text("utf-8")
 
-    def test_page_is_the_same_with_document_01(self):
+    def test_page_has_each_quotation_with_its_definition_in_the_order_of_document_01(self):
+        self.passes(*self.against())
+        self.assertTrue(self.page().endswith(TABLES), self.page())
+
+    def test_page_is_the_same_without_document_01(self):
+        self.passes(*self.against())
+        made = self.page()
+        self.passes("--check")
         self.passes()
+        self.assertEqual(self.page(), made)
         self.passes("--check", *self.against())
+
+    def test_page_in_another_order_fails_where_document_01_is_at_hand(self):
+        self.passes(*self.against())
+        parts = self.page().split("## ")
+        self.write("docs/READING.md", "## ".join([parts[0], *parts[2:4], parts[1], parts[4]]))
+        self.passes("--check")
+        self.fails("docs/READING.md is out of date", "--check", *self.against())
+
+    def test_sentence_that_is_new_waits_at_the_end_for_document_01(self):
+        self.passes(*self.against())
+        self.write("crates/lamp/specs/Lamp.antt", SPECS + '\n-- "Two lamps."\nabbrev pub two : ℕ\n')
+        self.fails("docs/READING.md is out of date", "--check")
+        self.passes()
+        self.assertTrue(self.page().endswith("|---|---|---|\n| Two lamps. | `two` | crates/lamp/specs/Lamp.antt |\n"))
+        self.assertIn("\n## Not placed yet\n\nThese were quoted after", self.page())
+        self.passes("--check")
+        self.fails("docs/READING.md is out of date", "--check", *self.against())
+        self.passes(*self.against())
+        self.assertIn("\n\n## What is on the bench\n\n| Document 01 | Definition | File |\n|---|---|---|\n| Two lamps. | `two` |", self.page())
+        self.assertNotIn("Not placed yet", self.page())
+
+    def test_sentence_stays_where_it_is_when_another_definition_says_it(self):
+        self.passes(*self.against())
+        self.write("crates/lamp/specs/Lamp.antt", SPECS.replace("refused", "barred"))
+        self.passes()
+        made = self.page()
+        self.assertTrue(made.endswith(TABLES.replace("refused", "barred")), made)
+        self.passes("--check", *self.against())
+
+    def test_few_words_stand_beside_the_longer_sentence_of_their_comment(self):
+        self.write("crates/lamp/specs/Lamp.antt", SPECS.replace('"Lamp 1 is red"', '"Lamp 1 is red", "1"'))
+        self.passes(*self.against())
+        self.assertTrue(self.page().endswith("| Lamp 1 is red | `refused` | crates/lamp/specs/Lamp.antt |\n"
+                                             "| 1 | `refused` | crates/lamp/specs/Lamp.antt |\n"), self.page())
+
+    def test_definition_stands_before_a_law_and_a_sentence_before_its_part(self):
+        self.write("crates/lamp/specs/BellLaws.antt", LAWS + '\n-- "Lamp 1 is red"\npub red : colour\n\n-- "Lamp 1"\npub one : lamp\n')
+        self.passes(*self.against())
+        rows = [line.split("|")[2].strip() for line in self.page().splitlines()[-3:]]
+        self.assertEqual(rows, ["`refused`", "`red` (law)", "`one` (law)"])
 
     def test_missing_and_stale_pages_fail(self):
         self.fails("docs/READING.md is out of date", "--check")
@@ -202,16 +268,25 @@ class Reading(Room):
 
     def test_page_tells_a_ticket_from_document_01(self):
         self.passes()
-        before = (self.root / "docs/READING.md").read_text("utf-8")
+        before = self.page()
         self.assertTrue(before.startswith("# From document 01 to its definitions\n"))
         self.assertIn("| Document 01 | Definition | File |", before)
         self.write("crates/lamp/specs/Dimmer.antt", DIMMER)
-        self.passes()
-        after = (self.root / "docs/READING.md").read_text("utf-8")
+        self.passes(*self.beside("--landed", "1"))
+        after = self.page()
         self.assertTrue(after.startswith("# From documents 01 and 02 to their definitions\n"))
-        self.assertIn("| Document 01 or a ticket | Definition | File |", after)
-        for text in ("Two lamps.", "ticket 1: Turned half: the lamp glows dimly; it hums.", "lamp above 1"):
+        for text in ("Two lamps.", "lamp above 1"):
             self.assertIn(f"\n| {text} | `glow` | crates/lamp/specs/Dimmer.antt |\n", after)
+        self.assertTrue(after.endswith("\n## Ticket 1. A dimmer\n\n| A ticket | Definition | File |\n|---|---|---|\n"
+                                       "| ticket 1: Turned half: the lamp glows dimly; it hums. | `glow` | crates/lamp/specs/Dimmer.antt |\n"), after)
+
+    def test_page_is_the_same_without_document_02(self):
+        self.write("crates/lamp/specs/Dimmer.antt", DIMMER)
+        self.passes(*self.beside("--landed", "1"))
+        made = self.page()
+        for words in ((), self.against("--landed", "1"), ("--and", str(self.root / "requests.md"), "--landed", "1")):
+            self.passes(*words)
+            self.assertEqual(self.page(), made)
 
     def test_each_quotation_is_held_to_its_own_document(self):
         self.write("crates/lamp/specs/Dimmer.antt", DIMMER)

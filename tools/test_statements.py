@@ -40,9 +40,21 @@ pub statements : Statements
 statements = record { full = full }
 """
 
-PROMISES = """| Call | Shut out by |
-|---|---|
-| `none` | law `full`, edit *half_full_twin*; `second/` |
+PROMISES = """# Promises
+
+### `sip`
+
+`not-looked-at`: what it promises
+
+- is half full
+  Shut out by: law `full`, edit
+  *half_full_twin*
+- `nobody`
+- `nothing`
+
+Shut out by: `second/`
+
+Nor is `this` looked at.
 """
 
 
@@ -127,6 +139,17 @@ class Statements(Room):
             self.write("docs/PROMISES.md", PROMISES.replace(gone, "x" + gone))
             self.assertEqual(len(self.missing()), 1)
 
+    def test_all_the_words_behind_which_a_law_is_named(self):
+        for words in check.SAYS:
+            self.write("docs/PROMISES.md", PROMISES.replace("Shut out by: law `full`", f"{words} law `gone`"))
+            self.assertEqual(self.missing(), ["docs/PROMISES.md:8: there is no gone"])
+
+    def test_a_page_that_would_not_be_read(self):
+        self.write("docs/PROMISES.md", PROMISES.replace("Shut out by", "By"))
+        self.assertEqual(self.missing(), ["docs/PROMISES.md says nowhere by what a wrong program is shut out"])
+        self.write("docs/PROMISES.md", PROMISES + "\n| Call | Shut out by |\n|---|---|\n| `sip` | law `gone` |\n")
+        self.assertEqual(self.missing(), ["docs/PROMISES.md:17: a table, where there should be a list"])
+
     def test_a_function_is_no_law(self):
         self.write("crates/cups/src/lib.rt", "pub fn sip() {\n}\n")
         self.write("docs/PROMISES.md", PROMISES.replace("law `full`", "contract of `sip`, laws of `cups`"))
@@ -142,7 +165,7 @@ class Statements(Room):
 
     def test_a_law_of_a_file_that_is_not_declared(self):
         self.write(SPECS + "Lib.antt", "pub mod Cups\n")
-        self.assertEqual(self.missing(), ["docs/PROMISES.md:3: there is no full"])
+        self.assertEqual(self.missing(), ["docs/PROMISES.md:8: there is no full"])
 
 
 if __name__ == "__main__":
