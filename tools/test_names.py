@@ -195,13 +195,6 @@ class Names(Room):
         self.assertEqual(self.told("include/hailstoat.h", "#define HAILSTOAT_END 0x20\n", ""), "")
         self.assertEqual(self.told("crates/base/src/lib.rt", "const END: u8 = 0b001;\n", ""), "")
 
-    def test_a_header_without_a_version_owes_no_names_and_no_words(self):
-        header, manual = HEADER.replace("#define HAILSTOAT_VERSION 10000\n", ""), MANUAL.replace("`LATE`", "`LATER`")
-        self.write("include/hailstoat.h", header.replace(" = 10 }", " }").replace("return", ""))
-        self.write("docs/MANUAL.md", manual)
-        self.script("bench", "#!/bin/sh\n")
-        self.assertEqual(list(check.faults(self.root)), [])
-
     def test_a_table_of_names_without_a_kind_of_number(self):
         self.assertTold("no kind of number: Colour", "docs/MANUAL.md", "| IIR |", "| Colour |")
 

@@ -19,7 +19,7 @@ use Rattle.registers.specs.Refusals as registers
 use Rattle.seat.specs.declared.Seat.{Seat}
 use Rattle.seat.specs.Steps.{refusal}
 use Rattle.controller.specs.declared.Controller.{Controller}
-use Rattle.controller.specs.declared.Stepped.{Stepped}
+use Rattle.controller.specs.declared.Signalled.{Signalled}
 use Rattle.controller.specs.Signals.{Signal, read, write}
 use Rattle.controller.specs.Refusals as controller
 use Rattle.controller.specs.RefusalLaws.{refusal-by-grounds, step-refused}
@@ -41,7 +41,7 @@ by-byte f same n = pick-cases (λ (m : ℕ). f n ≡ f m) (ltb n 255) n 255 (λ 
 
 -- ---- the kind: each is refused
 
-refused-by : (k s n v number : ℕ) → early (whole k s n v) ≡ number → eqb number 0 ≡ false → decoded (whole k s n v) ≡ decoded-as.Refused number
+refused-by : (k s n v number : ℕ) → early (whole k s n v) ≡ number → eqb number 0 ≡ false → decoded (whole k s n v) ≡ decoded-as.NoEvent number
 unfolding decoded
 refused-by k s n v number e some = rw e (pick-false _ _ _ some)
 
@@ -106,7 +106,7 @@ module _ (s : Seat) (c : Controller) (n v : ℕ) where
   port-refused signal above =
       let number : controller.refusal (c .setup) signal ≡ 2 = refusal-by-grounds (c .setup) signal ∙ pick-true _ _ _ above in
       step-refused c signal (λ none. let z : 2 ≡ 0 = sym number ∙ none in absurd (omega arith))
-      ∙ ap {B = Stepped} (λ (r : ℕ). record { controller = c; answer = Refused r }) number
+      ∙ ap {B = Signalled} (λ (r : ℕ). record { controller = c; answer = Refused r }) number
 
   port-read : (m : ℕ) → 255 ≤ m → step c (read m) ≡ step c (read 255)
   port-read m past = port-refused (read m) (lt-ltb 1 m (omega arith)) ∙ sym (port-refused (read 255) refl)
@@ -129,13 +129,13 @@ module _ (s : Seat) (c : Controller) (n v : ℕ) where
       (chosen (eqb k 3) _ _ _ _ refl
       (chosen (eqb k 4) _ _ _ _ refl
       (chosen (eqb k 5) _ _ _ _ refl
-      (chosen (eqb k 6) _ _ _ _ (ap {B = Touched} (λ (t : Stepped). record { seat = s; controller = c; answer = t .answer }) (port-read m past))
+      (chosen (eqb k 6) _ _ _ _ (ap {B = Touched} (λ (t : Signalled). record { seat = s; controller = c; answer = t .answer }) (port-read m past))
       (chosen (eqb k 7) _ _ _ _ (ap (besides s) (port-written m past)) refl)))))))
 
   -- what decoding refuses does not depend on the number
   dealt-alike : (k m : ℕ) (b : Bool) → metParts s c (eventOf k n m v) ≡ metParts s c (eventOf k n 255 v)
-      → dealtParts s c (pick b (decoded-as.Taken (eventOf k n m v)) (decoded-as.Refused (early (whole k n m v))))
-      ≡ dealtParts s c (pick b (decoded-as.Taken (eventOf k n 255 v)) (decoded-as.Refused (early (whole k n 255 v))))
+      → dealtParts s c (pick b (decoded-as.Taken (eventOf k n m v)) (decoded-as.NoEvent (early (whole k n m v))))
+      ≡ dealtParts s c (pick b (decoded-as.Taken (eventOf k n 255 v)) (decoded-as.NoEvent (early (whole k n 255 v))))
   unfolding early dealtParts pick
   dealt-alike k m true same = same
   dealt-alike k m false same = refl
