@@ -1,5 +1,5 @@
+-- made by tools/answers for lsr of crates/status/src/lib.rt, sum 658665b0939dfffd: do not change it by hand, make it anew
 use Rattle.status.specs.Status.{lsrOf}
-use Rattle.base.specs.PickLaws.{pick-true, pick-false}
 use borrow.Author.Needs.{needs}
 use Rattle.status.proofs.lsr.Statement.{statement}
 use Rattle.status.proofs.lsr.Tie as tie
@@ -33,7 +33,7 @@ byte-of-requires c κs = search needs
 
 returns : tie.Need-returns
 unfolding lsrOf
-returns c = simp (← c .byte-of .ensures, ← c .before .any-marked .ensures, ← c .before .before .is-idle .ensures, ← c .before .before .before .is-empty2 .ensures, ← c .before .before .before .before .bit3 .ensures, ← c .before .before .before .before .before .bit2 .ensures, ← c .before .before .before .before .before .before .bit .ensures, ← c .before .before .before .before .before .before .before .is-empty .ensures, ← c .before .before .before .before .before .before .before .before .marks .ensures, pick-true, pick-false)
+returns c = simp (← c .byte-of .ensures, ← c .before .any-marked .ensures, ← c .before .before .is-idle .ensures, ← c .before .before .before .is-empty2 .ensures, ← c .before .before .before .before .bit3 .ensures, ← c .before .before .before .before .before .bit2 .ensures, ← c .before .before .before .before .before .before .bit .ensures, ← c .before .before .before .before .before .before .before .is-empty .ensures, ← c .before .before .before .before .before .before .before .before .marks .ensures)
 
 pub lsr-spec : {M : Type 1} → statement M
 lsr-spec =

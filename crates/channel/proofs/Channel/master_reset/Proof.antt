@@ -1,4 +1,4 @@
-use Rattle.base.specs.PickLaws.{pick-true, pick-false}
+-- made by tools/answers for Channel::master_reset of crates/channel/src/lib.rt, sum b1b5787823f755d8: do not change it by hand, make it anew
 use Rattle.channel.specs.Parts.{masterReset}
 use borrow.Author.Needs.{needs}
 use Rattle.channel.proofs.Channel.master_reset.Statement.{statement}
@@ -12,7 +12,7 @@ power-up-requires c κs = search needs
 
 returns : tie.Need-returns
 unfolding masterReset
-returns c = simp (← c .before .power-up .ensures, ← c .before .before .restart .ensures, pick-true, pick-false)
+returns c = simp (← c .before .power-up .ensures, ← c .before .before .restart .ensures)
 
 pub master-reset-spec : {M : Type 1} → statement M
 master-reset-spec = tie.close (tie.spec restart-requires power-up-requires returns)

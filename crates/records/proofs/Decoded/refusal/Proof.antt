@@ -1,4 +1,4 @@
-use Rattle.base.specs.PickLaws.{pick-true, pick-false}
+-- made by tools/answers for Decoded::refusal of crates/records/src/events.rt, sum 09090a45f5c6be8a: do not change it by hand, make it anew
 use Rattle.records.specs.Events.{refusedNumber}
 use borrow.Author.Needs.{needs}
 use Rattle.records.proofs.Decoded.refusal.Statement.{statement}
@@ -12,11 +12,11 @@ enum-told c = search needs
 
 returns : tie.Need-returns
 unfolding refusedNumber
-returns c = simp (c .enum-told .given .1, pick-true, pick-false)
+returns c = simp (c .enum-told .given .1)
 
 returns-2 : tie.Need-returns-2
 unfolding refusedNumber
-returns-2 c = simp (c .before .self .given .1, pick-true, pick-false)
+returns-2 c = simp (c .before .self .given .1)
 
 pub refusal-spec : {M : Type 1} → statement M
 refusal-spec = tie.close (tie.spec enum-known-self enum-told returns returns-2)

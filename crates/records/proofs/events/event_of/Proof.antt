@@ -1,5 +1,6 @@
-use Rattle.records.specs.Events.{eventOf}
+-- made by tools/answers for event_of of crates/records/src/events.rt, sum 290e800833a5bbe5: do not change it by hand, make it anew
 use Rattle.base.specs.PickLaws.{tests, pick-true, pick-false}
+use Rattle.records.specs.Events.{eventOf}
 use Rattle.records.proofs.events.event_of.Statement.{statement}
 use Rattle.records.proofs.events.event_of.Tie as tie
 

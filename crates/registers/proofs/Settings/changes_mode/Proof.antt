@@ -1,4 +1,4 @@
-use Rattle.base.specs.PickLaws.{pick-true, pick-false}
+-- made by tools/answers for Settings::changes_mode of crates/registers/src/lib.rt, sum 8553cf015d3d9b83: do not change it by hand, make it anew
 use borrow.Author.Needs.{needs}
 use Rattle.registers.proofs.Settings.changes_mode.Statement.{statement}
 use Rattle.registers.proofs.Settings.changes_mode.Tie as tie
@@ -13,7 +13,7 @@ differ-requires : tie.Need-differ-requires
 differ-requires c κs = search needs
 
 returns : tie.Need-returns
-returns c = simp (← c .differ .ensures, ← c .before .bit .ensures, ← c .before .before .is-fifo .ensures, pick-true, pick-false)
+returns c = simp (← c .differ .ensures, ← c .before .bit .ensures, ← c .before .before .is-fifo .ensures)
 
 pub changes-mode-spec : {M : Type 1} → statement M
 changes-mode-spec = tie.close (tie.spec is-fifo-requires bit-requires differ-requires returns)

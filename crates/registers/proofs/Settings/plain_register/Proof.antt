@@ -1,3 +1,4 @@
+-- made by tools/answers for Settings::plain_register of crates/registers/src/lib.rt, sum f4a5f9afea9953c1: do not change it by hand, make it anew
 use Rattle.base.specs.PickLaws.{tests, pick-true, pick-false}
 use Rattle.registers.specs.Registers.{plainRegister}
 use Rattle.registers.proofs.Settings.plain_register.Statement.{statement}

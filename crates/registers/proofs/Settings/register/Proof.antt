@@ -1,3 +1,4 @@
+-- made by tools/answers for Settings::register of crates/registers/src/lib.rt, sum bc5c6af330d6ed96: do not change it by hand, make it anew
 use Rattle.base.specs.PickLaws.{pick-true, pick-false}
 use borrow.Author.Tests.{eq-eqb, ne-eqb}
 use Rattle.registers.specs.Registers.{registerAt}
@@ -10,7 +11,7 @@ bit-requires c κs = search needs
 
 returns : tie.Need-returns
 unfolding registerAt
-returns c = simp (← c .before .before .bit .ensures, eq-eqb _ _ (c .if2 .taken), c .before .if1 .taken, pick-true, pick-false)
+returns c = simp (← c .before .before .bit .ensures, eq-eqb _ _ (c .if2 .taken), c .before .if1 .taken, pick-true)
 
 returns-2 : tie.Need-returns-2
 unfolding registerAt
@@ -28,7 +29,7 @@ plain-register-requires-2 c κs = search needs
 
 returns-4 : tie.Need-returns-4
 unfolding registerAt
-returns-4 c = simp (← c .plain-register2 .ensures, ← c .before .before .bit .ensures, c .before .if1 .left, pick-true, pick-false)
+returns-4 c = simp (← c .plain-register2 .ensures, ← c .before .before .bit .ensures, c .before .if1 .left, pick-false)
 
 pub register-spec : {M : Type 1} → statement M
 register-spec =

@@ -1,4 +1,4 @@
-use Rattle.base.specs.PickLaws.{pick-true, pick-false}
+-- made by tools/answers for changes_after of crates/registers/src/modem.rt, sum 7645a6c78bff7305: do not change it by hand, make it anew
 use Rattle.registers.specs.Modem.{changesAfter}
 use borrow.Author.Needs.{needs}
 use Rattle.registers.proofs.modem.changes_after.Statement.{statement}
@@ -54,7 +54,7 @@ nibble-requires c κs = search needs
 
 returns : tie.Need-returns
 unfolding changesAfter
-returns c = simp (← c .nibble .ensures .0, ← c .before .differ3 .ensures, ← c .before .before .bit12 .ensures, ← c .before .before .before .bit11 .ensures, ← c .before .before .before .before .bit10 .ensures, ← c .before .before .before .before .before .bit9 .ensures, ← c .before .before .before .before .before .before .bit8 .ensures, ← c .before .before .before .before .before .before .before .bit7 .ensures, ← c .before .before .before .before .before .before .before .before .differ2 .ensures, ← c .before .before .before .before .before .before .before .before .before .bit6 .ensures, ← c .before .before .before .before .before .before .before .before .before .before .bit5 .ensures, ← c .before .before .before .before .before .before .before .before .before .before .before .bit4 .ensures, ← c .before .before .before .before .before .before .before .before .before .before .before .before .differ .ensures, ← c .before .before .before .before .before .before .before .before .before .before .before .before .before .bit3 .ensures, ← c .before .before .before .before .before .before .before .before .before .before .before .before .before .before .bit2 .ensures, ← c .before .before .before .before .before .before .before .before .before .before .before .before .before .before .before .bit .ensures, pick-true, pick-false)
+returns c = simp (← c .nibble .ensures .0, ← c .before .differ3 .ensures, ← c .before .before .bit12 .ensures, ← c .before .before .before .bit11 .ensures, ← c .before .before .before .before .bit10 .ensures, ← c .before .before .before .before .before .bit9 .ensures, ← c .before .before .before .before .before .before .bit8 .ensures, ← c .before .before .before .before .before .before .before .bit7 .ensures, ← c .before .before .before .before .before .before .before .before .differ2 .ensures, ← c .before .before .before .before .before .before .before .before .before .bit6 .ensures, ← c .before .before .before .before .before .before .before .before .before .before .bit5 .ensures, ← c .before .before .before .before .before .before .before .before .before .before .before .bit4 .ensures, ← c .before .before .before .before .before .before .before .before .before .before .before .before .differ .ensures, ← c .before .before .before .before .before .before .before .before .before .before .before .before .before .bit3 .ensures, ← c .before .before .before .before .before .before .before .before .before .before .before .before .before .before .bit2 .ensures, ← c .before .before .before .before .before .before .before .before .before .before .before .before .before .before .before .bit .ensures)
 
 pub changes-after-spec : {M : Type 1} → statement M
 changes-after-spec =

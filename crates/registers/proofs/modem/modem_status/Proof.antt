@@ -1,4 +1,4 @@
-use Rattle.base.specs.PickLaws.{pick-true, pick-false}
+-- made by tools/answers for modem_status of crates/registers/src/modem.rt, sum 9bc246eac023b57c: do not change it by hand, make it anew
 use Rattle.registers.specs.Modem.{msrOf}
 use borrow.Author.Needs.{needs}
 use Rattle.registers.proofs.modem.modem_status.Statement.{statement}
@@ -33,7 +33,7 @@ byte-of-requires c κs = search needs
 
 returns : tie.Need-returns
 unfolding msrOf
-returns c = simp (← c .byte-of .ensures, ← c .before .bit8 .ensures, ← c .before .before .bit7 .ensures, ← c .before .before .before .bit6 .ensures, ← c .before .before .before .before .bit5 .ensures, ← c .before .before .before .before .before .bit4 .ensures, ← c .before .before .before .before .before .before .bit3 .ensures, ← c .before .before .before .before .before .before .before .bit2 .ensures, ← c .before .before .before .before .before .before .before .before .bit .ensures, pick-true, pick-false)
+returns c = simp (← c .byte-of .ensures, ← c .before .bit8 .ensures, ← c .before .before .bit7 .ensures, ← c .before .before .before .bit6 .ensures, ← c .before .before .before .before .bit5 .ensures, ← c .before .before .before .before .before .bit4 .ensures, ← c .before .before .before .before .before .before .bit3 .ensures, ← c .before .before .before .before .before .before .before .bit2 .ensures, ← c .before .before .before .before .before .before .before .before .bit .ensures)
 
 pub modem-status-spec : {M : Type 1} → statement M
 modem-status-spec =
