@@ -43,6 +43,16 @@ class Streams(Start):
         self.assertEqual(self.closed("<&- >&- 2>&-"), (1, "", ""))
 
 
+class Names(Start):
+    """A lesson may have any name."""
+
+    def test_name_that_begins_like_an_option(self):
+        self.built()
+        self.write("-lesson.hex", LESSON)
+        self.assertEqual(self.run_it("--", "-lesson.hex"), (0, "given -- -lesson.hex\n", ""))
+        self.assertEqual(self.run_it("--", "-none"), (1, "", "-none: No such file or directory\n"))
+
+
 class Words(Start):
     """They are looked at before anything is built."""
 
@@ -57,15 +67,15 @@ class Words(Start):
         self.assertEqual(self.run_it(name), (1, "", f"{name}: File name too long\n"))
 
     def test_wrong_words_are_answered_with_the_usage(self):
-        for words in (("--lesson",), ("-x",), ("-",), ("",), ("lesson.hex", "lesson.hex"), ("--help", "me")):
+        for words in (("--lesson",), ("-x",), ("-",), ("--",), ("",), ("lesson.hex", "lesson.hex"), ("--help", "me")):
             status, listing, said = self.run_it(*words)
             self.assertEqual((status, listing), (2, ""), words)
-            self.assertIn("usage: bench LESSON >LISTING\n", said, words)
+            self.assertIn("usage: bench [--] LESSON >LISTING\n", said, words)
         self.assertTrue(self.run_it("--lesson")[2].startswith("bench: there is no option --lesson\nusage: "))
 
     def test_help(self):
         status, said, _ = self.run_it("--help")
-        self.assertEqual((status, said[:29]), (0, "usage: bench LESSON >LISTING\n"))
+        self.assertEqual((status, said[:34]), (0, "usage: bench [--] LESSON >LISTING\n"))
         self.assertEqual(self.run_it("-h")[1], said)
 
     def test_missing_toolchain_is_told_first(self):
