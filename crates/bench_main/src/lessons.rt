@@ -119,8 +119,8 @@ fn is_dashes(word: &[u8]) -> bool {
 
 // The lesson that a word names; `--` before the last word says that a name follows, whatever it begins with.
 //
-// No compiler puts a function that calls itself into its caller, nor one with a large room into it: so a usual lesson is run on little
-// stack, and standard input on none of this.
+// It calls itself, so the compiler does not put it into its caller, nor a function with a large room into it: the room for a long text is
+// taken where there is one, and none of this where records come from standard input.
 pub(crate) fn run(word: usize, last: usize) {
     let mut path = io::buffer();
     let mut text = io::large_buffer();

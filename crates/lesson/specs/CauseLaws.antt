@@ -168,7 +168,9 @@ pub digits-open : (k : ℕ) (ds : List ℕ) → Digits ds → k + length ds < 8 
 digits-open k [] all h = rw (add-zero k)
 digits-open k (c ∷ ds) all h =
     let on : k + 1 + length ds ≡ k + suc (length ds) = omega arith in
-    ap (λ (s : Reading). behind s ds) (digit-after k c (all .0) ∙ ap opened (next-is k (omega arith))) ∙ digits-open (k + 1) ds (all .1) (omega arith) ∙ ap opened on
+    ap (λ (s : Reading). behind s ds) (digit-after k c (all .0) ∙ ap opened (next-is k (omega arith)))
+    ∙ digits-open (k + 1) ds (all .1) (omega arith)
+    ∙ ap opened on
 
 whole-open : (a ds : List ℕ) → Whole a → Digits ds → length ds < 8 → behind start (a ++ ds) ≡ opened (length ds)
 whole-open a ds w all few =

@@ -45,7 +45,7 @@ next-below k =
     (either-way (ltb k 7))
 
 -- outside a comment and at no line feed, no comment went on before
-was-outside : (x : Bool) (c : ℕ) → commented x c ≡ false → eqb c lineFeed ≡ false → x ≡ false
+pub was-outside : (x : Bool) (c : ℕ) → commented x c ≡ false → eqb c lineFeed ≡ false → x ≡ false
 unfolding commented
 was-outside x c out other =
     ⊎-elim
@@ -99,7 +99,7 @@ module _ (s : Reading) (c : ℕ) (l : List ℕ) (h : s .digits ≤ 7) (even : le
       ⊎-elim (a-digit outside) (no-digit outside) (either-way (isDigit c)))
       (either-way (commented (s .comment) c))
 
-after-below : (s : Reading) (c : ℕ) → s .digits ≤ 7 → after s c .digits ≤ 7
+pub after-below : (s : Reading) (c : ℕ) → s .digits ≤ 7 → after s c .digits ≤ 7
 unfolding after
 after-below s c h =
     pick-either (λ (r : Reading). r .digits ≤ 7) (commented (s .comment) c) _ _ h

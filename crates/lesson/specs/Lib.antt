@@ -15,3 +15,4 @@ pub mod RoomLaws
 pub mod RecordLaws
 pub mod CauseLaws
 pub mod ShortLaws
+pub mod ByteCountLaws

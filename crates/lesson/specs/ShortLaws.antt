@@ -98,7 +98,10 @@ module _ (a blanks ds : List ℕ) (e : ℕ)
   rest-within =
       rw first-opens
       (within-parts (opened 1) ds (lineFeed ∷ blanks) (digits-within 1 ds (omega arith) all (omega arith))
-      (rw opens ((λ z. absurd (omega arith)), rw (feed-cut (1 + length ds) (omega arith)) (blanks-cut (1 + length ds) blanks (omega arith) (omega arith) blank .1))))
+      (rw opens (
+        (λ z. absurd (omega arith)),
+        rw (feed-cut (1 + length ds) (omega arith)) (blanks-cut (1 + length ds) blanks (omega arith) (omega arith) blank .1),
+      )))
 
   -- it began behind them
   cut-begun : begunIn (a ++ cut) ≡ length a
@@ -124,5 +127,8 @@ module _ (a blanks ds : List ℕ) (e : ℕ)
       rw parts (forgotten-byte a (e ∷ ds) blanks rest x w (is, all) (omega arith) (omega arith) (omega arith) blank next-digit ∙ ap At size) in
       let here : characterAt ((a ++ cut) ++ (x ∷ rest)) (length (a ++ cut)) ≡ x = getD-append-seam (a ++ cut) x rest 32 in
       let even : half (behind start (a ++ cut)) ≡ false = rw cut-behind (ne-eqb ((1 + length ds) % 2) 1 (λ z. absurd (omega arith))) in
-      let told : _ = told-by _ d d′ r short reads _ found _ (found-short (a ++ cut) (x ∷ rest) plain (rw here (known-digit x next-digit)) even) in
-      (told .0 ∙ rw (cut-begun, cut-behind, append-assoc a cut (x ∷ rest)) (told-behind a (cut ++ (x ∷ rest)) (ShortRecord ((1 + length ds) / 2))), told .1)
+      let told : _ = told-by _ d d′ r short reads _ found _ (found-short (a ++ cut) (x ∷ rest) plain (rw here (known-digit x next-digit)) even) in (
+        told .0
+            ∙ rw (cut-begun, cut-behind, append-assoc a cut (x ∷ rest)) (told-behind a (cut ++ (x ∷ rest)) (ShortRecord ((1 + length ds) / 2))),
+        told .1,
+      )
