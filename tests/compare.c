@@ -45,7 +45,7 @@ static int same_places(const struct hailstoat_bench *lent, const struct bench *s
 
 static int same_outputs(const struct hailstoat_bench *lent, const struct bench *second, uint32_t seat)
 {
-    struct outcome outcome = {REFUSAL_SEAT, HAILSTOAT_REFUSED};
+    struct outcome outcome = {REFUSAL_SEAT_ABOVE, HAILSTOAT_REFUSED};
     if (seat < SEATS)
         outcome = (struct outcome){REFUSAL_NONE, second->seats[seat].mcr & OUTPUTS};
     return told(hailstoat_modem_outputs(lent, seat), outcome, 0);
