@@ -20,7 +20,7 @@ impl Channel {
             self.transmitter,
             self.modem.changes,
         );
-        let named = byte % 16 == status::HOLDING_EMPTY;
+        let named = byte % 16 == status::IIR_HOLDING_EMPTY;
         self.transmitter = self.transmitter.iir_read(named);
         Stepped {
             channel: self,

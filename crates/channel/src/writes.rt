@@ -36,8 +36,8 @@ impl Channel {
                 };
             }
             Register::Ier => {
-                let before = base::bit(Settings::IER_HOLDING, self.settings.ier);
-                let after = base::bit(Settings::IER_HOLDING, byte);
+                let before = base::bit(Settings::IER_HOLDING_EMPTY, self.settings.ier);
+                let after = base::bit(Settings::IER_HOLDING_EMPTY, byte);
                 self.settings = self.settings.write(Register::Ier, byte);
                 self.transmitter = self.transmitter.ier_written(!before & after);
                 return Stepped {

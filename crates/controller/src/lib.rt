@@ -122,9 +122,9 @@ impl Operation {
 }
 
 impl Controller {
-    pub const PORT_0: u8 = 0;
+    pub const PORT_COMMAND: u8 = 0;
 
-    pub const PORT_1: u8 = 1;
+    pub const PORT_MASK: u8 = 1;
 
     // The line that the vector of a spurious acknowledge names.
     pub const SPURIOUS_LINE: u8 = 7;

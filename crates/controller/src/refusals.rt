@@ -14,14 +14,16 @@ impl Setup {
         let ready = self.stage == Setup::READY;
         let begun = (self.stage == Setup::AWAITS_ICW2) | (self.stage == Setup::AWAITS_ICW4) | ready;
         let icw1 = base::bit(Setup::ICW1, byte);
-        !ready & ((port == Controller::PORT_0) & !icw1 | (port == Controller::PORT_1) & !begun)
+        !ready
+            & ((port == Controller::PORT_COMMAND) & !icw1
+                | (port == Controller::PORT_MASK) & !begun)
     }
 
     fn not_served(self, port: u8, byte: u8) -> bool
         ensures { λ r. ⌜ r ≡ notServed self (write port byte) ⌝ }
     {
-        if port != Controller::PORT_0 {
-            let icw4 = (port == Controller::PORT_1) & (self.stage == Setup::AWAITS_ICW4);
+        if port != Controller::PORT_COMMAND {
+            let icw4 = (port == Controller::PORT_MASK) & (self.stage == Setup::AWAITS_ICW4);
             return icw4 & !base::bit(Setup::ICW4_8086, byte);
         }
         if base::bit(Setup::ICW1, byte) {
@@ -33,7 +35,7 @@ impl Setup {
     pub(crate) fn refuse_read(self, port: u8) -> u8
         ensures { λ r. ⌜ r ≡ refusal self (read port) ⌝ }
     {
-        if Controller::PORT_1 < port {
+        if Controller::PORT_MASK < port {
             return Answer::NUMBER_ABOVE;
         }
         if self.stage != Setup::READY {
@@ -54,7 +56,7 @@ impl Setup {
     pub(crate) fn refuse_write(self, port: u8, byte: u8) -> u8
         ensures { λ r. ⌜ r ≡ refusal self (write port byte) ⌝ }
     {
-        if Controller::PORT_1 < port {
+        if Controller::PORT_MASK < port {
             return Answer::NUMBER_ABOVE;
         }
         if self.not_ready(port, byte) {

@@ -141,7 +141,7 @@ impl Controller {
     pub(crate) fn written(mut self, port: u8, byte: u8) -> Controller
         ensures { λ r. ⌜ r ≡ written self port byte ⌝ }
     {
-        if port != Controller::PORT_0 {
+        if port != Controller::PORT_COMMAND {
             return self.written1(byte);
         }
         let o = self.operation;
@@ -159,7 +159,7 @@ impl Controller {
     pub(crate) fn shown(self, port: u8) -> u8
         ensures { λ r. ⌜ r ≡ shown self port ⌝ }
     {
-        if port == Controller::PORT_1 {
+        if port == Controller::PORT_MASK {
             return self.operation.mask;
         }
         base::pick_byte(

@@ -126,7 +126,7 @@ fn outputs_word(mcr: u8, n: u32) -> u64
             base::bit(Settings::MCR_DTR, mcr),
             base::bit(Settings::MCR_RTS, mcr),
             base::bit(Settings::MCR_OUT1, mcr),
-            base::bit(Settings::MCR_LINE, mcr),
+            base::bit(Settings::MCR_OUT2, mcr),
         );
         return word(Answer::Byte(outputs), false);
     }

@@ -92,9 +92,9 @@ impl Receiver {
     {
         let marks = self.marks(fifo);
         self.overrun
-            | base::bit(base::PARITY, marks)
-            | base::bit(base::FRAMING, marks)
-            | base::bit(base::BREAK, marks)
+            | base::bit(base::MARK_PARITY, marks)
+            | base::bit(base::MARK_FRAMING, marks)
+            | base::bit(base::MARK_BREAK, marks)
     }
 
     pub fn any_marked(self, fifo: bool) -> bool

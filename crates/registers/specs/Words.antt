@@ -4,7 +4,7 @@ use mathlib.Core.Bool.{Bool, not, _&&_, _||_}
 use lib.Dec.{ltb, leb, eqb}
 use Rattle.base.specs.Pick.{pick}
 use Rattle.base.specs.Bits.{bit}
-use Rattle.base.specs.Marks as mark
+use Rattle.base.specs.Marks.{MarkParity, MarkBreak}
 use Rattle.base.specs.declared.Answer.{Answer}
 use Rattle.base.specs.declared.Answer.the-variants.{Sent, Idle, Break}
 
@@ -38,11 +38,11 @@ beyondWord lcr byte = leb (2 ^ wordBits lcr) byte
 
 -- "parity mark with parity off"
 abbrev pub parityUnasked : ℕ → ℕ → Bool
-parityUnasked lcr marks = bit mark.Parity marks && parityOff lcr
+parityUnasked lcr marks = bit MarkParity marks && parityOff lcr
 
 -- "break with data not 0"
 abbrev pub breakWithData : ℕ → ℕ → Bool
-breakWithData marks byte = bit mark.Break marks && not (eqb byte 0)
+breakWithData marks byte = bit MarkBreak marks && not (eqb byte 0)
 
 -- "arrival: marks above 7; data not within the word length; parity mark with parity off; break with data not 0"
 abbrev pub badArrival : ℕ → ℕ → ℕ → Bool

@@ -75,9 +75,9 @@ impl Register {
 impl Settings {
     pub const IER_DATA: u8 = 0;
 
-    pub const IER_HOLDING: u8 = 1;
+    pub const IER_HOLDING_EMPTY: u8 = 1;
 
-    pub const IER_LINE: u8 = 2;
+    pub const IER_LINE_STATUS: u8 = 2;
 
     pub const IER_MODEM: u8 = 3;
 
@@ -105,8 +105,8 @@ impl Settings {
 
     pub const MCR_OUT1: u8 = 2;
 
-    // OUT2, which lets the seat raise its line.
-    pub const MCR_LINE: u8 = 3;
+    // It lets the seat raise its line.
+    pub const MCR_OUT2: u8 = 3;
 
     pub const MCR_LOOP: u8 = 4;
 
@@ -290,9 +290,9 @@ impl Settings {
         ensures { λ r. ⌜ r ≡ badArrival (self .lcr) marks byte ⌝ }
     {
         let beyond = self.is_beyond_word(byte);
-        let parity = base::bit(base::PARITY, marks);
+        let parity = base::bit(base::MARK_PARITY, marks);
         let asked = base::bit(Settings::LCR_PARITY, self.lcr);
-        let broken = base::bit(base::BREAK, marks);
+        let broken = base::bit(base::MARK_BREAK, marks);
         (base::ALL_MARKS < marks) | beyond | (parity & !asked) | (broken & !(byte == 0))
     }
 }

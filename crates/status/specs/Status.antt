@@ -5,7 +5,7 @@ use mathlib.Core.List.{List, [], _∷_}
 use lib.Dec.{eqb}
 use Rattle.base.specs.Pick.{pick}
 use Rattle.base.specs.Bits.{bit, bits}
-use Rattle.base.specs.Marks as mark
+use Rattle.base.specs.Marks.{MarkParity, MarkFraming, MarkBreak}
 use Rattle.registers.specs.declared.Settings.{Settings}
 use Rattle.registers.specs.Words.{trigger}
 use Rattle.registers.specs.Modem.{someChange}
@@ -21,9 +21,9 @@ lsrOf fifo r t =
     bits
     (not (noneQueued r)
     ∷ r .overrun
-    ∷ bit mark.Parity (shownMarks fifo r)
-    ∷ bit mark.Framing (shownMarks fifo r)
-    ∷ bit mark.Break (shownMarks fifo r)
+    ∷ bit MarkParity (shownMarks fifo r)
+    ∷ bit MarkFraming (shownMarks fifo r)
+    ∷ bit MarkBreak (shownMarks fifo r)
     ∷ noneWaiting t
     ∷ allSent t
     ∷ someMarked fifo r

@@ -6,20 +6,20 @@ ghost use mathlib.Core.Path.{_≡_};
 ghost use Rattle.status.specs.Status.{lsrOf, causeOf, iirOf, lineOf};
 
 // What the IIR names: a cause, or that there is none.
-pub const LINE_TROUBLE: u8 = 0x06;
+pub const IIR_LINE_STATUS: u8 = 0x06;
 
-pub const DATA: u8 = 0x04;
+pub const IIR_DATA: u8 = 0x04;
 
-pub const TIME_OUT: u8 = 0x0C;
+pub const IIR_TIMEOUT: u8 = 0x0C;
 
-pub const HOLDING_EMPTY: u8 = 0x02;
+pub const IIR_HOLDING_EMPTY: u8 = 0x02;
 
-pub const MODEM: u8 = 0x00;
+pub const IIR_MODEM: u8 = 0x00;
 
-pub const NO_CAUSE: u8 = 0x01;
+pub const IIR_NONE: u8 = 0x01;
 
 // "In FIFO mode C0 is added.": bits 7 and 6.
-pub const FIFO_BITS: u8 = 0xC0;
+pub const IIR_FIFO: u8 = 0xC0;
 
 pub fn lsr(fifo: bool, receiver: Receiver, transmitter: Transmitter) -> u8
     ensures { λ r. ⌜ r ≡ lsrOf fifo receiver transmitter ⌝ }
@@ -28,9 +28,9 @@ pub fn lsr(fifo: bool, receiver: Receiver, transmitter: Transmitter) -> u8
     base::byte_of(
         !receiver.is_empty(),
         receiver.overrun,
-        base::bit(base::PARITY, marks),
-        base::bit(base::FRAMING, marks),
-        base::bit(base::BREAK, marks),
+        base::bit(base::MARK_PARITY, marks),
+        base::bit(base::MARK_FRAMING, marks),
+        base::bit(base::MARK_BREAK, marks),
         transmitter.is_empty(),
         transmitter.is_idle(),
         receiver.any_marked(fifo),
@@ -42,35 +42,35 @@ fn cause(settings: Settings, receiver: Receiver, transmitter: Transmitter, chang
     ensures { λ r. ⌜ r ≡ causeOf settings receiver transmitter changes ⌝ }
 {
     let fifo = settings.is_fifo();
-    if base::bit(Settings::IER_LINE, settings.ier) & receiver.trouble(fifo) {
-        return LINE_TROUBLE;
+    if base::bit(Settings::IER_LINE_STATUS, settings.ier) & receiver.trouble(fifo) {
+        return IIR_LINE_STATUS;
     }
     let data = base::bit(Settings::IER_DATA, settings.ier);
     if data & receiver.data(fifo, settings.trigger()) {
-        return DATA;
+        return IIR_DATA;
     }
     if data & receiver.timed_out() {
-        return TIME_OUT;
+        return IIR_TIMEOUT;
     }
-    if base::bit(Settings::IER_HOLDING, settings.ier) & transmitter.flag {
-        return HOLDING_EMPTY;
+    if base::bit(Settings::IER_HOLDING_EMPTY, settings.ier) & transmitter.flag {
+        return IIR_HOLDING_EMPTY;
     }
     if base::bit(Settings::IER_MODEM, settings.ier) & registers::any_change(changes) {
-        return MODEM;
+        return IIR_MODEM;
     }
-    NO_CAUSE
+    IIR_NONE
 }
 
 pub fn iir(settings: Settings, receiver: Receiver, transmitter: Transmitter, changes: u8) -> u8
     ensures { λ r. ⌜ r ≡ iirOf settings receiver transmitter changes ⌝ }
 {
     let named = cause(settings, receiver, transmitter, changes);
-    named + base::pick_byte(settings.is_fifo(), FIFO_BITS, 0)
+    named + base::pick_byte(settings.is_fifo(), IIR_FIFO, 0)
 }
 
 pub fn line(settings: Settings, receiver: Receiver, transmitter: Transmitter, changes: u8) -> bool
     ensures { λ r. ⌜ r ≡ lineOf settings receiver transmitter changes ⌝ }
 {
     let named = cause(settings, receiver, transmitter, changes);
-    !(named == NO_CAUSE) & base::bit(Settings::MCR_LINE, settings.mcr)
+    !(named == IIR_NONE) & base::bit(Settings::MCR_OUT2, settings.mcr)
 }
