@@ -3,7 +3,8 @@ import re
 from pathlib import Path
 from typing import NamedTuple, Optional
 
-FUNCTION = re.compile(r'(?m)^( *)(?:pub |pub\(crate\) |)(?:[\w"]+ )*fn (\w+)')
+import source as read
+
 ANSWER = re.compile(r"ensures\s*\{\s*λ \w+\.\s*⌜\s*(\(?)\w+ ≡ (\S+)")
 
 # A choice by a test stays shut: the laws of a choice settle it.
@@ -30,15 +31,12 @@ def brought(source):
 
 def functions(source):
     """The contract of each function of a source file, by the function's path: Queue::put, or output_digit."""
-    source, found = re.sub(r"//.*", "", source), {}
+    source, found = read.without_comments(source), {}
     names = brought(source)
-    for function in FUNCTION.finditer(source):
-        body = re.compile(rf"(?m)^{function[1]}(?:\S.* )?\{{$").search(source, function.start())
-        owner = re.findall(r"(?m)^impl(?:<[^>]*>)? (\w+)|^(\})", source[: function.start()])
-        kind = owner[-1][0] if function[1] and owner else ""
-        said = ANSWER.search(source, function.start(), body.end() if body else len(source))
+    for function in read.functions(source):
+        said = ANSWER.search(function.head)
         module, name = names.get(said[2], (None, None)) if said else (None, None)
-        found[f"{kind}::{function[2]}" if kind else function[2]] = Contract(module, name, bool(said and said[1]))
+        found[function.path] = Contract(module, name, bool(said and said[1]))
     return found
 
 

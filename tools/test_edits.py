@@ -1,11 +1,9 @@
 """Tests of tools/after/20-edits: an edit counts where its closed statement is computed to be false, and nowhere else."""
 import subprocess
 import unittest
-from pathlib import Path
 
 from room import Room
 
-SCRIPT = Path(__file__).parent / "after/20-edits"
 LOG = "target/must-fail/lamp/dark_twin/.log"
 AT = "target/must-fail/lamp/dark_twin/proofs/Slips.antt:9:8: error: `is-lit`: "
 
@@ -41,7 +39,7 @@ SYNTAX = """specs/Lamp.antt:3:9: error: Parse: expected a term
 class Edits(Room):
     def setUp(self):
         super().setUp()
-        self.script("tools/after/20-edits", SCRIPT.read_text("utf-8"))
+        self.copy("tools/after/20-edits", "tools/edits.py")
         self.edit("refuted: is-lit\n")
         self.write("crates/lamp/proofs/Slips.antt", SLIPS)
 

@@ -33,7 +33,7 @@ class Commands(Room):
     def setUp(self):
         super().setUp()
         self.root = self.root / "a b"
-        for name in ("answers", "made.py", "contracts.py", "needs.py", "offers.py", "before/09-made"):
+        for name in ("answers", "made.py", "contracts.py", "source.py", "needs.py", "offers.py", "before/09-made"):
             self.script(f"tools/{name}", (TOOLS / name).read_text("utf-8"))
         self.script("tools/find-rt", '#!/bin/sh\necho "$(dirname "$0")/rt"\n')
         self.script("tools/rt", RT.replace("SAMPLES", str(TOOLS / "samples")))
