@@ -27,22 +27,52 @@ skip() {
     printf '%s\n' "$*" | tee -a "${HAILSTOAT_SKIPPED:-/dev/null}"
 }
 
+# One build of the tree at a time; who waits may find built what it needs. All that a build starts holds the lock with it, so
+# that nobody builds beside what is left of one that was killed. It is on a file outside target/, which rt ci removes.
+take_turn() {
+    exec 9<"$top/crates.txt"
+    flock -n 9 && return
+    tell "another build is going on in this tree; waiting for its end"
+    flock 9
+}
+
+end_turn() {
+    exec 9>&-
+}
+
 # The sources by name and content, as a number.
 sum_sources() {
     (cd "$top" && find crates crates.txt -type f -print0 | LC_ALL=C sort -z | xargs -0 sha256sum | sha256sum)
 }
 
-# Beside the program stands what it was proved with, by which it is known again, and the sum of its sources when its build began.
-record_build() {
-    local rt=$1 sources=$2
-    { "$rt" version && sha256sum <"$bench_main" && echo "$sources"; } >"$bench_main.made"
+# Sets what a build of the sources as they are now is recorded by.
+begin_build() {
+    started=$(date +%s.%N)
+    sources=$(sum_sources)
 }
 
-# Sets made to these three; fails where the program is not the one that they were recorded for.
+# What was built has the time at which its build began, so that what changed meanwhile is newer. Beside it stands what it was
+# proved with, by which it is known again, and the sum of its sources.
+record_build() {
+    local file=$1 rt=$2
+    touch -d "@$started" "$file"
+    { "$rt" version && sha256sum <"$file" && echo "$sources"; } >"$file.made"
+}
+
+# Sets made to these three; fails where the file is not the one that they were recorded for.
 recall_build() {
-    [ -x "$bench_main" ] && [ -r "$bench_main.made" ] || return
-    mapfile -t made <"$bench_main.made"
-    [ "${made[1]:-}" = "$(sha256sum <"$bench_main")" ]
+    local file=$1
+    [ -r "$file" ] && [ -r "$file.made" ] || return
+    mapfile -t made <"$file.made"
+    [ "${made[1]:-}" = "$(sha256sum <"$file")" ]
+}
+
+# Built, and from the sources as they are now: older than the file or, in a tree that was copied, of the recorded sum.
+fresh() {
+    local file=$1
+    [ -f "$file" ] || return
+    [ -n "$(find "$top/crates" "$top/crates.txt" -newer "$file" -print -quit)" ] || return 0
+    recall_build "$file" && [ "${made[2]:-}" = "$(sum_sources)" ]
 }
 
 # The programs are for x86-64. Elsewhere the toolchain has an emulator, and a loader and C library for it; tools/machine.py

@@ -1,4 +1,4 @@
-"""What the tests of bench share: a small repository with stand-ins for the toolchain and for the program."""
+"""What the tests of bench and tools/install share: a small repository with stand-ins for the toolchain and for the program."""
 import os
 import platform
 import select
@@ -12,9 +12,10 @@ from room import Room
 LIMIT = 30
 LESSON = "07 00 00 13  # ICW1\n"
 
-# What it is given and, without a lesson, what it reads.
+# What it is given and, without a lesson, what it reads; or an end by a signal.
 PROGRAM = """\
 #!/bin/sh
+[ -z "$SIGNAL" ] || kill -"$SIGNAL" $$
 echo "given $*"
 [ -z "$STACK" ] || ulimit -S -s
 [ -n "$1" ] || cat
@@ -31,11 +32,14 @@ echo "fn lamp::on: proved"
 echo "rt: lamp proved (${STANDS:-11 s})"
 (while [ -n "$GATE" ] && [ ! -e "$GATE" ]; do sleep 0.1; done) & echo $! >worker
 wait
-[ -z "$UNPROVED" ] || { echo "rt: bench_main NOT PROVED (exit 1, 2 s)"; echo "rt: FAILED: bench_main"; exit 1; }
-mkdir -p target/bin
-cp program target/bin/bench_main
-echo "rt: bench_main proved (47 s)"
-echo "rt: bench_main ran, and wrote what its file 'stdout' has (1 s)"
+[ -z "$UNPROVED" ] || { echo "rt: $2 NOT PROVED (exit 1, 2 s)"; echo "rt: FAILED: $2"; exit 1; }
+mkdir -p target/bin target/staticlib
+case $1 in
+check) cp program target/bin/bench_main ;;
+staticlib) echo built >target/staticlib/libembed.a ;;
+esac
+echo "rt: $2 proved (47 s)"
+echo "rt: and a line more"
 rm -r "$room"
 echo "rt: ok, 3 crates proved"
 """
@@ -49,14 +53,25 @@ def end(running):
     running.communicate(timeout=LIMIT)
 
 
+def alive(process):
+    """A process that has ended may wait for its parent to hear of it."""
+    try:
+        with open(f"/proc/{process}/stat", encoding="utf-8") as stat:
+            return stat.read().rsplit(")", 1)[1].split()[0] != "Z"
+    except FileNotFoundError:
+        return False
+
+
 class Start(Room):
+    command = "bench"
+
     def setUp(self):
         super().setUp()
         self.root.chmod(0o755)
         self.copy("bench", "tools/shell.sh", "tools/build.sh", "tools/find-rt", "VERSION", "docs/kit")
         self.script("bin/rt", RT)
         self.script(f"on/{platform.machine()}/toolchain/bin/qemu-x86_64", '#!/bin/sh\nshift 3\nexec "$@"\n')
-        self.write("crates.txt", "# a comment: none\nbase:\nlamp: base io\nbell: lamp\nbench_main: lamp io\n")
+        self.write("crates.txt", "# a comment: none\nbase:\nlamp: base io\nbell: lamp\nbench_main: lamp io\nembed: lamp\n")
         self.write("crates/lamp/src/lib.rt", "")
         self.script("program", PROGRAM)
         self.write("lesson.hex", LESSON)
@@ -70,9 +85,9 @@ class Start(Room):
 
     def started(self, *words, before=(), settings=None, **how):
         """What still runs when the test ends is ended then, with all that it has started."""
-        running = subprocess.Popen([*before, self.root / "bench", *words], env={**self.setting, **(settings or {})},
-                                   cwd=self.root, start_new_session=True,
-                                   **{"stdin": subprocess.DEVNULL, "stdout": subprocess.PIPE, "stderr": subprocess.PIPE, **how})
+        running = subprocess.Popen([*before, self.root / self.command, *words], env={**self.setting, **(settings or {})},
+                                   start_new_session=True, **{"cwd": self.root, "stdin": subprocess.DEVNULL,
+                                                              "stdout": subprocess.PIPE, "stderr": subprocess.PIPE, **how})
         self.addCleanup(end, running)
         return running
 
@@ -91,6 +106,18 @@ class Start(Room):
         """What was asked of the toolchain."""
         path = self.root / "asked"
         return path.read_text("utf-8").splitlines() if path.exists() else []
+
+    def interrupted(self, number, *words):
+        """What is started with these words is interrupted while it builds; all of it ends, and nothing temporary is left."""
+        running = self.started(*words, settings={"GATE": "never"})
+        self.until(lambda: (self.root / "worker").exists() and (self.root / "worker").read_text().endswith("\n"))
+        worker = int((self.root / "worker").read_text())
+        running.send_signal(number)
+        self.assertEqual(running.communicate(timeout=LIMIT)[0], b"")
+        self.assertEqual(running.returncode, 128 + number)
+        self.assertEqual(os.listdir(self.root / "temporary"), [])
+        self.until(lambda: not alive(worker))
+        (self.root / "worker").unlink()
 
     def says(self, running, line):
         self.until(lambda: select.select([running.stderr], [], [], 0)[0])

@@ -1,4 +1,5 @@
 """Tests of bench: how it has the program proved and built, and where it need not."""
+import fcntl
 import os
 import shutil
 import signal
@@ -7,19 +8,10 @@ import unittest
 
 from standins import LIMIT, PROGRAM, Start
 
-WAITING = "bench: another bench is building the program; waiting for its end\n"
-FIRST = ("bench: the program is proved and built first: 3 crates, 4 to 6 minutes on two processors where none is proved yet, "
+WAITING = "bench: another build is going on in this tree; waiting for its end\n"
+FIRST = ("bench: the program is proved and built first: 3 crates, up to 6 minutes on two processors where none is proved yet, "
          "and 2.5 GB of memory\n")
 PROGRESS = r"2 of 3: lamp, 0:\d\d; the last may take a minute\n3 of 3: bench_main, 0:\d\d\n"
-
-
-def alive(process):
-    """A process that has ended may wait for its parent to hear of it."""
-    try:
-        with open(f"/proc/{process}/stat", encoding="utf-8") as stat:
-            return stat.read().rsplit(")", 1)[1].split()[0] != "Z"
-    except FileNotFoundError:
-        return False
 
 
 class Building(Start):
@@ -59,15 +51,30 @@ class Building(Start):
 
     def test_interruption_ends_all_and_leaves_nothing_behind(self):
         for number in (signal.SIGINT, signal.SIGTERM, signal.SIGHUP):
-            running = self.started("lesson.hex", settings={"GATE": "never"})
-            self.until(lambda: (self.root / "worker").exists() and (self.root / "worker").read_text().endswith("\n"))
-            worker = int((self.root / "worker").read_text())
-            running.send_signal(number)
-            self.assertEqual(running.communicate(timeout=LIMIT)[0], b"")
-            self.assertEqual(running.returncode, 128 + number)
-            self.assertEqual(os.listdir(self.root / "temporary"), [])
-            self.until(lambda: not alive(worker))
-            (self.root / "worker").unlink()
+            self.interrupted(number, "lesson.hex")
+
+    def test_what_changes_during_a_build_is_newer(self):
+        running = self.started("lesson.hex", settings={"GATE": "gate"})
+        self.until(lambda: (self.root / "worker").exists())
+        self.change("// changed")
+        self.write("gate", "")
+        self.assertEqual(running.communicate(timeout=LIMIT)[0], b"given lesson.hex\n")
+        self.run_it("lesson.hex")
+        self.assertEqual(self.asked(), 2 * ["check bench_main"])
+
+    def test_build_waits_where_target_is_removed(self):
+        """As rt ci does under the lock."""
+        self.built()
+        self.change("// changed")
+        with open(self.root / "crates.txt", encoding="utf-8") as tree:
+            fcntl.flock(tree, fcntl.LOCK_EX)
+            running = self.started("lesson.hex")
+            self.says(running, WAITING)
+            shutil.rmtree(self.root / "target")
+            self.assertEqual(self.asked(), [])
+        listing, said = running.communicate(timeout=LIMIT)
+        self.assertEqual(listing, b"given lesson.hex\n")
+        self.assertRegex(said.decode(), f"^{FIRST}{PROGRESS}$")
 
     def test_two_at_once_build_once(self):
         first = self.started("lesson.hex", settings={"GATE": "gate"})

@@ -1,4 +1,5 @@
-"""Tests of tools/test, with a stand-in for the toolchain: what it runs, in which order, and where it stops."""
+"""Tests of tools/test, with a stand-in for the toolchain: what it runs, in which order, and where it stops; and of its first check."""
+import fcntl
 import os
 import re
 import subprocess
@@ -13,7 +14,7 @@ RT = f"""#!/bin/sh
 case $1 in
 version) echo kit 9 ;;
 fmt) [ -z "$UNTIDY" ] ;;
-ci) echo proving; mkdir -p target/bin; : >target/bin/bench_main; [ -z "$UNPROVED" ] && echo "{VERDICT}" || {{ echo "6 passed, 1 failed"; exit 1; }} ;;
+ci) echo proving; $SEEN; mkdir -p target/bin; : >target/bin/bench_main; [ -z "$UNPROVED" ] && echo "{VERDICT}" || {{ echo "6 passed, 1 failed"; exit 1; }} ;;
 esac
 """
 
@@ -37,13 +38,17 @@ class Gate(Room):
         self.assertEqual(lists, 1)
         self.script("tools/test", text)
 
-    def run_it(self, **settings):
-        """The status, and the lines written."""
+    def started(self, **settings):
         setting = {**os.environ, "HAILSTOAT_DOCUMENT_01": "nowhere", "HAILSTOAT_DOCUMENT_02": "nowhere",
                    "PATH": f"{self.root / 'bin'}:{os.environ['PATH']}", **settings}
-        done = subprocess.run([self.root / "tools/test"], cwd="/", env=setting,
-                              stdout=subprocess.PIPE, stderr=subprocess.STDOUT, encoding="utf-8")
-        return done.returncode, done.stdout.splitlines()
+        return subprocess.Popen([self.root / "tools/test"], cwd="/", env=setting,
+                                stdout=subprocess.PIPE, stderr=subprocess.STDOUT, encoding="utf-8")
+
+    def run_it(self, **settings):
+        """The status, and the lines written."""
+        running = self.started(**settings)
+        said = running.communicate()[0]
+        return running.returncode, said.splitlines()
 
     def stops(self, reason, **settings):
         status, said = self.run_it(**settings)
@@ -107,6 +112,33 @@ class Gate(Room):
         self.run_it()
         self.assertEqual((self.root / "target/bin/bench_main.made").read_text("utf-8").splitlines()[0], "kit 9")
 
+    def test_what_changes_while_it_is_proved_is_newer_than_the_program(self):
+        self.script("bin/change", "#!/bin/sh\nsleep 0.05\necho >crates/lamp/src/lib.rt\nsleep 0.05\n")
+        self.assertEqual(self.run_it(SEEN="change")[0], 0)
+        source, program = (self.root / name for name in ("crates/lamp/src/lib.rt", "target/bin/bench_main"))
+        self.assertGreater(source.stat().st_mtime_ns, program.stat().st_mtime_ns)
+
+    def test_nobody_builds_while_it_is_proved(self):
+        """And what is tried afterwards may build."""
+        self.script("bin/turn", "#!/bin/sh\nflock -n crates.txt echo free || echo taken\n")
+        for name in ("tools/before/20-turn", "tools/after/20-turn"):
+            self.script(name, "#!/bin/sh\nturn\n")
+        status, said = self.run_it(SEEN="turn")
+        self.assertEqual((status, [line for line in said if line in ("free", "taken")]), (0, ["free", "taken", "free"]))
+
+    def test_it_waits_for_another_build(self):
+        with open(self.root / "crates.txt", encoding="utf-8") as tree:
+            fcntl.flock(tree, fcntl.LOCK_EX)
+            running = self.started()
+            self.addCleanup(running.wait)
+            said = [running.stdout.readline()]
+            while said[-1] and not said[-1].startswith("tools/test: "):
+                said.append(running.stdout.readline())
+            self.assertEqual(said[-1], "tools/test: another build is going on in this tree; waiting for its end\n")
+            self.assertNotIn("proving\n", said)
+        rest = running.communicate(timeout=30)[0].splitlines()
+        self.assertEqual((rest[1], rest[-1]), ("proving", VERDICT))
+
     def test_what_is_missing_is_told_first_a_sentence_each(self):
         path = self.only("bash", "dirname", "readlink")
         lacking = [f"tools/test: {command} is missing. README.md says what the tests need." for command in ("gcc", "python3")]
@@ -134,6 +166,38 @@ class Gate(Room):
         status, said = self.run_it(UNPROVED="1")
         self.assertEqual((status, said[-1]), (1, "6 passed, 1 failed"))
         self.assertNotIn("ran", said)
+
+
+class Scripts(Room):
+    """tools/before/00-tools, which runs the tests of the scripts."""
+
+    def run_it(self):
+        done = subprocess.run([self.root / "tools/before/00-tools"], stdout=subprocess.PIPE, stderr=subprocess.STDOUT, check=False,
+                              env={**os.environ, "HAILSTOAT_SKIPPED": str(self.root / "skipped")}, encoding="utf-8")
+        return done.returncode, done.stdout
+
+    def setUp(self):
+        super().setUp()
+        self.copy("tools/before/00-tools", "tools/shell.sh")
+
+    def lamp(self, line):
+        self.write("tools/test_lamp.py", f"import unittest\nclass Lamp(unittest.TestCase):\n    def test_on(self):\n        {line}\n")
+
+    def test_there_must_be_tests(self):
+        status, said = self.run_it()
+        self.assertEqual(status, 1)
+        self.assertIn("Ran 0 tests", said)
+
+    def test_they_must_pass(self):
+        self.lamp("self.assertTrue(False)")
+        self.assertEqual(self.run_it()[0], 1)
+        self.lamp("self.assertTrue(True)")
+        self.assertEqual(self.run_it()[0], 0)
+
+    def test_what_is_left_out_is_told(self):
+        self.lamp("self.skipTest('no lamp')")
+        self.assertEqual(self.run_it()[0], 0)
+        self.assertEqual((self.root / "skipped").read_text("utf-8"), "1 tests of the scripts, which this machine cannot run\n")
 
 
 if __name__ == "__main__":

@@ -1,58 +1,49 @@
 """Tests of tools/install, with a stand-in for the toolchain: what it puts where, when it builds, and what it refuses in one sentence."""
 import os
 import re
+import signal
 import subprocess
 import unittest
-from pathlib import Path
 
-from room import Room
+from standins import LIMIT, Start
 
-TOOLS = Path(__file__).parent
-
-# It leaves a mark, and writes the library in the folder that it is run in.
-RT = """\
-#!/bin/sh
-echo "rt $*" >>"$MARKS"
-[ -z "$FAULT" ] || { echo "$FAULT"; exit 1; }
-mkdir -p target/staticlib
-echo built >target/staticlib/libembed.a
-"""
-FOUND = '#!/bin/sh\necho "$(dirname "$0")/rt"\n'
-MISSING = "#!/bin/sh\necho The Rattle toolchain is missing. >&2\nexit 2\n"
+ASKED = "staticlib embed"
+FIRST = "tools/install: the library is proved and built first: 3 crates, .*\n"
+PROGRESS = r"2 of 3: lamp, 0:\d\d; the last may take a minute\n3 of 3: embed, 0:\d\d\n"
+WAITING = "tools/install: another build is going on in this tree; waiting for its end\n"
 
 
-class Install(Room):
+class Install(Start):
+    command = "tools/install"
+
     def setUp(self):
         super().setUp()
-        self.script("tools/install", (TOOLS / "install").read_text("utf-8"))
-        self.write("tools/shell.sh", (TOOLS / "shell.sh").read_text("utf-8"))
-        self.script("tools/find-rt", FOUND)
-        self.script("tools/rt", RT)
+        self.copy("tools/install")
         self.write("include/hailstoat.h", "header\n")
-        self.write("crates/embed/src/lib.rt", "source\n")
-        self.write("crates.txt", "embed:\n")
         self.write("VERSION", "3.2.1\n")
-        (self.root / "elsewhere").mkdir()
+        self.elsewhere = self.root / "elsewhere"
+        self.elsewhere.mkdir()
 
-    def run_it(self, *words, fault=""):
-        marks = self.root / "marks"
-        marks.write_text("")
-        done = subprocess.run([self.root / "tools/install", *words], cwd=self.root / "elsewhere", stdout=subprocess.PIPE, stderr=subprocess.PIPE,
-                              env={**os.environ, "MARKS": str(marks), "FAULT": fault}, encoding="utf-8")
-        return done.returncode, done.stdout, done.stderr, marks.read_text()
+    def started(self, *words, **how):
+        return super().started(*words, **{"cwd": self.elsewhere, **how})
 
     def installed(self, prefix):
         return {path.relative_to(prefix).as_posix(): path.read_text("utf-8") for path in prefix.rglob("*") if path.is_file()}
 
-    def refused(self, said, *words, **settings):
-        status, told, complaint, _ = self.run_it(*words, **settings)
+    def refused(self, said, *words, **how):
+        """What it complains of; it leaves nothing."""
+        status, told, complaint = self.run_it(*words, **how)
         self.assertEqual((status, told), (2, ""))
-        self.assertRegex(complaint, rf"(?m)^tools/install: {said}$")
+        self.assertRegex(complaint, rf"(?m)^{said}$")
+        self.assertEqual([*self.elsewhere.iterdir()], [])
+        self.assertEqual(os.listdir(self.root / "temporary"), [])
         return complaint
 
     def test_three_files(self):
         prefix = self.root / "there"
-        self.assertEqual(self.run_it(str(prefix)), (0, f"hailstoat 3.2.1 is installed under {prefix}\n", "", "rt staticlib embed\n"))
+        status, told, said = self.run_it(str(prefix))
+        self.assertEqual((status, told, self.asked()), (0, f"hailstoat 3.2.1 is installed under {prefix}\n", [ASKED]))
+        self.assertRegex(said, f"^{FIRST}{PROGRESS}$")
         files = self.installed(prefix)
         self.assertEqual([*sorted(files)], ["include/hailstoat.h", "lib/libhailstoat.a", "lib/pkgconfig/hailstoat.pc"])
         self.assertEqual((files["include/hailstoat.h"], files["lib/libhailstoat.a"]), ("header\n", "built\n"))
@@ -61,45 +52,65 @@ class Install(Room):
             self.assertIn(line, lines)
 
     def test_a_prefix_is_seen_from_the_caller(self):
-        self.assertEqual(self.run_it("near")[0], 0)
-        pc = self.installed(self.root / "elsewhere/near")["lib/pkgconfig/hailstoat.pc"]
-        self.assertTrue(pc.startswith(f"prefix={self.root / 'elsewhere/near'}\n"))
+        self.assertEqual(self.run_it("near/by")[0], 0)
+        pc = self.installed(self.elsewhere / "near/by")["lib/pkgconfig/hailstoat.pc"]
+        self.assertTrue(pc.startswith(f"prefix={self.elsewhere}/near/by\n"))
 
-    def test_it_is_built_where_a_source_is_newer(self):
-        self.assertEqual(self.run_it("a")[3], "rt staticlib embed\n")
-        self.assertEqual(self.run_it("a")[3], "")
-        library = (self.root / "target/staticlib/libembed.a").stat().st_mtime
-        for source in ("crates/embed/src/lib.rt", "crates.txt"):
-            os.utime(self.root / source, (library + 2, library + 2))
-            self.assertEqual(self.run_it("a")[3], "rt staticlib embed\n", source)
-            os.utime(self.root / source, (library - 2, library - 2))
+    def test_it_is_built_where_a_source_has_changed(self):
+        for text, times in (("", 1), ("", 1), ("// changed", 2), ("// changed", 2)):
+            self.change(text)
+            self.assertEqual(self.run_it("a")[0], 0)
+            self.assertEqual(self.asked(), times * [ASKED])
 
     def test_what_is_built_needs_no_toolchain(self):
         self.run_it("a")
-        self.script("tools/find-rt", MISSING)
-        self.assertEqual(self.run_it("b")[0], 0)
+        self.no_toolchain()
+        (self.root / "bin/rt").unlink()
+        self.assertEqual(self.run_it("b"), (0, f"hailstoat 3.2.1 is installed under {self.elsewhere}/b\n", ""))
 
     def test_no_toolchain(self):
-        self.script("tools/find-rt", MISSING)
-        complaint = self.refused("the library is not built, and there is no toolchain .*", "a")
-        self.assertEqual(complaint.count("\n"), 1)
-        self.assertFalse((self.root / "elsewhere/a").exists())
+        self.no_toolchain()
+        (self.root / "bin/rt").unlink()
+        path = self.only("bash", "dirname", "readlink", "find", "mkdir", "rmdir")
+        self.assertEqual(self.refused("The Rattle toolchain is missing: .*", "a", settings={"PATH": path}).count("\n"), 1)
 
     def test_a_library_that_is_not_proved(self):
-        complaint = self.refused("the library was not proved, and so was not built", "a", fault="fn embed::word: not proved")
-        self.assertIn("fn embed::word: not proved\n", complaint)
-        self.assertFalse((self.root / "elsewhere/a").exists())
+        complaint = self.refused("tools/install: the library could not be built; above are the last lines of "
+                                 f"{re.escape(str(self.root))}/target/library-build.log", "a/b", settings={"UNPROVED": "1"})
+        self.assertIn("\nrt: FAILED: embed\n", complaint)
 
-    def test_a_prefix_that_cannot_be(self):
-        self.refused("a pkg-config file cannot name a folder with a blank in its path: a b", "a b")
+    def test_a_bad_prefix_asks_nothing_of_rt(self):
+        self.refused("tools/install: a pkg-config file cannot name a folder with a blank in its path: a b", "a b")
         self.write("file", "")
-        path = self.root / "file"
-        self.refused(f"the folders of {re.escape(str(path))} cannot be made", str(path))
+        for path in (self.root / "file", self.root / "file/below", self.elsewhere / "above" / (300 * "x")):
+            self.refused(f"tools/install: the folders of {re.escape(str(path))} cannot be made", str(path))
+        self.assertEqual(self.asked(), [])
+
+    def test_an_interrupt_leaves_nothing(self):
+        for number in (signal.SIGINT, signal.SIGTERM, signal.SIGHUP):
+            self.interrupted(number, "near/by")
+            self.assertEqual([*self.elsewhere.iterdir()], [])
+
+    def test_an_interrupt_leaves_what_was_there(self):
+        (self.elsewhere / "near/lib").mkdir(parents=True)
+        self.interrupted(signal.SIGTERM, "near")
+        self.assertEqual([*(self.elsewhere / "near").rglob("*")], [self.elsewhere / "near/lib"])
+
+    def test_program_and_library_are_built_one_after_the_other(self):
+        program = subprocess.Popen([self.root / "bench", "lesson.hex"], cwd=self.root, env={**self.setting, "GATE": "gate"},
+                                   stdout=subprocess.PIPE, stderr=subprocess.DEVNULL)
+        self.until(lambda: (self.root / "worker").exists())
+        library = self.started("a")
+        self.says(library, WAITING)
+        self.assertEqual(self.asked(), ["check bench_main"])
+        self.write("gate", "")
+        self.assertEqual(program.communicate(timeout=LIMIT)[0], b"given lesson.hex\n")
+        library.communicate(timeout=LIMIT)
+        self.assertEqual((library.returncode, self.asked()), (0, ["check bench_main", ASKED]))
 
     def test_wrong_words(self):
         for words in ([], [""], ["--help"], ["a", "b"]):
-            self.assertEqual(self.refused("it is used with one word, .*", *words).count("\n"), 1)
-            self.assertEqual([*(self.root / "elsewhere").iterdir()], [])
+            self.assertEqual(self.refused("tools/install: it is used with one word, .*", *words).count("\n"), 1)
 
 
 if __name__ == "__main__":

@@ -1,4 +1,5 @@
-"""Tests of bench: streams, words and input, which are looked at before anything is built, the version, and the stack."""
+"""Tests of bench: streams, words and input, which are looked at before anything is built, the version, the stack and
+signals."""
 import os
 import pty
 import resource
@@ -67,11 +68,17 @@ class Words(Start):
         self.assertEqual(self.run_it(name), (1, "", f"{name}: File name too long\n"))
 
     def test_wrong_words_are_answered_with_the_usage(self):
-        for words in (("--lesson",), ("-x",), ("-",), ("--",), ("",), ("lesson.hex", "lesson.hex"), ("--help", "me")):
-            status, listing, said = self.run_it(*words)
-            self.assertEqual((status, listing), (2, ""), words)
-            self.assertIn("usage: bench [--] LESSON >LISTING\n", said, words)
-        self.assertTrue(self.run_it("--lesson")[2].startswith("bench: there is no option --lesson\nusage: "))
+        for told, *wrong in (
+                ("there is no option --lesson", ("--lesson",), ("--lesson", "lesson.hex")),
+                ("there is no option -", ("-",)),
+                ("-- is followed by a lesson's name", ("--",)),
+                ("a lesson's name is empty", ("",), ("--", "")),
+                ("one lesson at a time", ("lesson.hex", "lesson.hex"), ("--", "lesson.hex", "lesson.hex"), ("", "")),
+                ("--help stands alone", ("--help", "me"))):
+            for words in wrong:
+                status, listing, said = self.run_it(*words)
+                self.assertEqual((status, listing), (2, ""), words)
+                self.assertTrue(said.startswith(f"bench: {told}\nusage: bench [--] LESSON >LISTING\n"), (words, said[:80]))
 
     def test_help(self):
         status, said, _ = self.run_it("--help")
@@ -180,10 +187,35 @@ class Stack(Start):
         self.assertEqual(self.limited(100000, most, "lesson.hex"), ("100000", ""))
         self.assertEqual(self.limited(resource.RLIM_INFINITY, most), ("65536", ""))
 
-    def test_limit_that_cannot_be_raised_is_told_for_a_lesson(self):
-        self.assertEqual(self.limited(8192, 8192, "lesson.hex"),
-                         ("8192", "bench: the stack is limited to 8192 KiB here; a long lesson may need 65536\n"))
+    def test_limit_is_raised_as_far_as_may_be(self):
+        self.assertEqual(self.limited(8192, 16384, "lesson.hex"), ("16384", ""))
+        self.assertEqual(self.limited(8192, 65535, "lesson.hex"), ("65535", ""))
+
+    def test_too_small_a_stack_is_told_for_a_long_lesson(self):
+        self.write("long.hex", 65536 * "#")
+        self.write("usual.hex", 65535 * "#")
+        told = "bench: the stack is limited to {} KiB here; a lesson of more than 65535 bytes needs 18944\n"
+        self.assertEqual(self.limited(8192, 8192, "long.hex"), ("8192", told.format(8192)))
+        self.assertEqual(self.limited(8192, 18943, "--", "long.hex"), ("18943", told.format(18943)))
+        self.assertEqual(self.limited(8192, 18944, "long.hex"), ("18944", ""))
+        self.assertEqual(self.limited(8192, 8192, "usual.hex"), ("8192", ""))
         self.assertEqual(self.limited(8192, 8192), ("8192", ""))
+
+
+class Signal(Start):
+    """A program that a signal ends."""
+
+    def setUp(self):
+        super().setUp()
+        self.built()
+
+    def test_signal_is_told(self):
+        for name, number in (("SEGV", 11), ("KILL", 9)):
+            told = f"bench: the program was ended by signal {number}; a long lesson needs a stack of 18944 KiB (ulimit -s)\n"
+            self.assertEqual(self.run_it("lesson.hex", settings={"SIGNAL": name}), (1, "", told))
+
+    def test_listing_without_a_reader_is_no_fault(self):
+        self.assertEqual(self.run_it("lesson.hex", settings={"SIGNAL": "PIPE"}), (141, "", ""))
 
 
 if __name__ == "__main__":
