@@ -11,8 +11,8 @@ use lib.ListN.{length}
 use borrow.Author.Tests.{ne-eqb}
 use Rattle.base.specs.Pick.{pick}
 use Rattle.base.specs.PickLaws.{pick-false}
-use Rattle.lesson.specs.Text.{lineFeed, digit, white, apart, commented, told, worths, digitsOf, bytesOf}
-use Rattle.lesson.specs.TextLaws.{white-is, commentedAfter, told-parts, worths-parts}
+use Rattle.lesson.specs.Text.{lineFeed, digit, white, apart, commented, uncommented, worths, digitsOf, bytesOf}
+use Rattle.lesson.specs.TextLaws.{white-is, commentedAfter, uncommented-parts, worths-parts}
 use Rattle.lesson.specs.Fault.{start, faulty, after, behind, faultFrom, faultOf}
 use Rattle.lesson.specs.FaultLaws.{parts-from, opened, moved, moved-from}
 use Rattle.lesson.specs.Plain.{Blank, OneLine}
@@ -21,11 +21,11 @@ use Rattle.lesson.specs.declared.faults.Found.the-variants.{Nowhere}
 
 -- ---- bytes
 
-blank-worths : (c : ℕ) → white c ≡ true → (b : List ℕ) → worths (told false (c ∷ b)) ≡ worths (told false b)
-unfolding told worths commented digit pick
-blank-worths = white-is (λ (c : ℕ). (b : List ℕ) → worths (told false (c ∷ b)) ≡ worths (told false b)) (λ b. refl) (λ b. refl) (λ b. refl) (λ b. refl)
+blank-worths : (c : ℕ) → white c ≡ true → (b : List ℕ) → worths (uncommented false (c ∷ b)) ≡ worths (uncommented false b)
+unfolding uncommented worths commented digit pick
+blank-worths = white-is (λ (c : ℕ). (b : List ℕ) → worths (uncommented false (c ∷ b)) ≡ worths (uncommented false b)) (λ b. refl) (λ b. refl) (λ b. refl) (λ b. refl)
 
-blanks-worths : (blanks b : List ℕ) → Blank blanks → worths (told false (blanks ++ b)) ≡ worths (told false b)
+blanks-worths : (blanks b : List ℕ) → Blank blanks → worths (uncommented false (blanks ++ b)) ≡ worths (uncommented false b)
 blanks-worths [] b all = refl
 blanks-worths (c ∷ blanks) b all = blank-worths c (all .0) (blanks ++ b) ∙ blanks-worths blanks b (all .1)
 
@@ -33,7 +33,7 @@ blanks-worths (c ∷ blanks) b all = blank-worths c (all .0) (blanks ++ b) ∙ b
 pub blank-bytes : (a blanks b : List ℕ) → commentedAfter false a ≡ false → Blank blanks → bytesOf (a ++ (blanks ++ b)) ≡ bytesOf (a ++ b)
 unfolding bytesOf digitsOf
 blank-bytes a blanks b outside all =
-    rw (told-parts a (blanks ++ b) false, told-parts a b false, outside, worths-parts (told false a), worths-parts (told false a), blanks-worths blanks b all)
+    rw (uncommented-parts a (blanks ++ b) false, uncommented-parts a b false, outside, worths-parts (uncommented false a), worths-parts (uncommented false a), blanks-worths blanks b all)
 
 -- ---- faults
 

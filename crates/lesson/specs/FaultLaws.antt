@@ -12,7 +12,7 @@ use borrow.Author.Tests.{lt-ltb, eq-eqb, ne-eqb}
 use Rattle.base.specs.Pick.{pick}
 use Rattle.base.specs.PickLaws.{pick-true, pick-false, pick-same, pick-either, pick-through, either-way}
 use Rattle.lesson.specs.Text.{lineFeed, numberSign, digit, isDigit, white, apart, commented}
-use Rattle.lesson.specs.TextLaws.{digit-told, comment-goes, white-is}
+use Rattle.lesson.specs.TextLaws.{digit-uncommented, comment-goes, white-is}
 use Rattle.lesson.specs.Fault.{start, half, faulty, next, after, behind, faultFrom, faultOf}
 use Rattle.lesson.specs.Plain.{Digits, Blank, OneLine, comment}
 use Rattle.lesson.specs.declared.faults.Reading.{Reading}
@@ -97,7 +97,7 @@ digit-fine k c h = pick-false _ _ _ refl ∙ pick-true _ _ _ (lt-ltb (digit c) 1
 
 pub digit-after : (k c : ℕ) → digit c < 16 → after (opened k) c ≡ opened (next k)
 unfolding after
-digit-after k c h = pick-false _ _ _ (digit-told c h) ∙ pick-true _ _ _ (lt-ltb (digit c) 16 h)
+digit-after k c h = pick-false _ _ _ (digit-uncommented c h) ∙ pick-true _ _ _ (lt-ltb (digit c) 16 h)
 
 pub next-is : (k : ℕ) → k < 7 → next k ≡ k + 1
 unfolding next

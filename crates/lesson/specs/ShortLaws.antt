@@ -118,7 +118,7 @@ module _ (a blanks ds : List ℕ) (e : ℕ)
       → Unmarked ((a ++ cut) ++ (x ∷ rest)) → length ((a ++ cut) ++ (x ∷ rest)) ≤ longest
       → Reads ((a ++ cut) ++ (x ∷ rest)) d d′ r
       → (r ≡ Fault (placeBehind a .line) (placeBehind a .column) (ShortRecord ((1 + length ds) / 2))) × (d′ ≡ d)
-  short-record x rest d d′ r next-digit plain short reads =
+  short-record x rest d d′ r next-digit unmarked limit reads =
       let parts : (a ++ cut) ++ (x ∷ rest) ≡ a ++ ((e ∷ ds) ++ (lineFeed ∷ (blanks ++ (x ∷ rest)))) =
       rw (append-assoc a cut (x ∷ rest), append-assoc ds (lineFeed ∷ blanks) (x ∷ rest)) in
       let size : length a + length (e ∷ ds) + 1 + length blanks ≡ length (a ++ cut) =
@@ -127,7 +127,7 @@ module _ (a blanks ds : List ℕ) (e : ℕ)
       rw parts (forgotten-byte a (e ∷ ds) blanks rest x w (is, all) (omega arith) (omega arith) (omega arith) blank next-digit ∙ ap At size) in
       let here : characterAt ((a ++ cut) ++ (x ∷ rest)) (length (a ++ cut)) ≡ x = getD-append-seam (a ++ cut) x rest 32 in
       let even : half (behind start (a ++ cut)) ≡ false = rw cut-behind (ne-eqb ((1 + length ds) % 2) 1 (λ z. absurd (omega arith))) in
-      let told : _ = told-by _ d d′ r short reads _ found _ (found-short (a ++ cut) (x ∷ rest) plain (rw here (known-digit x next-digit)) even) in (
+      let told : _ = told-by _ d d′ r limit reads _ found _ (found-short (a ++ cut) (x ∷ rest) unmarked (rw here (known-digit x next-digit)) even) in (
         told .0
             ∙ rw (cut-begun, cut-behind, append-assoc a cut (x ∷ rest)) (told-behind a (cut ++ (x ∷ rest)) (ShortRecord ((1 + length ds) / 2))),
         told .1,
