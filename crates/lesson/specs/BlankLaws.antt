@@ -38,17 +38,17 @@ blank-bytes a blanks b outside all =
 -- ---- faults
 
 -- behind an even number of digits of a record, white space is no fault; and reading stands there still, where no line ends within a record
-abbrev Still : ℕ → ℕ → Type 0
+abbrev pub Still : ℕ → ℕ → Type 0
 Still k c = (faulty (opened k) c ≡ false) × ((k ≡ 0) ⊎ (c ≡ lineFeed → ⊥) → after (opened k) c ≡ opened k)
 
-blank-still : (k : ℕ) → k % 2 ≡ 0 → (c : ℕ) → white c ≡ true → Still k c
+pub blank-still : (k : ℕ) → k % 2 ≡ 0 → (c : ℕ) → white c ≡ true → Still k c
 unfolding faulty after commented digit apart pick
 blank-still k even =
     let second : eqb (k % 2) 1 ≡ false = ne-eqb (k % 2) 1 (λ e. absurd (omega arith)) in
     white-is (Still k) (second, λ either. refl) (second, λ either. refl) (second, λ either. refl)
     (second, λ either. ⊎-elim (λ (none : k ≡ 0). rw none) (λ (other : lineFeed ≡ lineFeed → ⊥). absurd (other refl)) either)
 
-blanks-from : (k at : ℕ) (blanks l : List ℕ) → k % 2 ≡ 0 → Blank blanks → (k ≡ 0) ⊎ OneLine blanks
+pub blanks-from : (k at : ℕ) (blanks l : List ℕ) → k % 2 ≡ 0 → Blank blanks → (k ≡ 0) ⊎ OneLine blanks
     → faultFrom (opened k) at (blanks ++ l) ≡ faultFrom (opened k) (at + length blanks) l
 unfolding faultFrom
 blanks-from k at [] l even all either = rw (add-zero at)

@@ -164,7 +164,7 @@ unfolding alien
 known-digit c is = pick-true _ _ _ (lt-ltb (digit c) 16 is)
 
 -- digits of a record behind others
-pub digits-open : (k : ℕ) (ds : List ℕ) → Digits ds → k + length ds < 8 → behind (opened k) ds ≡ opened (k + length ds)
+digits-open : (k : ℕ) (ds : List ℕ) → Digits ds → k + length ds < 8 → behind (opened k) ds ≡ opened (k + length ds)
 digits-open k [] all h = rw (add-zero k)
 digits-open k (c ∷ ds) all h =
     let on : k + 1 + length ds ≡ k + suc (length ds) = omega arith in
