@@ -7,7 +7,13 @@ use lesson::Lesson;
 use libc::STDOUT_FILENO;
 ghost use mathlib.Core.Path.{_≡_};
 ghost use Prim.Native.Nat.{_+_, _≤_, _<_};
+ghost use mathlib.Core.Logic.{_⊎_};
 ghost use lib.ListN.{length};
+ghost use lib.Seq.{sets};
+ghost use Rattle.lesson.specs.Lesson.{longest};
+
+// The bytes of the records that `files::lines` has room for.
+const BLOCK: usize = 65536;
 
 // A lesson's text is shorter.
 fn long_text() -> [u8; 16777216]
@@ -39,15 +45,15 @@ fn read_on(fd: i32, text: &mut [u8], start: usize) -> Filled
     Filled { failed: false, end }
 }
 
-// Where a block of 16384 records ends, or all.
+// Where a block ends: behind as many records as there is room for, or with all.
 fn block_end(start: usize, all: usize) -> usize
     requires { ⌜ start < all ⌝ }
-    ensures { λ r. ⌜ (start < r) × (r ≤ all) × (r ≤ start + 65536) ⌝ }
+    ensures { λ r. ⌜ ((r ≡ all) ⊎ (r ≡ start + 65536)) × (start < r) × (r ≤ all) × (r ≤ start + 65536) ⌝ }
 {
-    if all - start <= 65536 {
+    if all - start <= BLOCK {
         return all;
     }
-    start + 65536
+    start + BLOCK
 }
 
 // Only the last block can end within a record.
@@ -60,7 +66,8 @@ fn play(records: &[u8])
     let mut start: usize = 0;
     while start < records.len() {
         let end = block_end(start, records.len());
-        let ran = listing::run(bench, number, &records[start..end], true, &mut out);
+        let last = end == records.len();
+        let ran = listing::run(bench, number, &records[start..end], last, &mut out);
         let written = ran.written;
         if !io::write_all(STDOUT_FILENO, &out[..written]) {
             files::write_failed();
@@ -73,7 +80,10 @@ fn play(records: &[u8])
     }
 }
 
-fn play_text(path: &[u8], text: &[u8]) {
+// Neither room for a text is larger than what the reader reads.
+fn play_text(path: &[u8], text: &[u8])
+    requires { ⌜ length (now text) ≤ longest ⌝ }
+{
     let mut records = records();
     match lesson::read(text, &mut records) {
         Lesson::Bytes(count) => play(&records[..count]),
@@ -85,6 +95,7 @@ fn play_text(path: &[u8], text: &[u8]) {
 
 fn copy(from: &[u8], to: &mut [u8])
     requires { ⌜ length (now from) ≤ length (now to) ⌝ }
+    ensures { λ r. ⌜ now (to .exit) ≡ sets (now (to .entry)) 0 (now (from .entry)) ⌝ }
 {
     for i in 0..from.len() {
         to[i] = from[i];

@@ -25,10 +25,10 @@ module _ (text d : List ℕ) where
   unfolding lessonOf handedOut
   too-long h = record { told = rw (pick-true _ _ _ (lt-ltb longest (length text) h)); bytes = refl }
 
-  module _ (read : length text ≤ longest) where
+  module _ (limit : length text ≤ longest) where
     answered : {r : Lesson} (f : Found) → faultOf text ≡ f → r ≡ answerBy f text (length d) → r ≡ lessonOf text (length d)
     unfolding lessonOf
-    answered f e same = rw (pick-false _ _ _ (le-ltb longest (length text) read), e) same
+    answered f e same = rw (pick-false _ _ _ (le-ltb longest (length text) limit), e) same
 
     pub faulted : (at : ℕ) → faultOf text ≡ At at → Reads text d d (faultBy (finding text at) text)
     unfolding answerBy handedOut

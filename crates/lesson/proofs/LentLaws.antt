@@ -34,7 +34,7 @@ module _ {M : Type 1} (𝓤 : URA M) (H : Heap 𝓤) (A : Atoms 𝓤) (mem : Mem
   -- the text that is lent is what is read, and the buffer that is lent is where its bytes come to stand
   pub read-lent : (small : Bool) (bs : List ℕ) → a .0 .now ≡ plain small bs → plain-form.Bytes bs → length bs ≤ length (a .1 .0 .now)
       → length (plain small bs) ≤ longest → ent 𝓤 Ended (fact 𝓤 (Back small bs))
-  read-lent small bs text all room short =
+  read-lent small bs text all room limit =
       fact-use 𝓤 (Reads (a .0 .now) (a .1 .0 .now) (v .1 .0) r) (id⊢ 𝓤 Ended) (λ p.
       factI 𝓤 (Back small bs) Ended
-      (reads-back small bs (a .1 .0 .now) (v .1 .0) r all room short (subst (λ (t : List ℕ). Reads t (a .1 .0 .now) (v .1 .0) r) text p)))
+      (reads-back small bs (a .1 .0 .now) (v .1 .0) r all room limit (subst (λ (t : List ℕ). Reads t (a .1 .0 .now) (v .1 .0) r) text p)))

@@ -3,7 +3,7 @@ use Prim.Native.Nat.{ℕ}
 use mathlib.Core.List.{List, [], _∷_}
 use mathlib.Core.Path.{_≡_, refl}
 use Rattle.base.specs.Pick.{pick}
-use Rattle.lesson.specs.Text.{digit, apart, commented, told, worths, paired, digitsOf, bytesOf}
+use Rattle.lesson.specs.Text.{digit, apart, commented, uncommented, worths, paired, digitsOf, bytesOf}
 use Rattle.lesson.specs.Fault.{faulty, next, after, faultFrom, faultOf}
 use Rattle.lesson.specs.Cause.{finding, stoppedAt, marked, wide, alien, begins, begunFrom, begunIn}
 use Rattle.lesson.specs.Place.{onward, placeFrom, placeBehind}
@@ -31,7 +31,7 @@ numbers NoRoom = []
 -- what is answered to a text where four bytes have room; it opens what reading computes with
 unfoldable answer : List ℕ → List ℕ
 unfolding lessonOf answerBy finding stoppedAt marked wide alien begins begunFrom begunIn
-    faultOf faultFrom faulty next after placeBehind placeFrom onward bytesOf digitsOf paired worths told commented apart digit pick
+    faultOf faultFrom faulty next after placeBehind placeFrom onward bytesOf digitsOf paired worths uncommented commented apart digit pick
 answer text = numbers (lessonOf text 4)
 
 -- `later-line`; 08000000, a line feed, x

@@ -35,14 +35,14 @@ module _ (text : List ℕ) (at : ℕ) where
   unfolding finding
   found-marked is = sym (pick-true _ _ _ is)
 
-  module _ (unmarked : marked text ≡ false) where
+  module _ (no-mark : marked text ≡ false) where
     pub found-wide : wide text ≡ true → record { at = 0; cause = Utf16 } ≡ finding text at
     unfolding finding
-    found-wide is = sym (pick-false _ _ _ unmarked ∙ pick-true _ _ _ is)
+    found-wide is = sym (pick-false _ _ _ no-mark ∙ pick-true _ _ _ is)
 
     pub found-stopped : wide text ≡ false → stoppedAt text at ≡ finding text at
     unfolding finding
-    found-stopped narrow = sym (pick-false _ _ _ unmarked ∙ pick-false _ _ _ narrow)
+    found-stopped narrow = sym (pick-false _ _ _ no-mark ∙ pick-false _ _ _ narrow)
 
 -- ---- the place is in the text
 

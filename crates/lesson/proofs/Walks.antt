@@ -12,7 +12,7 @@ use lib.Seq.{drop-cons, sets}
 use borrow.Author.Tests.{lt-ltb, le-ltb}
 use Rattle.base.specs.Pick.{pick}
 use Rattle.base.specs.PickLaws.{pick-true, pick-false, pick-either}
-use Rattle.lesson.specs.Text.{lineFeed, digit, commented, told, worths, paired, bytesOf, digitsOf}
+use Rattle.lesson.specs.Text.{lineFeed, digit, commented, uncommented, worths, paired, bytesOf, digitsOf}
 use Rattle.lesson.specs.Fault.{start, faulty, after, behind, half, faultFrom}
 use Rattle.lesson.specs.Cause.{begins, begunFrom}
 use Rattle.lesson.specs.Place.{onward, placeFrom}
@@ -86,7 +86,7 @@ place-end p text i h = rw (drop-of-length-le text h)
 
 -- the digits from a place on
 abbrev pub digitsFrom : Bool → List ℕ → ℕ → List ℕ
-digitsFrom comment text i = worths (told comment (drop i text))
+digitsFrom comment text i = worths (uncommented comment (drop i text))
 
 -- what a character is worth where no comment has it, and 16 elsewhere
 abbrev pub worth : Bool → ℕ → ℕ
@@ -102,31 +102,31 @@ worths-same c l h = pick-false _ _ _ (le-ltb (digit c) 16 h)
 
 -- by whether a comment has the character
 digit-more : (x : Bool) (c : ℕ) (l : List ℕ) → pick x 16 (digit c) < 16
-    → worths (pick x (told true l) (c ∷ told false l)) ≡ pick x 16 (digit c) ∷ worths (told x l)
+    → worths (pick x (uncommented true l) (c ∷ uncommented false l)) ≡ pick x 16 (digit c) ∷ worths (uncommented x l)
 unfolding pick
 digit-more true c l h = absurd (omega arith)
-digit-more false c l h = worths-more c (told false l) h
+digit-more false c l h = worths-more c (uncommented false l) h
 
 digit-none : (x : Bool) (c : ℕ) (l : List ℕ) → 16 ≤ pick x 16 (digit c)
-    → worths (pick x (told true l) (c ∷ told false l)) ≡ worths (told x l)
+    → worths (pick x (uncommented true l) (c ∷ uncommented false l)) ≡ worths (uncommented x l)
 unfolding pick
 digit-none true c l h = refl
-digit-none false c l h = worths-same c (told false l) h
+digit-none false c l h = worths-same c (uncommented false l) h
 
 module _ (comment : Bool) (text : List ℕ) (i : ℕ) (inside : i < length text) where
   pub digit-on : worth comment (getD text i 0) < 16
       → digitsFrom comment text i
       ≡ worth comment (getD text i 0) ∷ digitsFrom (commented comment (getD text i 0)) text (i + 1)
-  unfolding told
+  unfolding uncommented
   digit-on h = rw (drop-cons text i 0 inside, add-one i) (digit-more (commented comment (getD text i 0)) (getD text i 0) (drop (suc i) text) h)
 
   pub digit-past : 16 ≤ worth comment (getD text i 0)
       → digitsFrom comment text i ≡ digitsFrom (commented comment (getD text i 0)) text (i + 1)
-  unfolding told
+  unfolding uncommented
   digit-past h = rw (drop-cons text i 0 inside, add-one i) (digit-none (commented comment (getD text i 0)) (getD text i 0) (drop (suc i) text) h)
 
 pub digits-end : (comment : Bool) (text : List ℕ) (i : ℕ) → length text ≤ i → digitsFrom comment text i ≡ []
-unfolding told worths
+unfolding uncommented worths
 digits-end comment text i h = rw (drop-of-length-le text h)
 
 -- ---- the bytes in a buffer

@@ -11,8 +11,8 @@ use lib.ListN.{length}
 use borrow.Author.Tests.{ne-eqb}
 use Rattle.base.specs.Pick.{pick}
 use Rattle.base.specs.PickLaws.{pick-false}
-use Rattle.lesson.specs.Text.{lineFeed, digit, white, apart, commented, told, worths, digitsOf, bytesOf}
-use Rattle.lesson.specs.TextLaws.{white-is, commentedAfter, told-parts, worths-parts}
+use Rattle.lesson.specs.Text.{lineFeed, digit, white, apart, commented, uncommented, worths, digitsOf, bytesOf}
+use Rattle.lesson.specs.TextLaws.{white-is, commentedAfter, uncommented-parts, worths-parts}
 use Rattle.lesson.specs.Fault.{start, faulty, after, behind, faultFrom, faultOf}
 use Rattle.lesson.specs.FaultLaws.{parts-from, opened, moved, moved-from}
 use Rattle.lesson.specs.Plain.{Blank, OneLine}
@@ -21,11 +21,11 @@ use Rattle.lesson.specs.declared.faults.Found.the-variants.{Nowhere}
 
 -- ---- bytes
 
-blank-worths : (c : ℕ) → white c ≡ true → (b : List ℕ) → worths (told false (c ∷ b)) ≡ worths (told false b)
-unfolding told worths commented digit pick
-blank-worths = white-is (λ (c : ℕ). (b : List ℕ) → worths (told false (c ∷ b)) ≡ worths (told false b)) (λ b. refl) (λ b. refl) (λ b. refl) (λ b. refl)
+blank-worths : (c : ℕ) → white c ≡ true → (b : List ℕ) → worths (uncommented false (c ∷ b)) ≡ worths (uncommented false b)
+unfolding uncommented worths commented digit pick
+blank-worths = white-is (λ (c : ℕ). (b : List ℕ) → worths (uncommented false (c ∷ b)) ≡ worths (uncommented false b)) (λ b. refl) (λ b. refl) (λ b. refl) (λ b. refl)
 
-blanks-worths : (blanks b : List ℕ) → Blank blanks → worths (told false (blanks ++ b)) ≡ worths (told false b)
+blanks-worths : (blanks b : List ℕ) → Blank blanks → worths (uncommented false (blanks ++ b)) ≡ worths (uncommented false b)
 blanks-worths [] b all = refl
 blanks-worths (c ∷ blanks) b all = blank-worths c (all .0) (blanks ++ b) ∙ blanks-worths blanks b (all .1)
 
@@ -33,22 +33,22 @@ blanks-worths (c ∷ blanks) b all = blank-worths c (all .0) (blanks ++ b) ∙ b
 pub blank-bytes : (a blanks b : List ℕ) → commentedAfter false a ≡ false → Blank blanks → bytesOf (a ++ (blanks ++ b)) ≡ bytesOf (a ++ b)
 unfolding bytesOf digitsOf
 blank-bytes a blanks b outside all =
-    rw (told-parts a (blanks ++ b) false, told-parts a b false, outside, worths-parts (told false a), worths-parts (told false a), blanks-worths blanks b all)
+    rw (uncommented-parts a (blanks ++ b) false, uncommented-parts a b false, outside, worths-parts (uncommented false a), worths-parts (uncommented false a), blanks-worths blanks b all)
 
 -- ---- faults
 
 -- behind an even number of digits of a record, white space is no fault; and reading stands there still, where no line ends within a record
-abbrev Still : ℕ → ℕ → Type 0
+abbrev pub Still : ℕ → ℕ → Type 0
 Still k c = (faulty (opened k) c ≡ false) × ((k ≡ 0) ⊎ (c ≡ lineFeed → ⊥) → after (opened k) c ≡ opened k)
 
-blank-still : (k : ℕ) → k % 2 ≡ 0 → (c : ℕ) → white c ≡ true → Still k c
+pub blank-still : (k : ℕ) → k % 2 ≡ 0 → (c : ℕ) → white c ≡ true → Still k c
 unfolding faulty after commented digit apart pick
 blank-still k even =
     let second : eqb (k % 2) 1 ≡ false = ne-eqb (k % 2) 1 (λ e. absurd (omega arith)) in
     white-is (Still k) (second, λ either. refl) (second, λ either. refl) (second, λ either. refl)
     (second, λ either. ⊎-elim (λ (none : k ≡ 0). rw none) (λ (other : lineFeed ≡ lineFeed → ⊥). absurd (other refl)) either)
 
-blanks-from : (k at : ℕ) (blanks l : List ℕ) → k % 2 ≡ 0 → Blank blanks → (k ≡ 0) ⊎ OneLine blanks
+pub blanks-from : (k at : ℕ) (blanks l : List ℕ) → k % 2 ≡ 0 → Blank blanks → (k ≡ 0) ⊎ OneLine blanks
     → faultFrom (opened k) at (blanks ++ l) ≡ faultFrom (opened k) (at + length blanks) l
 unfolding faultFrom
 blanks-from k at [] l even all either = rw (add-zero at)

@@ -120,7 +120,7 @@ module _ (text : List ℕ) (at k : ℕ) (found : faultOf text ≡ At at) where
   unfolding finding stoppedAt
   short-bytes =
       pick-cases Few (marked text) _ _ (λ yes e. let z : _≡_ {A = ℕ} 0 1 = cc in absurd (omega arith))
-      (λ unmarked. pick-cases Few (wide text) _ _ (λ yes e. let z : _≡_ {A = ℕ} 0 1 = cc in absurd (omega arith))
+      (λ no-mark. pick-cases Few (wide text) _ _ (λ yes e. let z : _≡_ {A = ℕ} 0 1 = cc in absurd (omega arith))
       (λ narrow. pick-cases Few (alien (characterAt text at)) _ _ (λ yes e. let z : _≡_ {A = ℕ} 0 1 = cc in absurd (omega arith))
       (λ known. pick-cases Few (half (behind start (take at text))) _ _ (λ yes e. let z : _≡_ {A = ℕ} 0 1 = cc in absurd (omega arith))
       (few-bytes known))))

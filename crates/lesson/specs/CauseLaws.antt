@@ -51,11 +51,11 @@ ascii-unmarked text some low other =
 
 -- ---- from where reading stops to what is told
 
-module _ (text d d′ : List ℕ) (r : Lesson) (short : length text ≤ longest) (reads : Reads text d d′ r) (at : ℕ)
+module _ (text d d′ : List ℕ) (r : Lesson) (limit : length text ≤ longest) (reads : Reads text d d′ r) (at : ℕ)
     (found : faultOf text ≡ At at) where
   pub told-by : (f : Finding) → finding text at ≡ f → (r ≡ faultBy f text) × (d′ ≡ d)
   told-by f is =
-      let told : _ = fault-told text d d′ r reads short at found in (told .0 ∙ ap (λ (g : Finding). faultBy g text) is, told .1)
+      let told : _ = fault-told text d d′ r reads limit at found in (told .0 ∙ ap (λ (g : Finding). faultBy g text) is, told .1)
 
   -- A text that has a fault and begins with a byte order mark is told as that, at its start.
   pub mark-told : marked text ≡ true → (r ≡ Fault 1 1 ByteOrderMark) × (d′ ≡ d)
@@ -65,7 +65,7 @@ module _ (text d d′ : List ℕ) (r : Lesson) (short : length text ≤ longest)
   -- And one that begins as UTF-16 does, as that.
   pub wide-told : marked text ≡ false → wide text ≡ true → (r ≡ Fault 1 1 Utf16) × (d′ ≡ d)
   unfolding finding placeBehind placeFrom
-  wide-told unmarked is = told-by (record { at = 0; cause = Utf16 }) (pick-false _ _ _ unmarked ∙ pick-true _ _ _ is)
+  wide-told no-mark is = told-by (record { at = 0; cause = Utf16 }) (pick-false _ _ _ no-mark ∙ pick-true _ _ _ is)
 
 -- EF, FF, FE and 00 at the start are faults by themselves.
 pub mark-faults : (rest : List ℕ)
@@ -76,10 +76,10 @@ mark-faults rest = (refl, refl, refl, refl)
 -- ---- by where reading stops
 
 -- behind the characters p, the next is of b
-module _ (p b : List ℕ) (whole : Unmarked (p ++ b)) where
+module _ (p b : List ℕ) (unmarked : Unmarked (p ++ b)) where
   by-stop : finding (p ++ b) (length p) ≡ stoppedAt (p ++ b) (length p)
   unfolding finding
-  by-stop = pick-false _ _ _ (whole .mark) ∙ pick-false _ _ _ (whole .narrow)
+  by-stop = pick-false _ _ _ (unmarked .mark) ∙ pick-false _ _ _ (unmarked .narrow)
 
   before : take (length p) (p ++ b) ≡ p
   before = take-append-seam p b
@@ -114,12 +114,12 @@ pub no-digit : (a ds rest d d′ : List ℕ) (c : ℕ) (r : Lesson) → Whole a 
     → isDigit c ≡ false → apart c ≡ false
     → Unmarked ((a ++ ds) ++ (c ∷ rest)) → length ((a ++ ds) ++ (c ∷ rest)) ≤ longest → Reads ((a ++ ds) ++ (c ∷ rest)) d d′ r
     → (r ≡ Fault (placeBehind (a ++ ds) .line) (placeBehind (a ++ ds) .column) NoDigit) × (d′ ≡ d)
-no-digit a ds rest d d′ c r w all few none other plain short reads =
+no-digit a ds rest d d′ c r w all few none other unmarked limit reads =
     let size : length (a ++ ds) ≡ length a + length ds = length-append a ds in
     let found : faultOf ((a ++ ds) ++ (c ∷ rest)) ≡ At (length (a ++ ds)) =
     rw (size, append-assoc a ds (c ∷ rest)) (wrong-character a ds rest c w all few none (inl other)) in
     let here : characterAt ((a ++ ds) ++ (c ∷ rest)) (length (a ++ ds)) ≡ c = getD-append-seam (a ++ ds) c rest 32 in
-    let told : _ = told-by _ d d′ r short reads _ found _ (found-alien (a ++ ds) (c ∷ rest) plain (rw here (alien-is c none other))) in
+    let told : _ = told-by _ d d′ r limit reads _ found _ (found-alien (a ++ ds) (c ∷ rest) unmarked (rw here (alien-is c none other))) in
     (told .0 ∙ told-behind (a ++ ds) (c ∷ rest) NoDigit, told .1)
 
 digits-line : (ds : List ℕ) → Digits ds → OneLine ds
@@ -132,9 +132,9 @@ pub told-there : (a ds rest d d′ : List ℕ) (c : ℕ) (r : Lesson) → Whole 
     → Unmarked ((a ++ (lineFeed ∷ ds)) ++ (c ∷ rest)) → length ((a ++ (lineFeed ∷ ds)) ++ (c ∷ rest)) ≤ longest
     → Reads ((a ++ (lineFeed ∷ ds)) ++ (c ∷ rest)) d d′ r
     → (r ≡ Fault (2 + feeds a) (1 + length ds) NoDigit) × (d′ ≡ d)
-told-there a ds rest d d′ c r w all few none other plain short reads =
+told-there a ds rest d d′ c r w all few none other unmarked limit reads =
     let so : (a ++ (lineFeed ∷ [])) ++ ds ≡ a ++ (lineFeed ∷ ds) = append-assoc a (lineFeed ∷ []) ds in
-    let told : _ = no-digit (a ++ (lineFeed ∷ [])) ds rest d d′ c r w all few none other (rw so plain) (rw so short) (rw so reads) in
+    let told : _ = no-digit (a ++ (lineFeed ∷ [])) ds rest d d′ c r w all few none other (rw so unmarked) (rw so limit) (rw so reads) in
     (told .0 ∙ rw (so, later-line a ds (digits-line ds all)), told .1)
 
 -- ---- one digit alone
@@ -164,7 +164,7 @@ unfolding alien
 known-digit c is = pick-true _ _ _ (lt-ltb (digit c) 16 is)
 
 -- digits of a record behind others
-pub digits-open : (k : ℕ) (ds : List ℕ) → Digits ds → k + length ds < 8 → behind (opened k) ds ≡ opened (k + length ds)
+digits-open : (k : ℕ) (ds : List ℕ) → Digits ds → k + length ds < 8 → behind (opened k) ds ≡ opened (k + length ds)
 digits-open k [] all h = rw (add-zero k)
 digits-open k (c ∷ ds) all h =
     let on : k + 1 + length ds ≡ k + suc (length ds) = omega arith in
@@ -201,9 +201,9 @@ module _ (a ds d d′ : List ℕ) (e : ℕ) (r : Lesson)
   alone-told : (b : List ℕ) → Unmarked (alone ++ b) → length (alone ++ b) ≤ longest → Reads (alone ++ b) d d′ r
       → faultOf (alone ++ b) ≡ At (length alone) → alien (characterAt (alone ++ b) (length alone)) ≡ false
       → (r ≡ Fault (placeBehind (a ++ ds) .line) (placeBehind (a ++ ds) .column) OneDigit) × (d′ ≡ d)
-  alone-told b plain short reads found known =
+  alone-told b unmarked limit reads found known =
       let place : length alone - 1 ≡ length (a ++ ds) = omega (arith, alone-size) in
-      let told : _ = told-by _ d d′ r short reads _ found _ (found-alone alone b plain known odd-behind) in
+      let told : _ = told-by _ d d′ r limit reads _ found _ (found-alone alone b unmarked known odd-behind) in
       let parts : alone ++ b ≡ (a ++ ds) ++ ((e ∷ []) ++ b) =
       rw (append-assoc a (ds ++ (e ∷ [])) b, append-assoc ds (e ∷ []) b, append-assoc a ds ((e ∷ []) ++ b)) in
       (told .0 ∙ rw (place, parts) (told-behind (a ++ ds) ((e ∷ []) ++ b) OneDigit), told .1)
@@ -212,22 +212,22 @@ module _ (a ds d d′ : List ℕ) (e : ℕ) (r : Lesson)
   pub one-digit : (c : ℕ) (rest : List ℕ) → apart c ≡ true → Unmarked (alone ++ (c ∷ rest)) → length (alone ++ (c ∷ rest)) ≤ longest
       → Reads (alone ++ (c ∷ rest)) d d′ r
       → (r ≡ Fault (placeBehind (a ++ ds) .line) (placeBehind (a ++ ds) .column) OneDigit) × (d′ ≡ d)
-  one-digit c rest between plain short reads =
+  one-digit c rest between unmarked limit reads =
       let size : length alone ≡ length a + length (ds ++ (e ∷ [])) = length-append a (ds ++ (e ∷ [])) in
       let found : faultOf (alone ++ (c ∷ rest)) ≡ At (length alone) =
       rw (size, append-assoc a (ds ++ (e ∷ [])) (c ∷ rest))
       (wrong-character a (ds ++ (e ∷ [])) rest c w (digits-more ds e all is) (omega (arith, one-more)) (apart-no-digit c between) (inr odd)) in
       let here : characterAt (alone ++ (c ∷ rest)) (length alone) ≡ c = getD-append-seam alone c rest 32 in
-      alone-told (c ∷ rest) plain short reads found (rw here (known-apart c between))
+      alone-told (c ∷ rest) unmarked limit reads found (rw here (known-apart c between))
 
   -- And where the text ends behind it.
   pub one-digit-last : Unmarked alone → length alone ≤ longest → Reads alone d d′ r
       → (r ≡ Fault (placeBehind (a ++ ds) .line) (placeBehind (a ++ ds) .column) OneDigit) × (d′ ≡ d)
-  one-digit-last plain short reads =
+  one-digit-last unmarked limit reads =
       let same : alone ++ [] ≡ alone = append-nil alone in
       let size : length alone ≡ length a + length (ds ++ (e ∷ [])) = length-append a (ds ++ (e ∷ [])) in
       let found : faultOf alone ≡ At (length alone) =
       text-ends a (ds ++ (e ∷ [])) w (digits-more ds e all is) (omega (arith, one-more))
       ∙ pick-true _ _ _ (eq-eqb _ _ odd) ∙ ap At (sym size) in
       let here : characterAt (alone ++ []) (length alone) ≡ 32 = List·getD-eq-default (alone ++ []) 32 (rw same (omega arith)) in
-      alone-told [] (rw same plain) (rw same short) (rw same reads) (rw same found) (rw here (known-apart 32 space-apart))
+      alone-told [] (rw same unmarked) (rw same limit) (rw same reads) (rw same found) (rw here (known-apart 32 space-apart))

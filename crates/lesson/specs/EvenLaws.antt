@@ -11,7 +11,7 @@ use lib.ListN.{length}
 use borrow.Author.Tests.{ltb-true, ltb-false, eqb-false}
 use Rattle.base.specs.Pick.{pick}
 use Rattle.base.specs.PickLaws.{pick-true, pick-false, pick-either, either-way, not-both}
-use Rattle.lesson.specs.Text.{lineFeed, numberSign, digit, isDigit, commented, told, worths, digitsOf, bytesOf}
+use Rattle.lesson.specs.Text.{lineFeed, numberSign, digit, isDigit, commented, uncommented, worths, digitsOf, bytesOf}
 use Rattle.lesson.specs.TextLaws.{pair-count}
 use Rattle.lesson.specs.Fault.{start, half, faulty, next, after, faultFrom, faultOf}
 use Rattle.lesson.specs.declared.faults.Reading.{Reading}
@@ -55,19 +55,19 @@ was-outside x c out other =
 
 -- the digits of the record so far and all that are to come
 abbrev left : Reading → List ℕ → ℕ
-left s l = s .digits + length (worths (told (s .comment) l))
+left s l = s .digits + length (worths (uncommented (s .comment) l))
 
 module _ (s : Reading) (c : ℕ) (l : List ℕ) (h : s .digits ≤ 7) (even : left (after s c) l % 2 ≡ 0) where
   in-comment : commented (s .comment) c ≡ true → left s (c ∷ l) % 2 ≡ 0
-  unfolding told after
+  unfolding uncommented after
   in-comment e =
       let stands : after s c ≡ record { digits = s .digits; cut = s .cut; comment = true } = pick-true _ _ _ e in
-      let leaves : told (s .comment) (c ∷ l) ≡ told true l = pick-true _ _ _ e in
+      let leaves : uncommented (s .comment) (c ∷ l) ≡ uncommented true l = pick-true _ _ _ e in
       rw leaves (rw stands at even)
 
   module _ (outside : commented (s .comment) c ≡ false) where
-    leaves : told (s .comment) (c ∷ l) ≡ c ∷ told false l
-    unfolding told
+    leaves : uncommented (s .comment) (c ∷ l) ≡ c ∷ uncommented false l
+    unfolding uncommented
     leaves = pick-false _ _ _ outside
 
     a-digit : isDigit c ≡ true → left s (c ∷ l) % 2 ≡ 0
@@ -75,13 +75,13 @@ module _ (s : Reading) (c : ℕ) (l : List ℕ) (h : s .digits ≤ 7) (even : le
     a-digit e =
         let stands : after s c ≡ record { digits = next (s .digits); cut = s .cut; comment = false } =
         pick-false _ _ _ outside ∙ pick-true _ _ _ e in
-        let more : worths (c ∷ told false l) ≡ digit c ∷ worths (told false l) = pick-true _ _ _ e in
-        rw (leaves, more) (next-even (s .digits) (length (worths (told false l))) h (rw stands at even))
+        let more : worths (c ∷ uncommented false l) ≡ digit c ∷ worths (uncommented false l) = pick-true _ _ _ e in
+        rw (leaves, more) (next-even (s .digits) (length (worths (uncommented false l))) h (rw stands at even))
 
     no-digit : isDigit c ≡ false → left s (c ∷ l) % 2 ≡ 0
     unfolding worths after
     no-digit e =
-        let same : worths (c ∷ told false l) ≡ worths (told false l) = pick-false _ _ _ e in
+        let same : worths (c ∷ uncommented false l) ≡ worths (uncommented false l) = pick-false _ _ _ e in
         ⊎-elim
         (λ (feed : eqb c lineFeed ≡ true).
         let stands : after s c ≡ record { digits = s .digits; cut = not (eqb (s .digits) 0); comment = false } =
@@ -107,7 +107,7 @@ after-below s c h =
     (pick-either (λ (r : Reading). r .digits ≤ 7) (eqb c lineFeed) _ _ h h))
 
 even-from : (s : Reading) (at : ℕ) (l : List ℕ) → s .digits ≤ 7 → faultFrom s at l ≡ Nowhere → left s l % 2 ≡ 0
-unfolding faultFrom told worths
+unfolding faultFrom uncommented worths
 even-from s at [] h e = omega (arith, eqb-false (s .digits % 2) 1 (no-fault (half s) at Nowhere e .0))
 even-from s at (c ∷ l) h e =
     one-more s c l h (even-from (after s c) (suc at) l (after-below s c h) (no-fault (faulty s c) at _ e .1))
@@ -116,5 +116,5 @@ even-from s at (c ∷ l) h e =
 pub digits-all : (text : List ℕ) → faultOf text ≡ Nowhere → 2 * length (bytesOf text) ≡ length (digitsOf text)
 unfolding faultOf digitsOf bytesOf
 digits-all text e =
-    let even : length (worths (told false text)) % 2 ≡ 0 = rw (zero-add) at (even-from start 0 text (omega arith) e) in
-    omega (arith, pair-count (worths (told false text)))
+    let even : length (worths (uncommented false text)) % 2 ≡ 0 = rw (zero-add) at (even-from start 0 text (omega arith) e) in
+    omega (arith, pair-count (worths (uncommented false text)))

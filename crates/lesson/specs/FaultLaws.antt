@@ -12,7 +12,7 @@ use borrow.Author.Tests.{lt-ltb, eq-eqb, ne-eqb}
 use Rattle.base.specs.Pick.{pick}
 use Rattle.base.specs.PickLaws.{pick-true, pick-false, pick-same, pick-either, pick-through, either-way}
 use Rattle.lesson.specs.Text.{lineFeed, numberSign, digit, isDigit, white, apart, commented}
-use Rattle.lesson.specs.TextLaws.{digit-told, comment-goes, white-is}
+use Rattle.lesson.specs.TextLaws.{digit-uncommented, comment-goes, white-is}
 use Rattle.lesson.specs.Fault.{start, half, faulty, next, after, behind, faultFrom, faultOf}
 use Rattle.lesson.specs.Plain.{Digits, Blank, OneLine, comment}
 use Rattle.lesson.specs.declared.faults.Reading.{Reading}
@@ -97,7 +97,7 @@ digit-fine k c h = pick-false _ _ _ refl ∙ pick-true _ _ _ (lt-ltb (digit c) 1
 
 pub digit-after : (k c : ℕ) → digit c < 16 → after (opened k) c ≡ opened (next k)
 unfolding after
-digit-after k c h = pick-false _ _ _ (digit-told c h) ∙ pick-true _ _ _ (lt-ltb (digit c) 16 h)
+digit-after k c h = pick-false _ _ _ (digit-uncommented c h) ∙ pick-true _ _ _ (lt-ltb (digit c) 16 h)
 
 pub next-is : (k : ℕ) → k < 7 → next k ≡ k + 1
 unfolding next
@@ -136,7 +136,7 @@ not-there k c none other =
 abbrev pub cutBehind : ℕ → Reading
 cutBehind k = record { digits = k; cut = true; comment = false }
 
-feed-cuts : (k at : ℕ) (l : List ℕ) → 0 < k → k % 2 ≡ 0 → faultFrom (opened k) at (lineFeed ∷ l) ≡ faultFrom (cutBehind k) (suc at) l
+pub feed-cuts : (k at : ℕ) (l : List ℕ) → 0 < k → k % 2 ≡ 0 → faultFrom (opened k) at (lineFeed ∷ l) ≡ faultFrom (cutBehind k) (suc at) l
 unfolding faultFrom faulty after commented digit apart pick
 feed-cuts k at l some even =
     let second : eqb (k % 2) 1 ≡ false = ne-eqb (k % 2) 1 (λ e. absurd (omega arith)) in
@@ -152,7 +152,7 @@ blank-fine k some even =
     white-is (λ (c : ℕ). (faulty (cutBehind k) c ≡ false) × (after (cutBehind k) c ≡ cutBehind k))
     (second, refl) (second, refl) (second, refl) (second, rw begun)
 
-blanks-on : (k at : ℕ) (blanks l : List ℕ) → Blank blanks → 0 < k → k % 2 ≡ 0
+pub blanks-on : (k at : ℕ) (blanks l : List ℕ) → Blank blanks → 0 < k → k % 2 ≡ 0
     → faultFrom (cutBehind k) at (blanks ++ l) ≡ faultFrom (cutBehind k) (at + length blanks) l
 unfolding faultFrom
 blanks-on k at [] l all some even = rw (add-zero at)
@@ -161,7 +161,7 @@ blanks-on k at (c ∷ blanks) l all some even =
     let e : suc at + length blanks ≡ at + suc (length blanks) = omega arith in
     pick-false _ _ _ (fine .0) ∙ rw (fine .1, blanks-on k (suc at) blanks l (all .1) some even, e)
 
-cut-digit : (k at d : ℕ) (l : List ℕ) → digit d < 16 → faultFrom (cutBehind k) at (d ∷ l) ≡ At at
+pub cut-digit : (k at d : ℕ) (l : List ℕ) → digit d < 16 → faultFrom (cutBehind k) at (d ∷ l) ≡ At at
 unfolding faultFrom faulty
 cut-digit k at d l is = pick-true _ _ _ (pick-false _ _ _ refl ∙ pick-true _ _ _ (lt-ltb (digit d) 16 is))
 

@@ -106,12 +106,12 @@ pub reads-back : (small : Bool) (bs d d′ : List ℕ) (r : Lesson) → plain-fo
     → length bs ≤ length d → length (plain small bs) ≤ longest → Reads (plain small bs) d d′ r
     → (r ≡ Bytes (length bs)) × (d′ ≡ sets d 0 bs)
 unfolding faultOf lessonOf answerBy handedOut
-reads-back small bs d d′ r all room short reads =
+reads-back small bs d d′ r all room limit reads =
     let good : faultOf (plain small bs) ≡ Nowhere = plain-from small 0 bs all in
     let same : bytesOf (plain small bs) ≡ bs = plain-back small bs all in
     let is : r ≡ Bytes (length bs) =
     reads .told
-    ∙ pick-false _ _ _ (le-ltb longest (length (plain small bs)) short)
+    ∙ pick-false _ _ _ (le-ltb longest (length (plain small bs)) limit)
     ∙ rw (good, same) (pick-false _ _ _ (le-ltb (length d) (length bs) room)) in
     (is, reads .bytes ∙ rw (is, same))
 

@@ -40,6 +40,21 @@ abbrev pub OneLine : List ℕ → Type 0
 OneLine [] = Unit {0}
 OneLine (c ∷ rest) = (c ≡ lineFeed → ⊥) × OneLine rest
 
+-- a byte as it is written: its two digits, and the white space behind them
+pub record Written : Type 0 where
+  pub high : ℕ
+  pub low : ℕ
+  pub blanks : List ℕ
+
+abbrev pub written : List Written → List ℕ
+written [] = []
+written (b ∷ rest) = b .high ∷ b .low ∷ (b .blanks ++ written rest)
+
+-- no line ends behind any of them
+abbrev pub Spaced : List Written → Type 0
+Spaced [] = Unit {0}
+Spaced (b ∷ rest) = (digit (b .high) < 16) × (digit (b .low) < 16) × Blank (b .blanks) × OneLine (b .blanks) × Spaced rest
+
 -- a comment with the end of its line
 abbrev pub comment : List ℕ → List ℕ
 comment words = numberSign ∷ (words ++ (lineFeed ∷ []))

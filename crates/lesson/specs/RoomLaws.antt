@@ -23,11 +23,11 @@ module _ (text d d′ : List ℕ) (r : Lesson) (reads : Reads text d d′ r) whe
       let is : r ≡ TooLong = reads .told ∙ pick-true _ _ _ (lt-ltb longest (length text) long) in
       (is, reads .bytes ∙ ap (λ (x : Lesson). handedOut x text d) is)
 
-  module _ (short : length text ≤ longest) where
+  module _ (limit : length text ≤ longest) where
     by-fault : (f : Found) → faultOf text ≡ f → r ≡ answerBy f text (length d)
     unfolding lessonOf
     by-fault f found =
-        reads .told ∙ pick-false _ _ _ (le-ltb longest (length text) short) ∙ ap (λ (x : Found). answerBy x text (length d)) found
+        reads .told ∙ pick-false _ _ _ (le-ltb longest (length text) limit) ∙ ap (λ (x : Found). answerBy x text (length d)) found
 
     -- a fault is told by its cause, and by the line and column behind the characters before it, and nothing is handed out
     pub fault-told : (at : ℕ) → faultOf text ≡ At at

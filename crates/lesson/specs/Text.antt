@@ -61,9 +61,9 @@ unfoldable pub commented : Bool → ℕ → Bool
 commented comment c = pick (eqb c numberSign) true (pick (eqb c lineFeed) false comment)
 
 -- the text without its comments, given whether it begins within one
-unfoldable pub told : Bool → List ℕ → List ℕ
-told comment [] = []
-told comment (c ∷ rest) = pick (commented comment c) (told true rest) (c ∷ told false rest)
+unfoldable pub uncommented : Bool → List ℕ → List ℕ
+uncommented comment [] = []
+uncommented comment (c ∷ rest) = pick (commented comment c) (uncommented true rest) (c ∷ uncommented false rest)
 
 -- ---- bytes
 
@@ -79,7 +79,7 @@ paired (high ∷ []) = []
 paired (high ∷ low ∷ rest) = (16 * high + low) ∷ paired rest
 
 unfoldable pub digitsOf : List ℕ → List ℕ
-digitsOf text = worths (told false text)
+digitsOf text = worths (uncommented false text)
 
 -- the bytes of a text: its digits outside comments, two by two
 unfoldable pub bytesOf : List ℕ → List ℕ

@@ -11,7 +11,7 @@ use borrow.Author.Tests.{lt-ltb, le-ltb, leb-true, ne-eqb, eqb-true}
 use Rattle.base.specs.Pick.{pick}
 use Rattle.base.specs.PickLaws.{pick-true, pick-false, pick-same, pick-either, pick-cases, both-hold}
 use Rattle.base.specs.EveryLaws.{equal-at}
-use Rattle.lesson.specs.Text.{lineFeed, numberSign, within, digit, white, commented, told, worths, paired, digitsOf, bytesOf}
+use Rattle.lesson.specs.Text.{lineFeed, numberSign, within, digit, white, commented, uncommented, worths, paired, digitsOf, bytesOf}
 use Rattle.lesson.specs.Plain.{letter, two, plain, Bytes, OneLine, comment}
 
 -- ---- characters
@@ -63,18 +63,18 @@ pub feed-no-digit : digit lineFeed ≡ 16
 unfolding digit pick
 feed-no-digit = refl
 
-pub feed-told : commented true lineFeed ≡ false
+pub feed-uncommented : commented true lineFeed ≡ false
 unfolding commented pick
-feed-told = refl
+feed-uncommented = refl
 
-pub sign-told : commented false numberSign ≡ true
+pub sign-commented : commented false numberSign ≡ true
 unfolding commented pick
-sign-told = refl
+sign-commented = refl
 
 -- a digit begins no comment
-pub digit-told : (c : ℕ) → digit c < 16 → commented false c ≡ false
+pub digit-uncommented : (c : ℕ) → digit c < 16 → commented false c ≡ false
 unfolding commented
-digit-told c h =
+digit-uncommented c h =
     let other : eqb c numberSign ≡ false = ne-eqb c numberSign (λ e. absurd (omega (arith, ap digit e, sign-no-digit))) in
     pick-false _ _ _ other ∙ pick-same (eqb c lineFeed) false
 
@@ -100,9 +100,9 @@ white-is P space tab return feed c e =
 
 -- ---- digits and bytes
 
-digit-goes : (c : ℕ) (l : List ℕ) → digit c < 16 → worths (told false (c ∷ l)) ≡ digit c ∷ worths (told false l)
-unfolding told worths
-digit-goes c l h = rw (pick-false _ _ _ (digit-told c h)) (pick-true _ _ _ (lt-ltb (digit c) 16 h))
+digit-goes : (c : ℕ) (l : List ℕ) → digit c < 16 → worths (uncommented false (c ∷ l)) ≡ digit c ∷ worths (uncommented false l)
+unfolding uncommented worths
+digit-goes c l h = rw (pick-false _ _ _ (digit-uncommented c h)) (pick-true _ _ _ (lt-ltb (digit c) 16 h))
 
 byte-goes : (small : Bool) (b : ℕ) (l : List ℕ) → b < 256 → bytesOf (two small b ++ l) ≡ b ∷ bytesOf l
 unfolding bytesOf digitsOf paired
@@ -113,11 +113,11 @@ byte-goes small b l h =
     rw (digit-goes (letter small (b / 16)) (letter small (b % 16) ∷ l) (omega arith), digit-goes (letter small (b % 16)) l (omega arith), high, low, whole)
 
 feed-goes : (l : List ℕ) → bytesOf (lineFeed ∷ l) ≡ bytesOf l
-unfolding bytesOf digitsOf told worths commented digit pick
+unfolding bytesOf digitsOf uncommented worths commented digit pick
 feed-goes l = refl
 
 none-goes : bytesOf [] ≡ []
-unfolding bytesOf digitsOf told worths paired
+unfolding bytesOf digitsOf uncommented worths paired
 none-goes = refl
 
 -- bytes that are written in the plain form are read back
@@ -141,16 +141,16 @@ abbrev pub commentedAfter : Bool → List ℕ → Bool
 commentedAfter x [] = x
 commentedAfter x (c ∷ l) = commentedAfter (commented x c) l
 
-told-one : (y : Bool) (c : ℕ) (a b : List ℕ) → ((x : Bool) → told x (a ++ b) ≡ told x a ++ told (commentedAfter x a) b)
-    → pick y (told true (a ++ b)) (c ∷ told false (a ++ b)) ≡ pick y (told true a) (c ∷ told false a) ++ told (commentedAfter y a) b
+uncommented-one : (y : Bool) (c : ℕ) (a b : List ℕ) → ((x : Bool) → uncommented x (a ++ b) ≡ uncommented x a ++ uncommented (commentedAfter x a) b)
+    → pick y (uncommented true (a ++ b)) (c ∷ uncommented false (a ++ b)) ≡ pick y (uncommented true a) (c ∷ uncommented false a) ++ uncommented (commentedAfter y a) b
 unfolding pick
-told-one true c a b each = each true
-told-one false c a b each = ap (λ (l : List ℕ). c ∷ l) (each false)
+uncommented-one true c a b each = each true
+uncommented-one false c a b each = ap (λ (l : List ℕ). c ∷ l) (each false)
 
-pub told-parts : (a b : List ℕ) (x : Bool) → told x (a ++ b) ≡ told x a ++ told (commentedAfter x a) b
-unfolding told
-told-parts [] b x = refl
-told-parts (c ∷ a) b x = told-one (commented x c) c a b (told-parts a b)
+pub uncommented-parts : (a b : List ℕ) (x : Bool) → uncommented x (a ++ b) ≡ uncommented x a ++ uncommented (commentedAfter x a) b
+unfolding uncommented
+uncommented-parts [] b x = refl
+uncommented-parts (c ∷ a) b x = uncommented-one (commented x c) c a b (uncommented-parts a b)
 
 worths-one : (y : Bool) (d : ℕ) (a b : List ℕ) → worths (a ++ b) ≡ worths a ++ worths b
     → pick y (d ∷ worths (a ++ b)) (worths (a ++ b)) ≡ pick y (d ∷ worths a) (worths a) ++ worths b
@@ -169,34 +169,34 @@ unfolding commented
 comment-goes c other =
     ap (λ (x : Bool). pick (eqb c numberSign) true x) (pick-false _ _ _ (ne-eqb c lineFeed other)) ∙ pick-same (eqb c numberSign) true
 
-words-told : (words b : List ℕ) → OneLine words → told true (words ++ (lineFeed ∷ b)) ≡ lineFeed ∷ told false b
-unfolding told
-words-told [] b all = feed-ends
+words-uncommented : (words b : List ℕ) → OneLine words → uncommented true (words ++ (lineFeed ∷ b)) ≡ lineFeed ∷ uncommented false b
+unfolding uncommented
+words-uncommented [] b all = feed-ends
   where
-    feed-ends : pick (commented true lineFeed) (told true b) (lineFeed ∷ told false b) ≡ lineFeed ∷ told false b
-    feed-ends = pick-false _ _ _ feed-told
-words-told (c ∷ words) b all = pick-true _ _ _ (comment-goes c (all .0)) ∙ words-told words b (all .1)
+    feed-ends : pick (commented true lineFeed) (uncommented true b) (lineFeed ∷ uncommented false b) ≡ lineFeed ∷ uncommented false b
+    feed-ends = pick-false _ _ _ feed-uncommented
+words-uncommented (c ∷ words) b all = pick-true _ _ _ (comment-goes c (all .0)) ∙ words-uncommented words b (all .1)
 
 -- a comment, with the end of its line, has no byte
-comment-worths : (words b : List ℕ) → OneLine words → worths (told false (comment words ++ b)) ≡ worths (told false b)
-unfolding told worths
+comment-worths : (words b : List ℕ) → OneLine words → worths (uncommented false (comment words ++ b)) ≡ worths (uncommented false b)
+unfolding uncommented worths
 comment-worths words b all =
-    rw (pick-true _ _ _ sign-told, append-assoc words (lineFeed ∷ []) b, words-told words b all) (pick-false _ _ _ (le-ltb (digit lineFeed) 16 (omega (arith, feed-no-digit))))
+    rw (pick-true _ _ _ sign-commented, append-assoc words (lineFeed ∷ []) b, words-uncommented words b all) (pick-false _ _ _ (le-ltb (digit lineFeed) 16 (omega (arith, feed-no-digit))))
 
 -- a comment that begins outside any comment, even within a byte, changes no byte
 pub comment-bytes : (a words b : List ℕ) → commentedAfter false a ≡ false → OneLine words
     → bytesOf (a ++ (comment words ++ b)) ≡ bytesOf (a ++ b)
 unfolding bytesOf digitsOf
 comment-bytes a words b outside all =
-    rw (told-parts a (comment words ++ b) false, told-parts a b false, outside, worths-parts (told false a), worths-parts (told false a), comment-worths words b all)
+    rw (uncommented-parts a (comment words ++ b) false, uncommented-parts a b false, outside, worths-parts (uncommented false a), worths-parts (uncommented false a), comment-worths words b all)
 
 -- ---- sizes
 
-told-size : (l : List ℕ) (x : Bool) → length (told x l) ≤ length l
-unfolding told
-told-size [] x = omega arith
-told-size (c ∷ l) x =
-    pick-either (λ (r : List ℕ). length r ≤ suc (length l)) (commented x c) _ _ (omega (arith, told-size l true)) (omega (arith, told-size l false))
+uncommented-size : (l : List ℕ) (x : Bool) → length (uncommented x l) ≤ length l
+unfolding uncommented
+uncommented-size [] x = omega arith
+uncommented-size (c ∷ l) x =
+    pick-either (λ (r : List ℕ). length r ≤ suc (length l)) (commented x c) _ _ (omega (arith, uncommented-size l true)) (omega (arith, uncommented-size l false))
 
 worths-size : (l : List ℕ) → length (worths l) ≤ length l
 unfolding worths
@@ -213,4 +213,4 @@ pair-count (a ∷ b ∷ l) = let e : length (paired l) ≡ length l / 2 = pair-c
 -- a text has at most half as many bytes as characters
 pub bytes-size : (text : List ℕ) → 2 * length (bytesOf text) ≤ length text
 unfolding bytesOf digitsOf
-bytes-size text = omega (arith, pair-count (worths (told false text)), worths-size (told false text), told-size text false)
+bytes-size text = omega (arith, pair-count (worths (uncommented false text)), worths-size (uncommented false text), uncommented-size text false)

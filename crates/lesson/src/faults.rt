@@ -13,6 +13,9 @@ pub(crate) struct Reading {
     pub(crate) comment: bool,
 }
 
+// Of the eight digits of a record, counted from 0.
+const LAST_DIGIT: u8 = 7;
+
 pub(crate) const START: Reading = Reading {
     digits: 0,
     cut: false,
@@ -43,7 +46,7 @@ impl Reading {
     fn counted(self) -> u8
         ensures { λ r. ⌜ r ≡ next (self .digits) ⌝ }
     {
-        if self.digits < 7 {
+        if self.digits < LAST_DIGIT {
             return self.digits + 1;
         }
         0

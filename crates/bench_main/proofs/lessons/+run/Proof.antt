@@ -1,3 +1,4 @@
+use lib.ListN.{length-take}
 use native.Mathlib.Omega.{arith}
 use lib.Seq.{length-take-le}
 use mathlib.Core.Path.{sym}
@@ -136,7 +137,8 @@ run-slice-aggregate-play-text : (t : ℕ) → run-lts.Need-slice-aggregate-play-
 run-slice-aggregate-play-text t c = sym (length-take-le _ _ (omega (arith, c .before .before .before .before .read-on .ensures, c .before .before .before .before .read-on .kept)))
 
 run-play-text-requires : (t : ℕ) → run-lts.Need-play-text-requires (callees t) (run-at t) run.Post
-run-play-text-requires t c κs = search needs
+run-play-text-requires t c κs =
+    simp length-take (omega (arith, c .before .before .before .before .read-on .ensures, c .before .before .before .before .read-on .kept))
 
 run-slice-aggregate-play-long : (t : ℕ) → run-lts.Need-slice-aggregate-play-long (callees t) (run-at t) run.Post
 run-slice-aggregate-play-long t c = search needs

@@ -1,3 +1,4 @@
+use lib.ListN.{length-take}
 use lib.Seq.{length-take-le}
 use mathlib.Core.Path.{sym}
 use native.Mathlib.Omega.{arith}
@@ -39,7 +40,8 @@ slice-aggregate-play-text : tie.Need-slice-aggregate-play-text
 slice-aggregate-play-text c = sym (length-take-le _ _ (omega (arith, c .before .before .before .before .read-on .ensures, c .before .before .before .before .read-on .kept)))
 
 play-text-requires : tie.Need-play-text-requires
-play-text-requires c κs = search needs
+play-text-requires c κs =
+    simp length-take (omega (arith, c .before .before .before .before .read-on .ensures, c .before .before .before .before .read-on .kept))
 
 returns-3 : tie.Need-returns-3
 returns-3 c = search needs
