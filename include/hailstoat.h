@@ -252,8 +252,8 @@ enum hailstoat_port {
 #define HAILSTOAT_MARK_FRAMING 0x02
 #define HAILSTOAT_MARK_BREAK 0x04
 
-/* ---- the bits of registers; those without a name are read back, or are 0, and
-   do nothing else */
+/* ---- the bits of registers; those without a name do nothing: of IER and MCR
+   they read 0, of LCR as written, and FCR is never read */
 
 /* IER: the causes that are let through. */
 #define HAILSTOAT_IER_DATA 0x01

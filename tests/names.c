@@ -1,48 +1,21 @@
-/* The header's names for registers, bits, marks, levels and words: a bench is
-   worked by them alone, and answers by them as document 01 says. */
+/* The header's names for registers, bits, marks, levels and refusals: a bench
+   is worked by them alone, and answers by them as document 01 says. */
 #include "names.h"
 
 #include <stdio.h>
 #include <string.h>
 
+#include "by_name.h"
 #include "compare.h"
+#include "controller_names.h"
 
 #define IDLE_LSR (HAILSTOAT_LSR_HOLDING_EMPTY | HAILSTOAT_LSR_EMPTY)
 #define FIFO_IIR(cause) (HAILSTOAT_IIR_FIFO | (cause))
 #define EVERY_CAUSE (HAILSTOAT_IER_DATA | HAILSTOAT_IER_HOLDING_EMPTY | HAILSTOAT_IER_LINE_STATUS | HAILSTOAT_IER_MODEM)
-#define BASE 0x40
-
-static struct hailstoat_bench bench;
-
-static void is(const char *what, unsigned got, unsigned wanted)
-{
-    if (got == wanted)
-        return;
-    fprintf(stderr, "%s is %03X, not %03X: ", what, got, wanted);
-    fail("a name does not mean what it says");
-}
-
-static unsigned play(uint32_t kind, uint32_t seat, uint32_t number, unsigned value)
-{
-    uint64_t word = hailstoat_event(&bench, kind, seat, number, (uint8_t)value);
-    if (hailstoat_word_refusal(word) != HAILSTOAT_ACCEPTED)
-        fail(hailstoat_refusal_words(hailstoat_word_refusal(word)));
-    return hailstoat_word_answer(word);
-}
-
-static void is_refused(const char *what, uint32_t kind, uint32_t number, unsigned value, unsigned refusal)
-{
-    is(what, hailstoat_word_refusal(hailstoat_event(&bench, kind, 0, number, (uint8_t)value)), refusal);
-}
 
 static void reads(const char *what, uint32_t number, unsigned wanted)
 {
     is(what, play(HAILSTOAT_READ_REGISTER, 0, number, 0), wanted);
-}
-
-static void writes(uint32_t seat, uint32_t number, unsigned byte)
-{
-    play(HAILSTOAT_WRITE_REGISTER, seat, number, byte);
 }
 
 static void arrives(unsigned marks, unsigned byte)
@@ -53,15 +26,6 @@ static void arrives(unsigned marks, unsigned byte)
 static void time_passes(const char *what, unsigned wanted)
 {
     is(what, play(HAILSTOAT_CHARACTER_TIME, 0, 0, 0), wanted);
-}
-
-/* From power-up: a divisor, and eight bits with parity. */
-static void set_up(uint32_t seat)
-{
-    writes(seat, HAILSTOAT_LCR, HAILSTOAT_LCR_DIVISOR);
-    writes(seat, HAILSTOAT_DLL, 12);
-    writes(seat, HAILSTOAT_DLM, 0);
-    writes(seat, HAILSTOAT_LCR, HAILSTOAT_LCR_8_BITS | HAILSTOAT_LCR_PARITY);
 }
 
 static void divisor_and_scratch(void)
@@ -192,13 +156,25 @@ static void modem_outputs(void)
     for (uint32_t seat = 0; seat < HAILSTOAT_SEATS; seat += 1) {
         writes(seat, HAILSTOAT_MCR, 1U << seat % 4);
         is("MCR", play(HAILSTOAT_READ_REGISTER, seat, HAILSTOAT_MCR, 0), bits[seat % 4]);
-        is("the modem outputs", hailstoat_word_answer(hailstoat_modem_outputs(&bench, seat)), bits[seat % 4]);
+        is("the modem outputs", hailstoat_word_answer(hailstoat_modem_outputs(&worked, seat)), bits[seat % 4]);
     }
     is_refused("MCR_LOOP", HAILSTOAT_WRITE_REGISTER, HAILSTOAT_MCR, HAILSTOAT_MCR_LOOP, HAILSTOAT_NOT_SERVED);
-    is("seat 8", hailstoat_word_refusal(hailstoat_modem_outputs(&bench, 8)), HAILSTOAT_SEAT_ABOVE);
-    is("seat 258", hailstoat_word_refusal(hailstoat_modem_outputs(&bench, 258)), HAILSTOAT_SEAT_ABOVE);
+    is("seat 8", hailstoat_word_refusal(hailstoat_modem_outputs(&worked, 8)), HAILSTOAT_SEAT_ABOVE);
+    is("seat 258", hailstoat_word_refusal(hailstoat_modem_outputs(&worked, 258)), HAILSTOAT_SEAT_ABOVE);
     play(HAILSTOAT_MASTER_RESET, 0, 0, 0);
-    is("the modem outputs after a master reset", hailstoat_word_answer(hailstoat_modem_outputs(&bench, 3)), 0);
+    is("the modem outputs after a master reset", hailstoat_word_answer(hailstoat_modem_outputs(&worked, 3)), 0);
+}
+
+/* They do nothing: of IER and MCR they read 0, of LCR as written. */
+static void bits_without_a_name(void)
+{
+    set_up(0);
+    writes(0, HAILSTOAT_IER, 0xF0);
+    reads("IER's bits without a name", HAILSTOAT_IER, 0);
+    writes(0, HAILSTOAT_MCR, 0xE0);
+    reads("MCR's bits without a name", HAILSTOAT_MCR, 0);
+    writes(0, HAILSTOAT_LCR, 0x34);
+    reads("LCR's bits without a name", HAILSTOAT_LCR, 0x34);
 }
 
 static void all_refusals_have_words(void)
@@ -217,126 +193,10 @@ static void all_refusals_have_words(void)
     is("HAILSTOAT_SHORT", HAILSTOAT_SHORT, 4);
 }
 
-/* ---- the controller */
-
-static void command(unsigned byte)
-{
-    play(HAILSTOAT_WRITE_CONTROLLER, 0, HAILSTOAT_PORT_COMMAND, byte);
-}
-
-static void initialise(unsigned icw1, unsigned icw4)
-{
-    hailstoat_power_up(&bench);
-    command(HAILSTOAT_ICW1 | HAILSTOAT_ICW1_SINGLE | HAILSTOAT_ICW1_ICW4 | icw1);
-    play(HAILSTOAT_WRITE_CONTROLLER, 0, HAILSTOAT_PORT_MASK, BASE);
-    play(HAILSTOAT_WRITE_CONTROLLER, 0, HAILSTOAT_PORT_MASK, HAILSTOAT_ICW4_8086 | icw4);
-    command(HAILSTOAT_OCW3 | HAILSTOAT_OCW3_SELECTS | HAILSTOAT_OCW3_SERVICE);
-}
-
-/* A seat's line goes high. */
-static void raise_line(uint32_t seat)
-{
-    set_up(seat);
-    writes(seat, HAILSTOAT_MCR, HAILSTOAT_MCR_OUT2);
-    writes(seat, HAILSTOAT_IER, HAILSTOAT_IER_DATA);
-    play(HAILSTOAT_ARRIVAL, seat, 0, 1);
-}
-
-static void port_0_is(const char *what, unsigned wanted)
-{
-    is(what, play(HAILSTOAT_READ_CONTROLLER, 0, HAILSTOAT_PORT_COMMAND, 0), wanted);
-}
-
-static void acknowledge_is(unsigned wanted)
-{
-    is("the acknowledge", play(HAILSTOAT_ACKNOWLEDGE, 0, 0, 0), wanted);
-}
-
-static void place_is(const char *what, uint32_t line, unsigned wanted)
-{
-    is(what, hailstoat_word_answer(hailstoat_place(&bench, line)), wanted);
-}
-
-/* Line 3 is in service; then the command, what is in service, and the places of line 3 and line 5. */
-static void ends(const char *what, unsigned ocw2, unsigned service, unsigned place_3, unsigned place_5)
-{
-    initialise(0, 0);
-    raise_line(3);
-    acknowledge_is(BASE + 3);
-    port_0_is("in-service", 1U << 3);
-    command(ocw2);
-    port_0_is(what, service);
-    place_is(what, 3, place_3);
-    place_is(what, 5, place_5);
-}
-
-static void commands(void)
-{
-    ends("OCW2_END", HAILSTOAT_OCW2_END, 0, 3, 5);
-    ends("OCW2_END_ROTATING", HAILSTOAT_OCW2_END_ROTATING, 0, 7, 1);
-    ends("OCW2_END_LINE 3", HAILSTOAT_OCW2_END_LINE | 3, 0, 3, 5);
-    ends("OCW2_END_LINE 5", HAILSTOAT_OCW2_END_LINE | 5, 1U << 3, 3, 5);
-    ends("OCW2_END_LINE_ROTATING 3", HAILSTOAT_OCW2_END_LINE_ROTATING | 3, 0, 7, 1);
-    ends("OCW2_MAKE_LAST 5", HAILSTOAT_OCW2_MAKE_LAST | 5, 1U << 3, 5, 7);
-}
-
-static void automatic_end(void)
-{
-    initialise(0, HAILSTOAT_ICW4_AUTOMATIC);
-    command(HAILSTOAT_OCW2_ROTATION_ON);
-    raise_line(3);
-    acknowledge_is(BASE + 3);
-    port_0_is("in-service with automatic end", 0);
-    place_is("with OCW2_ROTATION_ON, line 3", 3, 7);
-    command(HAILSTOAT_OCW2_ROTATION_OFF);
-    raise_line(5);
-    acknowledge_is(BASE + 5);
-    place_is("with OCW2_ROTATION_OFF, line 5", 5, 1);
-}
-
-static void modes(void)
-{
-    initialise(0, 0);
-    raise_line(3);
-    command(HAILSTOAT_OCW3 | HAILSTOAT_OCW3_SELECTS);
-    port_0_is("requests", 1U << 3);
-    acknowledge_is(BASE + 3);
-    command(HAILSTOAT_OCW2_END);
-    is("the output in edge mode, the line still high", hailstoat_output(&bench), 0);
-    acknowledge_is(0x100 + BASE + 7);
-    initialise(HAILSTOAT_ICW1_LEVEL, 0);
-    raise_line(3);
-    acknowledge_is(BASE + 3);
-    command(HAILSTOAT_OCW2_END);
-    is("the output in level mode, the line still high", hailstoat_output(&bench), 1);
-    is_refused("OCW3_POLL", HAILSTOAT_WRITE_CONTROLLER, HAILSTOAT_PORT_COMMAND, HAILSTOAT_OCW3 | HAILSTOAT_OCW3_POLL,
-               HAILSTOAT_NOT_SERVED);
-}
-
-/* Line 3 is in service and masked, and line 5 stands. */
-static void special_mask(void)
-{
-    initialise(0, 0);
-    raise_line(3);
-    acknowledge_is(BASE + 3);
-    play(HAILSTOAT_WRITE_CONTROLLER, 0, HAILSTOAT_PORT_MASK, 1U << 3);
-    raise_line(5);
-    is("the output without special mask", hailstoat_output(&bench), 0);
-    command(HAILSTOAT_OCW3 | HAILSTOAT_OCW3_SETS_SPECIAL | HAILSTOAT_OCW3_SPECIAL);
-    is("the output with special mask", hailstoat_output(&bench), 1);
-    command(HAILSTOAT_OCW3 | HAILSTOAT_OCW3_SETS_SPECIAL);
-    is("the output with special mask off again", hailstoat_output(&bench), 0);
-}
-
 void names_mean(void)
 {
     static void (*const parts[])(void) = {divisor_and_scratch, line_status, queues, triggers, causes, levels, sending,
-                                          modem_outputs, all_refusals_have_words, commands, automatic_end, modes,
-                                          special_mask};
-    size_t count = sizeof parts / sizeof parts[0];
-    for (size_t i = 0; i < count; i += 1) {
-        hailstoat_power_up(&bench);
-        parts[i]();
-    }
+                                          modem_outputs, bits_without_a_name, all_refusals_have_words};
+    size_t count = each_from_power_up(parts, sizeof parts / sizeof parts[0]) + controller_names_mean();
     printf("names: %zu ways to work a bench by them, each as document 01 has it\n", count);
 }

@@ -14,11 +14,11 @@
 static const uint32_t past[] = {0x100, 0x10000, 0x80000000, UINT32_MAX};
 #define PASTS (sizeof past / sizeof past[0])
 
-static void widen(struct event *e, unsigned long turn)
+static void widen(struct event *e, unsigned long at)
 {
-    uint32_t by = past[turn / 3 % PASTS];
+    uint32_t by = past[at / 3 % PASTS];
     unsigned *const numbers[] = {&e->kind, &e->seat, &e->number};
-    unsigned *number = numbers[turn % 3];
+    unsigned *number = numbers[at % 3];
     *number = *number > UINT32_MAX - by ? UINT32_MAX : *number + by;
 }
 

@@ -10,6 +10,7 @@ use Rattle.records.specs.Events.{whole, early}
 use Rattle.embed.specs.Word.{wordOf, vectorIn, spuriousIn}
 use Rattle.embed.specs.Numbers.{asByte}
 use Rattle.embed.specs.Outputs.{outputs}
+use Rattle.embed.specs.Version.{versionOf}
 use Rattle.embed.specs.Bytes.{benchBytes}
 
 -- `undone`: the refusal stands above the answer's four digits
@@ -35,6 +36,20 @@ seat-258-refused = refl
 outputs-of-out1 : outputs 0x04 ≡ 0x04
 unfolding outputs bits bit digit pick
 outputs-of-out1 = refl
+
+-- `outputs-low`: RTS, OUT2 and the loop bit
+outputs-of-1A : outputs 0x1A ≡ 0x0A
+unfolding outputs bits bit digit pick
+outputs-of-1A = refl
+
+-- `outputs-low`: RTS, and the loop bit without OUT2
+outputs-of-12 : outputs 0x12 ≡ 0x02
+unfolding outputs bits bit digit pick
+outputs-of-12 = refl
+
+-- `minor-back`: version 1.2.3
+version-of-1-2-3 : versionOf 1 2 3 ≡ 10203
+version-of-1-2-3 = refl
 
 -- `spurious-back`: "147"
 vector-of-147 : vectorIn (wordOf (Spurious 0x47) false) ≡ 0x47

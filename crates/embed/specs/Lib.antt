@@ -7,4 +7,5 @@ pub mod Zeroed
 pub mod WordLaws
 pub mod NumberLaws
 pub mod OutputsLaws
+pub mod VersionLaws
 pub mod ZeroedLaws

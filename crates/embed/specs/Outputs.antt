@@ -10,16 +10,21 @@ use Rattle.records.specs.Events.{seatAbove}
 use Rattle.bench.specs.declared.Bench.{Bench}
 use Rattle.bench.specs.Seats.{seat}
 
--- an output is active where its bit of MCR is set
+-- An output is active where its bit is set; document 004: ‘The modem control outputs (DTR, RTS, OUT1, and OUT2)’, ‘the lower four MCR bits’.
+
+-- document 003, Table 5: ‘0 Data terminal ready (DTR)’; document 004: ‘When MCR0 is set, the DTR output is forced low.’
 abbrev pub dtr : ℕ → Bool
 dtr mcr = bit 0 mcr
 
+-- document 003, Table 5: ‘1 Request to send (RTS)’; document 004: ‘When MCR1 is set, the RTS output is forced low.’
 abbrev pub rts : ℕ → Bool
 rts mcr = bit 1 mcr
 
+-- document 003, Table 5: ‘2 Not used’; document 004: ‘MCR2 has no effect on operation.’
 abbrev pub out1 : ℕ → Bool
 out1 mcr = bit 2 mcr
 
+-- document 003, Table 5: ‘3 Interrupt enable’; document 004: ‘When MCR3 is set, the external serial channel interrupt is enabled.’
 abbrev pub out2 : ℕ → Bool
 out2 mcr = bit 3 mcr
 

@@ -1,6 +1,10 @@
 -- The version of the library as one number, which C can compare before it compiles.
 use Prim.Native.Nat.{ℕ, _+_, _*_}
 
+-- two digits each for minor and patch, and the rest for major
+abbrev pub versionOf : ℕ → ℕ → ℕ → ℕ
+versionOf major minor patch = major * 10000 + minor * 100 + patch
+
 abbrev major : ℕ
 major = 1
 
@@ -11,4 +15,4 @@ abbrev patch : ℕ
 patch = 0
 
 abbrev pub version : ℕ
-version = major * 10000 + minor * 100 + patch
+version = versionOf major minor patch

@@ -54,7 +54,7 @@ fn as_byte(n: u32) -> u8
     if n < LAST_BYTE {
         return n as u8;
     }
-    255
+    LAST_BYTE as u8
 }
 
 fn word(answer: Answer, output: bool) -> u64

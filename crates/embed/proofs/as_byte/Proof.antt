@@ -11,9 +11,12 @@ returns : tie.Need-returns
 unfolding asByte
 returns c = search tests
 
+cast-result-2 : tie.Need-cast-result-2
+cast-result-2 c = search needs
+
 returns-2 : tie.Need-returns-2
 unfolding asByte
 returns-2 c = search tests
 
 pub as-byte-spec : {M : Type 1} → statement M
-as-byte-spec = tie.close (tie.spec cast-result returns returns-2)
+as-byte-spec = tie.close (tie.spec cast-result returns cast-result-2 returns-2)

@@ -3,10 +3,10 @@ use mathlib.Core.Bool.{Bool, false}
 use mathlib.Core.List.{[], _∷_}
 use mathlib.Core.Path.{_≡_, ap, subst, sym, _∙_}
 use borrow.Author.Needs.{needs}
-use Rattle.base.specs.Bits.{bit, bits}
+use Rattle.base.specs.Bits.{bits}
 use Rattle.base.specs.declared.Answer.{Answer}
 use Rattle.base.specs.declared.Answer.the-variants.{Byte}
-use Rattle.embed.specs.Outputs.{outputs}
+use Rattle.embed.specs.Outputs.{dtr, rts, out1, out2, outputs}
 use Rattle.embed.specs.OutputsLaws.{outputs-told, outputs-refused}
 use Rattle.embed.specs.Word.{Tells}
 use Rattle.embed.proofs.outputs_word.Statement.{statement}
@@ -33,8 +33,8 @@ word-requires c κs = search needs
 word-requires-2 : tie.Need-word-requires-2
 word-requires-2 c κs = search needs
 
--- the four bits, each by what it equals
-told : (mcr r : ℕ) (a b c d : Bool) → a ≡ bit 0 mcr → b ≡ bit 1 mcr → c ≡ bit 2 mcr → d ≡ bit 3 mcr → r ≡ bits (a ∷ b ∷ c ∷ d ∷ []) → r ≡ outputs mcr
+-- the four outputs, each by what it equals
+told : (mcr r : ℕ) (a b c d : Bool) → a ≡ dtr mcr → b ≡ rts mcr → c ≡ out1 mcr → d ≡ out2 mcr → r ≡ bits (a ∷ b ∷ c ∷ d ∷ []) → r ≡ outputs mcr
 unfolding outputs
 told mcr r a b c d ea eb ec ed er = rw (er, ea, eb, ec, ed)
 
