@@ -2,7 +2,7 @@
 
 # How many crates a crate needs, itself among them.
 crates_needed() {
-    awk -v top="$1" '
+    awk -v crate="$1" '
         function visit(name,    names, count, each) {
             if (name in seen || !(name in below)) return
             seen[name]
@@ -12,7 +12,7 @@ crates_needed() {
         }
         { sub(/#.*/, "") }
         at = index($0, ":") { name = substr($0, 1, at - 1); gsub(/[ \t]/, "", name); below[name] = substr($0, at + 1) }
-        END { visit(top); print needed + 0 }' "$top/crates.txt"
+        END { visit(crate); print needed + 0 }' "$top/crates.txt"
 }
 
 # Of all that rt says, a line for each crate that it proves, with the time gone by since the start. What has not changed

@@ -14,7 +14,9 @@ RT = f"""#!/bin/sh
 case $1 in
 version) echo kit 9 ;;
 fmt) [ -z "$UNTIDY" ] ;;
-ci) echo proving; $SEEN; mkdir -p target/bin; : >target/bin/bench_main; [ -z "$UNPROVED" ] && echo "{VERDICT}" || {{ echo "6 passed, 1 failed"; exit 1; }} ;;
+ci)
+    echo proving; $SEEN; mkdir -p target/bin; : >target/bin/bench_main
+    [ -z "$UNPROVED" ] && echo "{VERDICT}" || {{ echo "6 passed, 1 failed"; exit 1; }} ;;
 esac
 """
 
