@@ -1,10 +1,14 @@
 """What the tests of the scripts share: a small repository in a temporary folder."""
+import contextlib
+import fcntl
+import os
 import shutil
 import tempfile
 import unittest
 from pathlib import Path
 
 TOP = Path(__file__).resolve().parent.parent
+
 
 class Room(unittest.TestCase):
     def setUp(self):
@@ -38,3 +42,13 @@ class Room(unittest.TestCase):
     def no_toolchain(self):
         """The kit at its usual place is not seen."""
         self.script("tools/find-rt", (TOP / "tools/find-rt").read_text("utf-8").replace("/opt/rattle", f"{self.root}/none"))
+
+    @contextlib.contextmanager
+    def other_build(self):
+        """Another build goes on in the tree meanwhile."""
+        tree = os.open(self.root / "crates", os.O_RDONLY)
+        try:
+            fcntl.flock(tree, fcntl.LOCK_EX)
+            yield
+        finally:
+            os.close(tree)

@@ -28,9 +28,9 @@ skip() {
 }
 
 # One build of the tree at a time; who waits may find built what it needs. All that a build starts holds the lock with it, so
-# that nobody builds beside what is left of one that was killed. It is on a file outside target/, which rt ci removes.
+# that nobody builds beside what is left of one that was killed. It is on a folder outside target/, which rt ci removes.
 take_turn() {
-    exec 9<"$top/crates.txt"
+    exec 9<"$top/crates"
     flock -n 9 && return
     tell "another build is going on in this tree; waiting for its end"
     flock 9

@@ -1,5 +1,4 @@
 """Tests of bench: how it has the program proved and built, and where it need not."""
-import fcntl
 import os
 import shutil
 import signal
@@ -66,8 +65,7 @@ class Building(Start):
         """As rt ci does under the lock."""
         self.built()
         self.change("// changed")
-        with open(self.root / "crates.txt", encoding="utf-8") as tree:
-            fcntl.flock(tree, fcntl.LOCK_EX)
+        with self.other_build():
             running = self.started("lesson.hex")
             self.says(running, WAITING)
             shutil.rmtree(self.root / "target")

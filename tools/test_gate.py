@@ -1,5 +1,4 @@
 """Tests of tools/test, with a stand-in for the toolchain: what it runs, in which order, and where it stops; and of its first check."""
-import fcntl
 import os
 import re
 import subprocess
@@ -122,15 +121,14 @@ class Gate(Room):
 
     def test_nobody_builds_while_it_is_proved(self):
         """And what is tried afterwards may build."""
-        self.script("bin/turn", "#!/bin/sh\nflock -n crates.txt echo free || echo taken\n")
+        self.script("bin/turn", "#!/bin/sh\nflock -n crates echo free || echo taken\n")
         for name in ("tools/before/20-turn", "tools/after/20-turn"):
             self.script(name, "#!/bin/sh\nturn\n")
         status, said = self.run_it(SEEN="turn")
         self.assertEqual((status, [line for line in said if line in ("free", "taken")]), (0, ["free", "taken", "free"]))
 
     def test_it_waits_for_another_build(self):
-        with open(self.root / "crates.txt", encoding="utf-8") as tree:
-            fcntl.flock(tree, fcntl.LOCK_EX)
+        with self.other_build():
             running = self.started()
             self.addCleanup(running.wait)
             said = [running.stdout.readline()]
