@@ -1,11 +1,10 @@
 """Tests of tools/before/08-decisions: an entry without one of its parts fails, and so does a gap in the numbers."""
 import subprocess
 import unittest
-from pathlib import Path
 
-from room import Room
+from room import TOOLS, Room
 
-SCRIPT = Path(__file__).parent / "before/08-decisions"
+SCRIPT = TOOLS / "before/08-decisions"
 ENTRY = "**{}. Which lamp.** Two are at hand. *Choice:* the red one.\n*Why:* it burns. *Turned down:* the green one.\n\n"
 
 

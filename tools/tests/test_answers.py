@@ -4,16 +4,14 @@ samples/ has what the toolchain says of Queue::take where its proof file is miss
 words, with ROOT for the tree's folder, and in take.lts the places and the needs of its Lts.antt.
 """
 import unittest
-from pathlib import Path
 
 from contracts import Contract, functions, is_unfoldable
 from needs import Answer, Place, answer, known_at, walk_of
 from offers import answered, function_at, offers, source_of
-from room import Room
+from room import TOOLS, Room
 
-TOOLS = Path(__file__).parent
-SAID = (TOOLS / "samples/take.said").read_text("utf-8")
-LTS = (TOOLS / "samples/take.lts").read_text("utf-8")
+SAID = (TOOLS / "tests/samples/take.said").read_text("utf-8")
+LTS = (TOOLS / "tests/samples/take.lts").read_text("utf-8")
 
 SOURCE = """// A queue.
 ghost use mathlib.Core.Path.{_≡_};

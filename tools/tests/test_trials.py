@@ -2,11 +2,9 @@
 import os
 import platform
 import subprocess
-from pathlib import Path
 
-from room import Room
+from room import TOOLS, Room
 
-TOOLS = Path(__file__).parent
 
 # Writes its line for a stream, another for each set and start; from event AT on it counts one more. What it shows names them too.
 PROGRAM = """\

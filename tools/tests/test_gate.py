@@ -3,11 +3,9 @@ import os
 import re
 import subprocess
 import unittest
-from pathlib import Path
 
-from room import Room
+from room import TOOLS, Room
 
-TOOLS = Path(__file__).parent
 VERDICT = "7 passed, 0 failed"
 RT = f"""#!/bin/sh
 case $1 in
@@ -181,9 +179,10 @@ class Scripts(Room):
         self.copy("tools/before/00-tools", "tools/shell.sh")
 
     def lamp(self, line):
-        self.write("tools/test_lamp.py", f"import unittest\nclass Lamp(unittest.TestCase):\n    def test_on(self):\n        {line}\n")
+        self.write("tools/tests/test_lamp.py", f"import unittest\nclass Lamp(unittest.TestCase):\n    def test_on(self):\n        {line}\n")
 
     def test_there_must_be_tests(self):
+        self.write("tools/tests/lamp.py", "")
         status, said = self.run_it()
         self.assertEqual(status, 1)
         self.assertIn("Ran 0 tests", said)

@@ -1,11 +1,10 @@
 """Tests of tools/after/10-axioms: what a crate assumes is what the page has, no more and no less."""
 import subprocess
 import unittest
-from pathlib import Path
 
-from room import Room
+from room import TOOLS, Room
 
-SCRIPT = Path(__file__).parent / "after/10-axioms"
+SCRIPT = TOOLS / "after/10-axioms"
 PROVED = "logic=proved functions=2 sum=9 native=nat logic-built=trusted libraries-built=trusted\n"
 PAGE = "| Program | Assumes |\n|---|---|\n| `lamp_main` | libc 2, os 1 |\n"
 ASSUMED = "axioms libc: libc::read, libc::write (2 of the 50 declared)\naxioms os: os::c::arg (1 of the 10 declared)\n"

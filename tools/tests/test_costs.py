@@ -1,11 +1,10 @@
 """Tests of tools/costs without the prover: what is counted, and that measured figures are kept."""
 import subprocess
 import unittest
-from pathlib import Path
 
-from room import Room
+from room import TOOLS, Room
 
-COSTS = Path(__file__).with_name("costs")
+COSTS = TOOLS / "costs"
 
 FILES = {
     "crates.txt": "upper: lower io # a program\nlower:\n",

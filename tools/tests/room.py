@@ -1,13 +1,24 @@
 """What the tests of the scripts share: a small repository in a temporary folder."""
 import contextlib
 import fcntl
+import importlib.machinery
+import importlib.util
 import os
 import shutil
 import tempfile
 import unittest
 from pathlib import Path
 
-TOP = Path(__file__).resolve().parent.parent
+TOP = Path(__file__).resolve().parents[2]
+TOOLS = TOP / "tools"
+
+
+def load(name):
+    """A script of tools/ as a module."""
+    loader = importlib.machinery.SourceFileLoader(name, str(TOOLS / name))
+    module = importlib.util.module_from_spec(importlib.util.spec_from_loader(name, loader))
+    loader.exec_module(module)
+    return module
 
 
 class Room(unittest.TestCase):

@@ -1,15 +1,9 @@
 """tools/before/06-statements on a small tree."""
-import importlib.machinery
-import importlib.util
 import unittest
-from pathlib import Path
 
-from room import Room
+from room import Room, load
 
-PATH = Path(__file__).parent / "before/06-statements"
-LOADER = importlib.machinery.SourceFileLoader("statements", str(PATH))
-check = importlib.util.module_from_spec(importlib.util.spec_from_loader("statements", LOADER))
-LOADER.exec_module(check)
+check = load("before/06-statements")
 check.RECORDS = (("cups", "Statements"),)
 check.OWED = {"cups": ("Cups.Full",)}
 check.NO_STATEMENTS = {("cups", "Sip"): "a type"}

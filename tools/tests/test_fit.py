@@ -1,15 +1,9 @@
 """tools/before/04-edits on a small tree: an edit that fits passes, and each that does not is told."""
-import importlib.machinery
-import importlib.util
 import unittest
-from pathlib import Path
 
-from room import Room
+from room import Room, load
 
-PATH = Path(__file__).parent / "before/04-edits"
-LOADER = importlib.machinery.SourceFileLoader("fit", str(PATH))
-check = importlib.util.module_from_spec(importlib.util.spec_from_loader("fit", LOADER))
-LOADER.exec_module(check)
+check = load("before/04-edits")
 
 NAME = "crates/lamp/must-fail/dark_2_twin.edit"
 

@@ -1,15 +1,9 @@
 """tools/before/03-habits on small trees."""
-import importlib.machinery
-import importlib.util
 import unittest
-from pathlib import Path
 
-from room import Room
+from room import Room, load
 
-PATH = Path(__file__).parent / "before/03-habits"
-LOADER = importlib.machinery.SourceFileLoader("habits", str(PATH))
-habits = importlib.util.module_from_spec(importlib.util.spec_from_loader("habits", LOADER))
-LOADER.exec_module(habits)
+habits = load("before/03-habits")
 habits.UNCALLED = {}
 
 ROOMS = "cups:\nplates: cups\ntable: cups plates\n"

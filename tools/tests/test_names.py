@@ -1,16 +1,10 @@
 """tools/before/07-names on a small tree: what it holds together passes, and each thing that comes apart is told."""
-import importlib.machinery
-import importlib.util
 import unittest
-from pathlib import Path
 
-from room import Room
+from room import Room, load
 from small_manual import FILES, HELP, KINDS
 
-PATH = Path(__file__).parent / "before/07-names"
-LOADER = importlib.machinery.SourceFileLoader("names", str(PATH))
-check = importlib.util.module_from_spec(importlib.util.spec_from_loader("names", LOADER))
-LOADER.exec_module(check)
+check = load("before/07-names")
 
 
 class Names(Room):

@@ -1,14 +1,11 @@
 """tools/before/05-once on small trees."""
-import importlib.machinery
-import importlib.util
 import pathlib
 import tempfile
 import unittest
 
-PATH = pathlib.Path(__file__).parent / "before/05-once"
-LOADER = importlib.machinery.SourceFileLoader("once", str(PATH))
-once = importlib.util.module_from_spec(importlib.util.spec_from_loader("once", LOADER))
-LOADER.exec_module(once)
+from room import load
+
+once = load("before/05-once")
 
 SOURCE = """impl Cup {
     pub fn filled_to(self, mark: u8) -> Self

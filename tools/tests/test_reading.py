@@ -3,12 +3,11 @@ import contextlib
 import io
 import runpy
 import unittest
-from pathlib import Path
 
-from room import Room
+from room import TOOLS, Room
 
 # the script has no .py to its name and cannot be imported; within one process the tests take no time
-main = runpy.run_path(str(Path(__file__).with_name("reading")))["main"]
+main = runpy.run_path(str(TOOLS / "reading"))["main"]
 
 DOCUMENT = """\
 # A paper

@@ -2,13 +2,11 @@
 import shutil
 import subprocess
 import unittest
-from pathlib import Path
 
 import made
-from room import Room
+from room import TOOLS, Room
 from test_answers import MADE, SOURCE, SPECS
 
-TOOLS = Path(__file__).parent
 
 # Stands in for rt: it offers the file of Queue::take where that is missing, and writes the walk to the folder named last.
 RT = """#!/bin/sh
@@ -36,7 +34,7 @@ class Commands(Room):
         for name in ("answers", "made.py", "contracts.py", "source.py", "needs.py", "offers.py", "before/09-made"):
             self.script(f"tools/{name}", (TOOLS / name).read_text("utf-8"))
         self.script("tools/find-rt", '#!/bin/sh\necho "$(dirname "$0")/rt"\n')
-        self.script("tools/rt", RT.replace("SAMPLES", str(TOOLS / "samples")))
+        self.script("tools/rt", RT.replace("SAMPLES", str(TOOLS / "tests/samples")))
         self.write("crates.txt", "base:\nqueue: base\n")
         self.write("crates/queue/src/lib.rt", SOURCE)
         self.write("crates/queue/specs/Queue.antt", SPECS)
@@ -61,7 +59,7 @@ class Commands(Room):
         self.write("crates/queue/proofs/Queue/take/Proof.antt", "-- mine\n")
         for words in (["queue"], ["--again", "queue"]):
             self.assertEqual(self.run_it(*words), (0, "", ""))
-        self.script("tools/rt", RT.replace("SAMPLES", str(TOOLS / "samples")).replace("[ -e ", "[ -d "))
+        self.script("tools/rt", RT.replace("SAMPLES", str(TOOLS / "tests/samples")).replace("[ -e ", "[ -d "))
         self.assertEqual(self.run_it("queue"), (0, "", ""))
         self.assertEqual(self.proof.read_text("utf-8"), "-- mine\n")
 

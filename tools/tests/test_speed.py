@@ -6,12 +6,10 @@ import runpy
 import subprocess
 import sys
 import unittest
-from pathlib import Path
 from unittest import mock
 
-from room import Room
+from room import TOOLS, Room
 
-TOOLS = Path(__file__).parent
 
 # Works for a while, so that its time can be told, and leaves a mark of what it was asked for.
 SECOND = """\

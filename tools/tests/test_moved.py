@@ -5,12 +5,11 @@ import re
 import runpy
 import subprocess
 import unittest
-from pathlib import Path
 
-from room import Room
+from room import TOOLS, Room
 
 # the script has no .py to its name and cannot be imported
-main = runpy.run_path(str(Path(__file__).with_name("moved")))["main"]
+main = runpy.run_path(str(TOOLS / "moved"))["main"]
 
 SPECS = """\
 -- Lamps.
