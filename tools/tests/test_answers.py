@@ -172,7 +172,7 @@ class Needs(unittest.TestCase):
 
 
 class Offers(unittest.TestCase):
-    def lines(self, root="/srv/a b"):
+    def lines(self, root="a folder"):
         return offers(SAID.replace("ROOT", root), "queue")["Queue/take"]
 
     def test_the_offer_is_found_in_a_folder_with_spaces(self):

@@ -24,7 +24,7 @@ use Rattle.channel_laws.specs.ReadLaws.{read-at}
 -- ---- the settings after a write: one register has a new byte, and each other keeps its own
 
 -- the registers in document 01's order, for telling one from another
-abbrev ordinal : Register → ℕ
+abbrev pub ordinal : Register → ℕ
 ordinal RbrThr = 0
 ordinal Ier = 1
 ordinal IirFcr = 2

@@ -28,6 +28,7 @@ use Rattle.channel_laws.specs.IirLaws.{iir-clears}
 use Rattle.channel_laws.specs.ModeLaws.{fcr-sent, ier-sent}
 use Rattle.registers.specs.RefusalLaws.{accepts}
 use Rattle.channel_laws.specs.RefusalLaws.{done, refused}
+use Rattle.channel_laws.specs.BackLaws.{ordinal}
 use Rattle.channel_laws.specs.AgainLaws.{shows-lsr, named, named-is}
 use Rattle.channel_laws.specs.EmptyingLaws.{none-left}
 use Rattle.channel_laws.specs.ShiftLaws.{moved-flag}
@@ -72,24 +73,11 @@ quiet c d same kept =
 
 -- ---- register by register
 
--- a number for each register by name
-abbrev number : Register → ℕ
-number RbrThr = 0
-number Ier = 1
-number IirFcr = 2
-number Lcr = 3
-number Mcr = 4
-number Lsr = 5
-number Msr = 6
-number Scratch = 7
-number Dll = 8
-number Dlm = 9
-
 abbrev isThr : Register → Bool
-isThr r = eqb (number r) 0
+isThr r = eqb (ordinal r) 0
 
 abbrev isIir : Register → Bool
-isIir r = eqb (number r) 2
+isIir r = eqb (ordinal r) 2
 
 -- two tests that do not differ
 alike : (a b : Bool) → not (xor a b) ≡ true → a ≡ b
