@@ -1,20 +1,22 @@
 -- The search for a row, step by step, and what the row found says of the look-up.
 use Prim.Native.Nat.{ℕ, zero, suc, _+_, _<_, _≤_}
 use mathlib.Core.List.{List, [], _∷_}
+use mathlib.Core.Bool.{true, false}
 use mathlib.Core.Logic.{⊎-elim}
 use mathlib.Core.Path.{_≡_, refl, ap, sym, _∙_}
 use native.Mathlib.Nat.{not-suc-le-zero}
 use native.Mathlib.Numerals.{add-one}
 use native.Mathlib.Omega.{arith}
-use borrow.Author.Tests.{eq-eqb, ne-eqb}
-use lib.Dec.{eqb, lit≤}
-use lib.ListN.{length, getD, drop, drop-of-length-le}
+use borrow.Author.Tests.{eq-eqb, ne-eqb, ltb-true}
+use lib.Dec.{eqb, ltb, lit≤}
+use lib.ListN.{length, getD, drop, drop-of-length-le, List·getD-append}
 use lib.Seq.{drop-cons}
 use Rattle.base.specs.Pick.{pick}
 use Rattle.base.specs.PickLaws.{pick-true, pick-false, either-way}
-use Rattle.base.specs.declared.Answer.the-variants.{Divisor, Refused}
-use Rattle.rates.specs.Rates.{everywhere, ratesOf, first, second, third, divisorsOf, look, divisorOf}
+use Rattle.base.specs.declared.Answer.the-variants.{Divisor, Done, Refused}
+use Rattle.rates.specs.Rates.{everywhere, ratesOf, first, second, third, divisorsOf, look, divisorOf, rateIn, rateOf}
 use Rattle.rates.specs.Row.{rowOf}
+use Rattle.rates.specs.declared.Found.{Found}
 
 module _ (rate : ℕ) (rs : List ℕ) (i : ℕ) where
   pub row-here : i < length rs → getD rs i 0 ≡ rate → rowOf rate (drop i rs) ≡ 0
@@ -84,3 +86,35 @@ module _ (rate clock i : ℕ) (row : i ≡ rowOf rate (ratesOf 0)) where
 
   pub refused-at : length (divisorsOf clock) ≤ i → Refused 10 ≡ divisorOf rate clock
   refused-at behind = sym (look-missing rate (ratesOf 0) (divisorsOf clock) (omega arith)) ∙ by-first rate clock
+
+-- ---- the way back
+
+-- where a clock has a row, its rate there is the first clock's
+same-rates : (clock k : ℕ) → k < length (divisorsOf clock) → getD (ratesOf 0) k 0 ≡ getD (ratesOf clock) k 0
+unfolding ratesOf divisorsOf everywhere second third
+same-rates zero k inside = refl
+same-rates (suc zero) k inside = List·getD-append everywhere (560000 ∷ []) 0 k inside
+same-rates (suc (suc zero)) k inside = List·getD-append everywhere (560000 ∷ []) 0 k inside
+same-rates (suc (suc (suc clock))) k inside = absurd (not-suc-le-zero inside)
+
+pub rate-by-first : (divisor clock i : ℕ) (r : Found) → i ≡ rowOf divisor (divisorsOf clock) → r ≡ rateIn i (length (divisorsOf clock)) (ratesOf 0)
+    → r ≡ rateOf divisor clock
+unfolding rateOf rateIn
+rate-by-first divisor clock i r row told =
+    told
+    ∙ ⊎-elim
+    (λ (inside : ltb i (length (divisorsOf clock)) ≡ true).
+    pick-true _ _ _ inside
+    ∙ ap (λ (n : ℕ). record { answer = Done; rate = n }) (same-rates clock i (ltb-true _ _ inside))
+    ∙ sym (pick-true _ _ _ inside))
+    (λ (behind : ltb i (length (divisorsOf clock)) ≡ false). pick-false _ _ _ behind ∙ sym (pick-false _ _ _ behind))
+    (either-way (ltb i (length (divisorsOf clock))))
+    ∙ ap (λ (k : ℕ). rateIn k (length (divisorsOf clock)) (ratesOf clock)) row
+
+-- a clock that is none has no row
+pub rate-refused : (divisor clock : ℕ) → 3 ≤ clock → record { answer = Refused 10; rate = 0 } ≡ rateOf divisor clock
+unfolding rateOf rateIn rowOf divisorsOf pick
+rate-refused divisor zero above = absurd (not-suc-le-zero above)
+rate-refused divisor (suc zero) above = absurd (omega arith)
+rate-refused divisor (suc (suc zero)) above = absurd (omega arith)
+rate-refused divisor (suc (suc (suc clock))) above = refl

@@ -2,11 +2,14 @@
 use Prim.Native.Nat.{ℕ, zero, suc, _+_, _-_, _*_, _<_}
 use mathlib.Core.List.{List, [], _∷_, _++_}
 use mathlib.Core.Path.{_≡_}
-use lib.Dec.{eqb}
+use lib.Dec.{eqb, ltb}
+use lib.ListN.{length, getD}
 use Rattle.base.specs.Pick.{pick}
 use Rattle.base.specs.Refusals.{NotListed}
 use Rattle.base.specs.declared.Answer.{Answer}
-use Rattle.base.specs.declared.Answer.the-variants.{Divisor, Refused}
+use Rattle.base.specs.declared.Answer.the-variants.{Divisor, Done, Refused}
+use Rattle.rates.specs.Row.{rowOf}
+use Rattle.rates.specs.declared.Found.{Found}
 
 -- "Rates in tenths of a baud: 500, 750, 1100, 1345, 1500, 3000, 6000, 12000, 18000, 20000, 24000, 36000, 48000, 72000, 96000, 192000, 384000"
 unfoldable pub everywhere : List ℕ
@@ -53,6 +56,18 @@ look rate (r ∷ rs) (d ∷ ds) = pick (eqb r rate) (Divisor d) (look rate rs ds
 -- "Also public": "the divisor list", asked by a rate in tenths of a baud and the number of a clock
 unfoldable pub divisorOf : ℕ → ℕ → Answer
 divisorOf rate clock = look rate (ratesOf clock) (divisorsOf clock)
+
+-- ---- the way back
+
+-- the rate in a row of so many; past them, refusal 10
+unfoldable pub rateIn : ℕ → ℕ → List ℕ → Found
+rateIn row rows rates = pick (ltb row rows) (record { answer = Done; rate = getD rates row 0 }) (record { answer = Refused NotListed; rate = 0 })
+
+-- ticket 1: "then 10 (also for a divisor not listed at the clock)": the rate in the row of the divisor
+unfoldable pub rateOf : ℕ → ℕ → Found
+rateOf divisor clock = rateIn (rowOf divisor (divisorsOf clock)) (length (divisorsOf clock)) (ratesOf clock)
+
+-- ---- the rule
 
 -- "nearest to the clock": how far two numbers are apart
 abbrev pub apart : ℕ → ℕ → ℕ

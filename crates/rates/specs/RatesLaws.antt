@@ -19,7 +19,7 @@ use Rattle.rates.specs.Rates.{everywhere, ratesOf, first, second, third,
 -- ---- one test over all rows
 
 -- no clock but the three has a row
-three : (clock k : ℕ) → k < length (divisorsOf clock) → clock < 3
+pub three : (clock k : ℕ) → k < length (divisorsOf clock) → clock < 3
 unfolding divisorsOf
 three zero k inside = lit< tt
 three (suc zero) k inside = lit< tt
@@ -140,7 +140,7 @@ distinct-answered rate other clock d e f =
 
 -- ---- accepted exactly if listed
 
-as-many : (clock : ℕ) → clock < 3 → length (ratesOf clock) ≡ length (divisorsOf clock)
+pub as-many : (clock : ℕ) → clock < 3 → length (ratesOf clock) ≡ length (divisorsOf clock)
 unfolding everywhere ratesOf first second third divisorsOf
 as-many clock known = equal-at 3 (λ clock. length (ratesOf clock)) (λ clock. length (divisorsOf clock)) tt clock known
 
@@ -165,7 +165,7 @@ absent rate (r ∷ rs) (x ∷ ds) unlisted =
     (λ other. pick-false (eqb r rate) (Divisor x) (look rate rs ds) other ∙ absent rate rs ds (λ rest. unlisted (List·Memᴰ·tail rest)))
     (either-way (eqb r rate))
 
-member : (rs : List ℕ) (k : ℕ) → k < length rs → List·Memᴰ (getD rs k 0) rs
+pub member : (rs : List ℕ) (k : ℕ) → k < length rs → List·Memᴰ (getD rs k 0) rs
 member [] k inside = absurd (not-suc-le-zero inside)
 member (r ∷ rs) zero inside = List·Memᴰ·head refl
 member (r ∷ rs) (suc k) inside = List·Memᴰ·tail (member rs k (omega arith))

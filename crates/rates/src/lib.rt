@@ -1,7 +1,8 @@
 // The divisor list: eighteen rates, a divisor for each at the first clock, and for all but the last at the other two.
 use base::Answer;
 ghost use mathlib.Core.Path.{_≡_};
-ghost use Rattle.rates.specs.Rates.{divisorOf, ratesOf};
+ghost use Prim.Native.Nat.{_≤_};
+ghost use Rattle.rates.specs.Rates.{divisorOf, ratesOf, rateIn, rateOf};
 ghost use Rattle.rates.specs.Row.{rowOf};
 
 // "Rates in tenths of a baud", so that 134.5 baud is a whole number too.
@@ -126,5 +127,55 @@ pub fn divisor(rate: u32, clock: u8) -> Answer
             Answer::Refused(Answer::NOT_LISTED)
         },
         _ => Answer::Refused(Answer::NOT_LISTED),
+    }
+}
+
+// A rate in tenths of a baud, or the refusal, with the rate 0.
+pub struct Found {
+    pub answer: Answer,
+    pub rate: u32,
+}
+
+const NOT_FOUND: Found = Found {
+    answer: Answer::Refused(Answer::NOT_LISTED),
+    rate: 0,
+};
+
+fn row_in(divisors: &[u16], divisor: u16) -> usize
+    ensures { λ r. ⌜ r ≡ rowOf divisor (now (divisors .entry)) ⌝ }
+{
+    let mut i: usize = 0;
+    while i < divisors.len() {
+        if divisors[i] == divisor {
+            return i;
+        }
+        i = i + 1;
+    }
+    i
+}
+
+// The rate in a row of a table that has so many.
+fn rate_in(row: usize, rows: usize) -> Found
+    requires { ⌜ rows ≤ 18 ⌝ }
+    ensures { λ r. ⌜ r ≡ rateIn row rows (ratesOf 0) ⌝ }
+{
+    if row < rows {
+        return Found {
+            answer: Answer::Done,
+            rate: RATES[row],
+        };
+    }
+    NOT_FOUND
+}
+
+// The way back: the rate of a divisor.
+pub fn rate(divisor: u16, clock: u8) -> Found
+    ensures { λ r. ⌜ r ≡ rateOf divisor clock ⌝ }
+{
+    match clock {
+        0 => rate_in(row_in(&FIRST, divisor), FIRST.len()),
+        1 => rate_in(row_in(&SECOND, divisor), SECOND.len()),
+        2 => rate_in(row_in(&THIRD, divisor), THIRD.len()),
+        _ => NOT_FOUND,
     }
 }
