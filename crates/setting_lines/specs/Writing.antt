@@ -19,27 +19,30 @@ pub record Left : Type 0 where
   pub written : Written
   pub buffer : List ℕ
 
+abbrev pub left : Written → List ℕ → Left
+left w d = record { written = w; buffer = d }
+
 -- a refusal; "bytes not written stay"
 abbrev pub leftBy : List ℕ → ℕ → Left
-leftBy d number = record { written = record { answer = Refused number; length = 0 }; buffer = d }
+leftBy d number = left (record { answer = Refused number; length = 0 }) d
 
 -- ticket 1: "then 12 for a lent buffer too short; bytes not written stay": a line at the start of the buffer d, with its length
 abbrev pub putInto : List ℕ → List ℕ → Left
 putInto d line =
     pick (leb (length line) (length d))
-    (record { written = record { answer = Done; length = length line }; buffer = line ++ drop (length line) d })
+    (left (record { answer = Done; length = length line }) (line ++ drop (length line) d))
     (leftBy d NoRoom)
 
--- ticket 1: "then 10 (also for a divisor not listed at the clock)": the line of the rate that the list has for the divisor
-abbrev pub writtenBy : Found → Shape → List ℕ → Left
-writtenBy f s d = joined (refusalOf (f .answer)) (putInto d (lineOf (f .rate) s)) (leftBy d)
+-- ticket 1: "then 10 (also for a divisor not listed at the clock)": a line where the list has a rate for the divisor
+abbrev pub writtenBy : Found → List ℕ → List ℕ → Left
+writtenBy f line d = joined (refusalOf (f .answer)) (putInto d line) (leftBy d)
 
--- ticket 1: "and written back from the two": the LCR byte is that of a shape
+-- ticket 1: "and written back from the two": the LCR byte is that of a shape, and the line that of the divisor's rate and this shape
 pub record WrittenAs (clock divisor lcr : ℕ) (d : List ℕ) (l : Left) : Type 0 where
   pub shape : Shape
   pub sized : Sized shape
   pub is : lcr ≡ lcrOf shape
-  pub told : l ≡ writtenBy (rateOf divisor clock) shape d
+  pub told : l ≡ writtenBy (rateOf divisor clock) (lineOf (rateOf divisor clock .rate) shape) d
 
 -- it is that of none
 abbrev pub NoShape : ℕ → Type 0
@@ -52,5 +55,4 @@ pub record OtherByte (lcr : ℕ) (d : List ℕ) (l : Left) : Type 0 where
 
 -- a divisor and an LCR byte are written at a clock into the buffer d, which is d′ then
 abbrev pub Writes : ℕ → ℕ → ℕ → List ℕ → List ℕ → Written → Type 0
-Writes clock divisor lcr d d′ r =
-    WrittenAs clock divisor lcr d (record { written = r; buffer = d′ }) ⊎ OtherByte lcr d (record { written = r; buffer = d′ })
+Writes clock divisor lcr d d′ r = WrittenAs clock divisor lcr d (left r d′) ⊎ OtherByte lcr d (left r d′)

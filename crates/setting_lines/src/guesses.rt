@@ -78,7 +78,7 @@ fn rate(front: &[u8]) -> u32
 
 // LCR bits 5-3 of a letter; 000 of one that is none.
 fn code(c: u8) -> u8
-    ensures { λ r. ⌜ (r ≡ codeBy c) × (r ≤ 7) ⌝ }
+    ensures { λ r. ⌜ r ≡ codeBy c ⌝ }
 {
     match c {
         b'O' => 0b001,

@@ -3,8 +3,12 @@ mod guesses;
 mod lines;
 
 use base::Answer;
-ghost use Rattle.setting_lines.specs.Reading.{Reads};
-ghost use Rattle.setting_lines.specs.Writing.{Writes};
+use rates::Found;
+ghost use mathlib.Core.Path.{_≡_};
+ghost use Prim.Native.Nat.{_≤_};
+ghost use Rattle.setting_lines.specs.Reading.{settingBy, Reads};
+ghost use Rattle.setting_lines.specs.Writing.{left, writtenBy, Writes};
+ghost use Rattle.setting_lines.specs.Guess.{lineBy};
 
 // What a line says, or the refusal, with both numbers 0.
 pub struct Setting {
@@ -19,6 +23,24 @@ pub struct Written {
     pub length: usize,
 }
 
+fn setting_by(answer: Answer, lcr: u8) -> Setting
+    ensures { λ r. ⌜ r ≡ settingBy answer lcr ⌝ }
+{
+    let refusal = answer.refusal();
+    if refusal == 0 {
+        return Setting {
+            answer: Answer::Done,
+            divisor: answer.value(),
+            lcr,
+        };
+    }
+    Setting {
+        answer: Answer::Refused(refusal),
+        divisor: 0,
+        lcr: 0,
+    }
+}
+
 // Whatever is guessed counts only where its own line is this one, to the letter.
 pub fn read(line: &[u8], clock: u8) -> Setting
     ensures { λ r. ⌜ Reads (now (line .entry)) clock r ⌝ }
@@ -26,26 +48,41 @@ pub fn read(line: &[u8], clock: u8) -> Setting
     let guess = guesses::guess_line(line);
     let mut own = [0u8; 20];
     let length = lines::put_line(&mut own, guess.rate, guess.lcr);
-    if !check::same(line, &own[..length]) {
-        return Setting {
-            answer: Answer::Refused(Answer::NO_SETTING),
-            divisor: 0,
-            lcr: 0,
-        };
-    }
-    let answer = rates::divisor(guess.rate, clock);
-    let refusal = answer.refusal();
-    if refusal != 0 {
-        return Setting {
-            answer: Answer::Refused(refusal),
-            divisor: 0,
-            lcr: 0,
-        };
+    if check::same(line, &own[..length]) {
+        return setting_by(rates::divisor(guess.rate, clock), guess.lcr);
     }
     Setting {
-        answer: Answer::Done,
-        divisor: answer.value(),
-        lcr: guess.lcr,
+        answer: Answer::Refused(Answer::NO_SETTING),
+        divisor: 0,
+        lcr: 0,
+    }
+}
+
+// The line is made beside the buffer, so that nothing is put where it has no room.
+fn write_found(found: Found, lcr: u8, out: &mut [u8]) -> Written
+    requires { ⌜ found .rate ≤ 999990 ⌝ }
+    ensures { λ r. ⌜ left r (now (out .exit)) ≡ writtenBy found (lineBy (found .rate) lcr) (now (out .entry)) ⌝ }
+{
+    let answer = found.answer;
+    let refusal = answer.refusal();
+    if refusal == 0 {
+        let mut own = [0u8; 20];
+        let length = lines::put_line(&mut own, found.rate, lcr);
+        if length <= out.len() {
+            bytes::copy(&own[..length], &mut *out);
+            return Written {
+                answer: Answer::Done,
+                length,
+            };
+        }
+        return Written {
+            answer: Answer::Refused(Answer::NO_ROOM),
+            length: 0,
+        };
+    }
+    Written {
+        answer: Answer::Refused(refusal),
+        length: 0,
     }
 }
 
@@ -53,32 +90,11 @@ pub fn read(line: &[u8], clock: u8) -> Setting
 pub fn write(clock: u8, divisor: u16, lcr: u8, out: &mut [u8]) -> Written
     ensures { λ r. ⌜ Writes clock divisor lcr (now (out .entry)) (now (out .exit)) r ⌝ }
 {
-    if !lines::is_good(lcr) {
-        return Written {
-            answer: Answer::Refused(Answer::NO_SETTING),
-            length: 0,
-        };
+    if lines::is_good(lcr) {
+        return write_found(rates::rate(divisor, clock), lcr, &mut *out);
     }
-    let found = rates::rate(divisor, clock);
-    let answer = found.answer;
-    let refusal = answer.refusal();
-    if refusal != 0 {
-        return Written {
-            answer: Answer::Refused(refusal),
-            length: 0,
-        };
-    }
-    let mut own = [0u8; 20];
-    let length = lines::put_line(&mut own, found.rate, lcr);
-    if out.len() < length {
-        return Written {
-            answer: Answer::Refused(Answer::NO_ROOM),
-            length: 0,
-        };
-    }
-    bytes::copy(&own[..length], &mut *out);
     Written {
-        answer: Answer::Done,
-        length,
+        answer: Answer::Refused(Answer::NO_SETTING),
+        length: 0,
     }
 }

@@ -4,10 +4,10 @@ ghost use mathlib.Core.Path.{_≡_};
 ghost use Prim.Native.Nat.{_+_, _≤_};
 ghost use lib.ListN.{length};
 ghost use lib.Seq.{sets};
-ghost use Rattle.setting_lines.specs.Fields.{rateText};
+ghost use Rattle.setting_lines.specs.Fields.{rateText, stopText};
 ghost use Rattle.setting_lines.specs.Guess.{good, letterBy, shapeBy, lineBy};
 
-// "five bits take 1 or 1.5", the others 1 or 2; the bit chooses the second.
+// The bit that chooses the longer stop.
 const LCR_STOP: u8 = 2;
 
 // "bits 7-6 are 0", and bits 5-3 are 000 or end in 1.
@@ -32,7 +32,7 @@ fn letter(code: u8) -> u8
 
 fn put_rate(line: &mut [u8; 20], rate: u32) -> usize
     requires { ⌜ rate ≤ 999990 ⌝ }
-    ensures { λ r. ⌜ (r ≡ length (rateText rate)) × (now (line .exit) ≡ sets (now (line .entry)) 0 (rateText rate)) × (r ≤ 5) ⌝ }
+    ensures { λ r. ⌜ (r ≡ length (rateText rate)) × (now (line .exit) ≡ sets (now (line .entry)) 0 (rateText rate)) ⌝ }
 {
     if rate == 1345 {
         line[0] = b'1';
@@ -48,32 +48,40 @@ fn put_rate(line: &mut [u8; 20], rate: u32) -> usize
     last + 1
 }
 
+fn put_stop(line: &mut [u8; 20], at: usize, bits: u8, longer: bool) -> usize
+    requires { ⌜ at ≤ 10 ⌝ }
+    ensures { λ r. ⌜ (r ≡ at + length (stopText bits longer)) × (now (line .exit) ≡ sets (now (line .entry)) at (stopText bits longer)) ⌝ }
+{
+    if longer {
+        if bits == 5 {
+            line[at] = b'1';
+            line[at + 1] = b'.';
+            line[at + 2] = b'5';
+            return at + 3;
+        }
+        line[at] = b'2';
+        return at + 1;
+    }
+    line[at] = b'1';
+    at + 1
+}
+
 fn put_shape(line: &mut [u8; 20], at: usize, lcr: u8) -> usize
     requires { ⌜ at ≤ 5 ⌝ }
     ensures { λ r. ⌜ (r ≡ at + length (shapeBy lcr)) × (now (line .exit) ≡ sets (now (line .entry)) at (shapeBy lcr)) ⌝ }
 {
+    let bits = 5 + lcr % 4;
     line[at] = b',';
     line[at + 1] = letter(lcr / 8 % 8);
     line[at + 2] = b',';
-    line[at + 3] = b'5' + lcr % 4;
+    line[at + 3] = b'0' + bits;
     line[at + 4] = b',';
-    if !bit(LCR_STOP, lcr) {
-        line[at + 5] = b'1';
-        return at + 6;
-    }
-    if lcr % 4 == 0 {
-        line[at + 5] = b'1';
-        line[at + 6] = b'.';
-        line[at + 7] = b'5';
-        return at + 8;
-    }
-    line[at + 5] = b'2';
-    at + 6
+    put_stop(&mut *line, at + 5, bits, bit(LCR_STOP, lcr))
 }
 
 pub(crate) fn put_line(line: &mut [u8; 20], rate: u32, lcr: u8) -> usize
     requires { ⌜ rate ≤ 999990 ⌝ }
-    ensures { λ r. ⌜ (r ≡ length (lineBy rate lcr)) × (now (line .exit) ≡ sets (now (line .entry)) 0 (lineBy rate lcr)) × (r ≤ 13) ⌝ }
+    ensures { λ r. ⌜ (r ≡ length (lineBy rate lcr)) × (now (line .exit) ≡ sets (now (line .entry)) 0 (lineBy rate lcr)) ⌝ }
 {
     let at = put_rate(&mut *line, rate);
     put_shape(&mut *line, at, lcr)

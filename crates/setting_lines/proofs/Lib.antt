@@ -1,0 +1,4 @@
+pub mod Texts
+pub mod Supposed
+pub mod Ends
+pub mod Copies
