@@ -1,0 +1,6 @@
+pub mod Limits
+pub mod Kept
+pub mod Texts
+pub mod Replies
+pub mod Numbers
+pub mod Writings
