@@ -4,3 +4,4 @@ pub mod Texts
 pub mod Replies
 pub mod Numbers
 pub mod Writings
+pub mod AnswerLaws
