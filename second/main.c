@@ -8,6 +8,7 @@
 #include "numbers.h"
 #include "rates.h"
 #include "sets.h"
+#include "sheets.h"
 #include "spoons.h"
 #include "starts.h"
 #include "trials.h"
@@ -77,6 +78,13 @@ static int run_generate(int count, char **words)
     return parse_trial(count, words, 3, &trial) ? trials_generate(trial) : RESULT_USAGE;
 }
 
+/* S73: a clock of any size is a clock. */
+static int run_settings(int count, char **words)
+{
+    uint64_t clock = 0;
+    return count == 1 && number_parse(words[0], &clock) ? sheets_read(clock) : RESULT_USAGE;
+}
+
 static const struct command commands[] = {
     {"listing", "", run_listing, NULL},
     {"show", " [START]", NULL, run_show},
@@ -85,6 +93,8 @@ static const struct command commands[] = {
     {"trials", " [SEED COUNT [SET [START]]]", trials_run_all, run_trials},
     {"generate", " SEED COUNT [SET]", NULL, run_generate},
     {"coverage", "", coverage_run, NULL},
+    {"settings", " CLOCK", NULL, run_settings},
+    {"settings-write", "", sheets_write, NULL},
 };
 
 static int run(const struct command *command, int count, char **words)
