@@ -8,6 +8,8 @@
 #include "numbers.h"
 #include "rates.h"
 #include "sets.h"
+#include "sheet_lines.h"
+#include "sheet_numbers.h"
 #include "sheets.h"
 #include "spoons.h"
 #include "starts.h"
@@ -34,8 +36,8 @@ static bool parse_number(const char *word, uint64_t largest, uint64_t *number)
     return number_parse(word, number) && *number <= largest;
 }
 
-/* The number of a set or start, of which there are `total`; 0 if no word is
-   left for it. */
+/* The number of a set, start or clock, of which there are `total`; 0 if no word
+   is left for it. */
 static bool parse_choice(int count, char **words, unsigned total, unsigned *choice)
 {
     uint64_t number = 0;
@@ -85,6 +87,14 @@ static int run_settings(int count, char **words)
     return count == 1 && number_parse(words[0], &clock) ? sheets_read(clock) : RESULT_USAGE;
 }
 
+static int run_settings_lines(int count, char **words)
+{
+    unsigned clock = 0;
+    if (count != 1 || !parse_choice(count, words, CLOCKS, &clock))
+        return RESULT_USAGE;
+    return sheet_lines_run(clock);
+}
+
 static const struct command commands[] = {
     {"listing", "", run_listing, NULL},
     {"show", " [START]", NULL, run_show},
@@ -95,6 +105,8 @@ static const struct command commands[] = {
     {"coverage", "", coverage_run, NULL},
     {"settings", " CLOCK", NULL, run_settings},
     {"settings-write", "", sheets_write, NULL},
+    {"settings-lines", " CLOCK", NULL, run_settings_lines},
+    {"settings-numbers", "", sheet_numbers_run, NULL},
 };
 
 static int run(const struct command *command, int count, char **words)

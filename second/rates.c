@@ -7,8 +7,6 @@
 
 #include "output.h"
 
-#define LARGEST_DIVISOR 65535U
-
 /* "1.8432 MHz", "2.4576 MHz", "3.072 MHz", in tenths of a hertz as the rates
    are in tenths of a baud. */
 static const uint64_t clock_tenths[CLOCKS] = {18432000, 24576000, 30720000};

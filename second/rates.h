@@ -9,6 +9,7 @@
 /* "Clocks are numbered 0 to 2." */
 #define CLOCKS 3U
 #define RATES 18U
+#define LARGEST_DIVISOR 65535U
 
 /* The divisors of the list, in the order of its rates. */
 struct rates {

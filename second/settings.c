@@ -115,13 +115,15 @@ static bool read_shape(struct rest *rest, unsigned *lcr)
     return true;
 }
 
-struct settings settings_read(const struct rates *rates, uint64_t clock, const char *line, size_t length)
+struct settings settings_read(const struct rates *rates, uint64_t clock,
+                              const char *line, size_t length)
 {
     struct rest rest = {line, length};
     uint64_t tenths = 0;
     unsigned lcr = 0;
     /* "11 for any other line .., then 10" */
-    if (!read_rate(&rest, &tenths) || !pass_comma(&rest) || !read_shape(&rest, &lcr) || rest.left > 0)
+    if (!read_rate(&rest, &tenths) || !pass_comma(&rest) || !read_shape(&rest, &lcr)
+        || rest.left > 0)
         return (struct settings){.refusal = REFUSAL_NO_SETTINGS};
     struct outcome divisor = rates_divisor(rates, clock, tenths);
     if (divisor.refusal != REFUSAL_NONE)
@@ -151,10 +153,12 @@ static unsigned form_line(char line[SETTINGS_MOST + 1], unsigned tenths, uint64_
     char baud[SETTINGS_MOST + 1] = ODD_RATE;
     if (tenths != ODD_RATE_TENTHS)
         snprintf(baud, sizeof baud, "%u", tenths / TENTHS);
-    return (unsigned)snprintf(line, SETTINGS_MOST + 1, "%s,%s,%u,%s", baud, parity_letter(lcr), length, stop);
+    return (unsigned)snprintf(line, SETTINGS_MOST + 1, "%s,%s,%u,%s",
+                              baud, parity_letter(lcr), length, stop);
 }
 
-struct outcome settings_write(const struct rates *rates, const struct question *question, char *lent)
+struct outcome settings_write(const struct rates *rates, const struct question *question,
+                              char *lent)
 {
     /* "11 for .. an LCR byte that no line gives, then 10 (also for a divisor
        not listed at the clock), then 12 for a lent buffer too short" */

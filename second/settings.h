@@ -29,11 +29,13 @@ struct question {
 /* Whether some line gives the LCR byte. */
 bool settings_gives(uint64_t lcr);
 
-struct settings settings_read(const struct rates *rates, uint64_t clock, const char *line, size_t length);
+struct settings settings_read(const struct rates *rates, uint64_t clock,
+                              const char *line, size_t length);
 
 /* Writes the line at the beginning of the lent bytes, of which there are as
    many as the room says or, where it says more, SETTINGS_MOST. The answer is
    the line's length. */
-struct outcome settings_write(const struct rates *rates, const struct question *question, char *lent);
+struct outcome settings_write(const struct rates *rates, const struct question *question,
+                              char *lent);
 
 #endif
