@@ -8,6 +8,7 @@
 #include "numbers.h"
 #include "rates.h"
 #include "sets.h"
+#include "sheet_agree.h"
 #include "sheet_lines.h"
 #include "sheet_numbers.h"
 #include "sheets.h"
@@ -107,6 +108,7 @@ static const struct command commands[] = {
     {"settings-write", "", sheets_write, NULL},
     {"settings-lines", " CLOCK", NULL, run_settings_lines},
     {"settings-numbers", "", sheet_numbers_run, NULL},
+    {"settings-agree", "", sheet_agree_run, NULL},
 };
 
 static int run(const struct command *command, int count, char **words)
