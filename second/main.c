@@ -1,64 +1,44 @@
-#include <errno.h>
 #include <stdbool.h>
 #include <stdint.h>
 #include <stdio.h>
-#include <stdlib.h>
 #include <string.h>
 
 #include "coverage.h"
 #include "listing.h"
+#include "numbers.h"
 #include "rates.h"
 #include "sets.h"
+#include "sheet_agree.h"
+#include "sheet_lines.h"
+#include "sheet_numbers.h"
+#include "sheets.h"
 #include "spoons.h"
 #include "starts.h"
 #include "trials.h"
 
 #define RESULT_USAGE 2
 
-/* A command takes the words that follow its name. */
+/* A command is run alone, or with the words that follow its name; what it has
+   no function for it does not take. */
 struct command {
     const char *name;
     const char *words;
+    int (*alone)(void);
     int (*run)(int count, char **words);
 };
 
-static int run_listing(int count, char **words)
+static int run_listing(void)
 {
-    (void)words;
-    return count == 0 ? listing_run(bench_at_power_up(), false) : RESULT_USAGE;
-}
-
-static int run_rates(int count, char **words)
-{
-    (void)words;
-    return count == 0 ? rates_run() : RESULT_USAGE;
-}
-
-static int run_spoons(int count, char **words)
-{
-    (void)words;
-    return count == 0 ? spoons_run() : RESULT_USAGE;
-}
-
-static int run_coverage(int count, char **words)
-{
-    (void)words;
-    return count == 0 ? coverage_run() : RESULT_USAGE;
+    return listing_run(bench_at_power_up(), false);
 }
 
 static bool parse_number(const char *word, uint64_t largest, uint64_t *number)
 {
-    char *end = NULL;
-    if (*word < '0' || *word > '9')
-        return false;
-    errno = 0;
-    unsigned long long parsed = strtoull(word, &end, 10);
-    *number = parsed;
-    return errno == 0 && *end == '\0' && parsed <= largest;
+    return number_parse(word, number) && *number <= largest;
 }
 
-/* The number of a set or start, of which there are `total`; 0 if no word is
-   left for it. */
+/* The number of a set, start or clock, of which there are `total`; 0 if no word
+   is left for it. */
 static bool parse_choice(int count, char **words, unsigned total, unsigned *choice)
 {
     uint64_t number = 0;
@@ -83,7 +63,8 @@ static bool parse_trial(int count, char **words, int most, struct trial *trial)
     if (count < 2 || count > most || !parse_number(words[0], UINT32_MAX, &seed))
         return false;
     trial->seed = (uint32_t)seed;
-    return parse_number(words[1], UINT64_MAX, &trial->count) &&
+    /* NUMBER_MOST would not tell a count from a larger one. */
+    return parse_number(words[1], NUMBER_MOST - 1U, &trial->count) &&
            parse_choice(count - 2, words + 2, SETS, &trial->set) &&
            parse_choice(count - 3, words + 3, STARTS, &trial->start);
 }
@@ -91,8 +72,6 @@ static bool parse_trial(int count, char **words, int most, struct trial *trial)
 static int run_trials(int count, char **words)
 {
     struct trial trial;
-    if (count == 0)
-        return trials_run_all();
     return parse_trial(count, words, 4, &trial) ? trials_run_one(trial) : RESULT_USAGE;
 }
 
@@ -102,15 +81,42 @@ static int run_generate(int count, char **words)
     return parse_trial(count, words, 3, &trial) ? trials_generate(trial) : RESULT_USAGE;
 }
 
+/* S73: a clock of any size is a clock. */
+static int run_settings(int count, char **words)
+{
+    uint64_t clock = 0;
+    return count == 1 && number_parse(words[0], &clock) ? sheets_read(clock) : RESULT_USAGE;
+}
+
+static int run_settings_lines(int count, char **words)
+{
+    unsigned clock = 0;
+    if (count != 1 || !parse_choice(count, words, CLOCKS, &clock))
+        return RESULT_USAGE;
+    return sheet_lines_run(clock);
+}
+
 static const struct command commands[] = {
-    {"listing", "", run_listing},
-    {"show", " [START]", run_show},
-    {"rates", "", run_rates},
-    {"spoons", "", run_spoons},
-    {"trials", " [SEED COUNT [SET [START]]]", run_trials},
-    {"generate", " SEED COUNT [SET]", run_generate},
-    {"coverage", "", run_coverage},
+    {"listing", "", run_listing, NULL},
+    {"show", " [START]", NULL, run_show},
+    {"rates", "", rates_run, NULL},
+    {"spoons", "", spoons_run, NULL},
+    {"trials", " [SEED COUNT [SET [START]]]", trials_run_all, run_trials},
+    {"generate", " SEED COUNT [SET]", NULL, run_generate},
+    {"coverage", "", coverage_run, NULL},
+    {"settings", " CLOCK", NULL, run_settings},
+    {"settings-write", "", sheets_write, NULL},
+    {"settings-lines", " CLOCK", NULL, run_settings_lines},
+    {"settings-numbers", "", sheet_numbers_run, NULL},
+    {"settings-agree", "", sheet_agree_run, NULL},
 };
+
+static int run(const struct command *command, int count, char **words)
+{
+    if (count == 0 && command->alone != NULL)
+        return command->alone();
+    return command->run != NULL ? command->run(count, words) : RESULT_USAGE;
+}
 
 static int usage(void)
 {
@@ -123,7 +129,7 @@ int main(int argc, char **argv)
 {
     for (size_t i = 0; argc > 1 && i < sizeof commands / sizeof commands[0]; i += 1)
         if (strcmp(argv[1], commands[i].name) == 0) {
-            int result = commands[i].run(argc - 2, argv + 2);
+            int result = run(&commands[i], argc - 2, argv + 2);
             return result == RESULT_USAGE ? usage() : result;
         }
     return usage();

@@ -15,7 +15,9 @@ enum refusal {
     REFUSAL_LEVELS_ABOVE = 7, /* "modem levels above 15" */
     REFUSAL_NOT_READY = 8,    /* "controller not ready: .." */
     REFUSAL_NOT_SERVED = 9,   /* "not served: .." */
-    REFUSAL_NOT_LISTED = 10   /* "rate or clock not in the divisor list" */
+    REFUSAL_NOT_LISTED = 10,  /* "rate or clock not in the divisor list" */
+    REFUSAL_NO_SETTINGS = 11, /* "any other line or an LCR byte that no line gives" */
+    REFUSAL_NO_ROOM = 12      /* "a lent buffer too short" */
 };
 
 struct outcome {

@@ -9,4 +9,11 @@ static inline int output_result(int result)
     return fflush(stdout) != 0 || ferror(stdout) != 0 ? 1 : result;
 }
 
+/* The same of a command that answers standard input; 1 also if not all of that
+   could be read. */
+static inline int answers_result(int result)
+{
+    return output_result(ferror(stdin) != 0 ? 1 : result);
+}
+
 #endif

@@ -3,16 +3,9 @@
 #include "rates.h"
 
 #include <inttypes.h>
-#include <stdbool.h>
-#include <stdint.h>
 #include <stdio.h>
 
-#include "outcome.h"
 #include "output.h"
-
-#define CLOCKS 3U
-#define RATES 18U
-#define LARGEST_DIVISOR 65535U
 
 /* "1.8432 MHz", "2.4576 MHz", "3.072 MHz", in tenths of a hertz as the rates
    are in tenths of a baud. */
@@ -25,15 +18,11 @@ static const uint32_t rate_tenths[RATES] = {
 };
 
 /* "and 560000 for the first clock only" */
-static bool is_listed(unsigned clock, uint32_t rate)
+unsigned rates_count(uint64_t clock)
 {
     if (clock >= CLOCKS)
-        return false;
-    unsigned listed = clock == 0 ? RATES : RATES - 1;
-    for (unsigned i = 0; i < listed; i += 1)
-        if (rate_tenths[i] == rate)
-            return true;
-    return false;
+        return 0;
+    return clock == 0 ? RATES : RATES - 1;
 }
 
 static uint64_t distance(unsigned clock, uint32_t rate, unsigned divisor)
@@ -61,31 +50,54 @@ static unsigned nearest_divisor(unsigned clock, uint32_t rate, bool *tie)
     return nearest;
 }
 
-static void print_pair(uint32_t rate, unsigned clock, bool *tie)
+struct rates rates_listed(void)
 {
-    struct outcome outcome = refused(REFUSAL_NOT_LISTED);
-    if (is_listed(clock, rate))
-        outcome = accepted(nearest_divisor(clock, rate, tie));
+    struct rates rates = {0};
+    for (unsigned clock = 0; clock < CLOCKS; clock += 1)
+        for (unsigned i = 0; i < rates_count(clock); i += 1)
+            rates.divisors[clock][i] = nearest_divisor(clock, rate_tenths[i], &rates.tie);
+    return rates;
+}
+
+struct outcome rates_divisor(const struct rates *rates, uint64_t clock, uint64_t tenths)
+{
+    for (unsigned i = 0; i < rates_count(clock); i += 1)
+        if (rate_tenths[i] == tenths)
+            return accepted(rates->divisors[clock][i]);
+    return refused(REFUSAL_NOT_LISTED);
+}
+
+struct outcome rates_tenths(const struct rates *rates, uint64_t clock, uint64_t divisor)
+{
+    for (unsigned i = 0; i < rates_count(clock); i += 1)
+        if (rates->divisors[clock][i] == divisor)
+            return accepted(rate_tenths[i]);
+    return refused(REFUSAL_NOT_LISTED);
+}
+
+static void print_pair(const struct rates *rates, uint32_t rate, unsigned clock)
+{
+    struct outcome outcome = rates_divisor(rates, clock, rate);
     printf("%u %" PRIu32 " %u %03X\n", clock, rate, (unsigned)outcome.refusal, outcome.answer);
 }
 
-static void print_single_pairs(bool *tie)
+static void print_single_pairs(const struct rates *rates)
 {
     static const struct { uint32_t rate; unsigned clock; } pairs[] = {
         {0, 0}, {1, 0}, {4294967295, 0}, {500, 4}, {500, 255}, {12000, 255},
         {560000, 1}, {560000, 2}, {9600, 0}, {65536, 0}, {4294967295, 255},
     };
     for (size_t i = 0; i < sizeof pairs / sizeof pairs[0]; i += 1)
-        print_pair(pairs[i].rate, pairs[i].clock, tie);
+        print_pair(rates, pairs[i].rate, pairs[i].clock);
 }
 
 int rates_run(void)
 {
-    bool tie = false;
+    struct rates rates = rates_listed();
     for (unsigned clock = 0; clock <= CLOCKS; clock += 1)
         for (unsigned i = 0; i < RATES; i += 1)
             for (uint32_t rate = rate_tenths[i] - 1; rate <= rate_tenths[i] + 1; rate += 1)
-                print_pair(rate, clock, &tie);
-    print_single_pairs(&tie);
-    return output_result(tie ? 1 : 0);
+                print_pair(&rates, rate, clock);
+    print_single_pairs(&rates);
+    return output_result(rates.tie ? 1 : 0);
 }
