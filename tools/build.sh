@@ -65,9 +65,9 @@ prove() {
 }
 
 # The input is the program's, and standard output no place for what the build says. WHAT is spoken of, FILE is what rt's VERB
-# makes of CRATE, and rt's own words go to LOG.
+# makes of CRATE, and rt's own words go to LOG. It takes MINUTES at most on two processors.
 build() {
-    local what=$1 file=$2 crate=$3 verb=$4 log=$5 rt all
+    local what=$1 file=$2 crate=$3 verb=$4 log=$5 minutes=$6 rt all
     rt=$("$top/tools/find-rt") || exit 2
     take_turn
     if ! fresh "$file"; then
@@ -75,7 +75,7 @@ build() {
             refuse "$what is not built of these sources, and $top/target, where it would be, cannot be written"
         begin_build
         all=$(crates_needed "$crate")
-        tell "$what is proved and built first: $all crates, up to 6 minutes on two processors where none is proved yet, and 2.5 GB of memory"
+        tell "$what is proved and built first: $all crates, up to $minutes minutes on two processors where none is proved yet, and 2.5 GB of memory"
         prove "$rt" "$verb" "$crate" "$log" "$all" || {
             tail -n 12 "$log" >&2
             refuse "$what could not be built; above are the last lines of $log"

@@ -6,6 +6,7 @@ self=$(readlink -f "$0")
 self=${self#"$top/"}
 
 bench_main=$top/target/bin/bench_main
+sheets_main=$top/target/bin/sheets_main
 
 tell() {
     printf '%s: %s\n' "$self" "$*" >&2

@@ -52,6 +52,7 @@ echo 'The refusals:'
 echo
 echo '  1  seat above 7'
 echo '  8  not ready'
+echo ' 10  not in the list'
 """
 
 REFUSALS = """-- "seat (or line) above 7"

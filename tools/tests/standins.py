@@ -18,7 +18,7 @@ PROGRAM = """\
 [ -z "$SIGNAL" ] || kill -"$SIGNAL" $$
 echo "given $*"
 [ -z "$STACK" ] || ulimit -S -s
-[ -n "$1" ] || cat
+case $1 in '' | --settings*) cat ;; esac
 """
 # As the toolchain it works in processes that no interrupt ends, and has a temporary folder for as long. It goes on when
 # the file of the name in GATE is there.
@@ -36,9 +36,9 @@ wait
 mkdir -p target/bin target/staticlib
 case $1 in
 check)
-    cp program target/bin/bench_main
-    echo "rt: bench_main proved (47 s)"
-    echo "rt: bench_main ran, and wrote what its file 'stdout' has (1 s)" ;;
+    cp program "target/bin/$2"
+    echo "rt: $2 proved (47 s)"
+    echo "rt: $2 ran, and wrote what its file 'stdout' has (1 s)" ;;
 staticlib)
     echo built >target/staticlib/libembed.a
     echo "rt: target/staticlib/libembed.a has the functions of embed that are marked" ;;
@@ -74,7 +74,7 @@ class Start(Room):
         self.copy("bench", "tools/shell.sh", "tools/build.sh", "tools/find-rt", "VERSION", "docs/kit")
         self.script("bin/rt", RT)
         self.script(f"on/{platform.machine()}/toolchain/bin/qemu-x86_64", '#!/bin/sh\nshift 3\nexec "$@"\n')
-        self.write("crates.txt", "# a comment: none\nbase:\nlamp: base io\nbell: lamp\nbench_main: lamp io\nembed: lamp\n")
+        self.write("crates.txt", "# a comment: none\nbase:\nlamp: base io\nbell: lamp\nbench_main: lamp io\nsheets_main: io\nembed: lamp\n")
         self.write("crates/lamp/src/lib.rt", "")
         self.script("program", PROGRAM)
         self.write("lesson.hex", LESSON)
@@ -82,9 +82,9 @@ class Start(Room):
         self.setting = {**os.environ, "PATH": f"{self.root / 'bin'}:{os.environ['PATH']}", "TMPDIR": str(self.root / "temporary")}
         self.setting.pop("RATTLE_HOME", None)
 
-    def built(self):
+    def built(self, program="bench_main"):
         (self.root / "target/bin").mkdir(parents=True, exist_ok=True)
-        shutil.copy(self.root / "program", self.root / "target/bin/bench_main")
+        shutil.copy(self.root / "program", self.root / "target/bin" / program)
 
     def started(self, *words, before=(), settings=None, **how):
         """What still runs when the test ends is ended then, with all that it has started."""

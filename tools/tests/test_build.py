@@ -128,6 +128,13 @@ class ReadOnly(Start):
         self.shut()
         self.assertEqual(self.run_it("lesson.hex", before=self.user), (0, "given lesson.hex\n", ""))
 
+    def test_built_program_for_sheets_runs(self):
+        """The other need not be built."""
+        self.built("sheets_main")
+        self.shut()
+        self.assertEqual(self.run_it("--settings", "0", given="9600", before=self.user), (0, "given --settings 0\n9600", ""))
+        self.assertEqual(self.run_it("lesson.hex", before=self.user)[:2], (2, ""))
+
     def test_copied_tree_runs(self):
         """What is copied may be older or newer than the program."""
         self.run_it("lesson.hex")

@@ -12,7 +12,7 @@ case $1 in
 version) echo kit 9 ;;
 fmt) [ -z "$UNTIDY" ] ;;
 ci)
-    echo proving; $SEEN; mkdir -p target/bin; : >target/bin/bench_main
+    echo proving; $SEEN; mkdir -p target/bin; : >target/bin/bench_main; : >target/bin/sheets_main
     [ -z "$UNPROVED" ] && echo "{VERDICT}" || {{ echo "6 passed, 1 failed"; exit 1; }} ;;
 esac
 """
@@ -107,15 +107,17 @@ class Gate(Room):
         self.assertEqual(status, 0)
         self.assertTrue(any("differ" in line for line in said))
 
-    def test_what_it_was_proved_with_stands_beside_the_program(self):
+    def test_what_it_was_proved_with_stands_beside_each_program(self):
         self.run_it()
-        self.assertEqual((self.root / "target/bin/bench_main.made").read_text("utf-8").splitlines()[0], "kit 9")
+        for program in ("bench_main", "sheets_main"):
+            self.assertEqual((self.root / f"target/bin/{program}.made").read_text("utf-8").splitlines()[0], "kit 9")
 
     def test_what_changes_while_it_is_proved_is_newer_than_the_program(self):
         self.script("bin/change", "#!/bin/sh\nsleep 0.05\necho >crates/lamp/src/lib.rt\nsleep 0.05\n")
         self.assertEqual(self.run_it(SEEN="change")[0], 0)
-        source, program = (self.root / name for name in ("crates/lamp/src/lib.rt", "target/bin/bench_main"))
-        self.assertGreater(source.stat().st_mtime_ns, program.stat().st_mtime_ns)
+        changed = (self.root / "crates/lamp/src/lib.rt").stat().st_mtime_ns
+        for program in ("bench_main", "sheets_main"):
+            self.assertGreater(changed, (self.root / "target/bin" / program).stat().st_mtime_ns)
 
     def test_nobody_builds_while_it_is_proved(self):
         """And what is tried afterwards may build."""

@@ -14,6 +14,9 @@ RECORD = b"\7\0\0\x13"
 CLOSED_INPUT = "bench: standard input is closed; there are no records to read. For a lesson: bench LESSON\n"
 CLOSED_OUTPUT = "bench: standard output is closed; there is nowhere for the listing\n"
 TEXT = "bench: standard input begins like a lesson's text; it is read as records, byte for byte. For a lesson: bench LESSON\n"
+CLOSED_SHEET = "bench: standard input is closed; there are no lines to read\n"
+CLOSED_ANSWERS = "bench: standard output is closed; there is nowhere for the answers\n"
+SHEETS = (("--settings", "0"), ("--settings-write",))
 TERMINAL = "bench: waiting for records on standard input, four bytes each; Ctrl-D ends them. For a lesson: bench LESSON\n"
 
 
@@ -34,6 +37,13 @@ class Streams(Start):
     def test_output_that_is_closed(self):
         for words in ((), ("lesson.hex",)):
             self.assertEqual(self.closed(">&-", *words), (1, "", CLOSED_OUTPUT))
+        self.assertEqual(self.asked(), [])
+
+    def test_sheet_needs_both(self):
+        for words in SHEETS:
+            self.assertEqual(self.closed("<&-", *words), (1, "", CLOSED_SHEET))
+            self.assertEqual(self.closed(">&-", *words), (1, "", CLOSED_ANSWERS))
+            self.assertEqual(self.closed("<&- >&-", *words), (1, "", CLOSED_ANSWERS))
         self.assertEqual(self.asked(), [])
 
     def test_standard_error_that_is_closed(self):
@@ -74,7 +84,15 @@ class Words(Start):
                 ("-- is followed by a lesson's name", ("--",)),
                 ("a lesson's name is empty", ("",), ("--", "")),
                 ("one lesson at a time", ("lesson.hex", "lesson.hex"), ("--", "lesson.hex", "lesson.hex"), ("", "")),
-                ("--help stands alone", ("--help", "me"))):
+                ("--settings is followed by a clock, and by nothing else", ("--settings",), ("--settings", "0", "1"),
+                 ("--settings", "0", "lesson.hex")),
+                ("a clock is a decimal number", ("--settings", ""), ("--settings", "x"), ("--settings", "-1"), ("--settings", "+1"),
+                 ("--settings", "1 "), ("--settings", "0x1"), ("--settings", "1.5"), ("--settings", "lesson.hex"),
+                 ("--settings", "\u0661"), ("--settings", "1\n")),
+                ("--settings-write stands alone", ("--settings-write", "0"), ("--settings-write", "")),
+                ("there is no option --settings=0", ("--settings=0",)),
+                ("one lesson at a time", ("lesson.hex", "--settings")),
+                ("--help stands alone", ("--help", "me"), ("--help", "--settings"))):
             for words in wrong:
                 status, listing, said = self.run_it(*words)
                 self.assertEqual((status, listing), (2, ""), words)
@@ -91,6 +109,61 @@ class Words(Start):
         status, listing, said = self.run_it("lesson.hex", settings={"PATH": path})
         self.assertEqual((status, listing), (2, ""))
         self.assertRegex(said, r"^The Rattle toolchain is missing: [^\n]* README\.md says where it belongs\.\n$")
+
+
+class Sheets(Start):
+    """Sheets have a program of their own. The clock goes to it as it is, and its input too."""
+
+    def test_smaller_program_is_built(self):
+        for words in SHEETS:
+            status, answers, _ = self.run_it(*words, given="9600,E,7,2")
+            self.assertEqual((status, answers), (0, f"given {' '.join(words)}\n9600,E,7,2"))
+        self.assertEqual(self.asked(), ["check sheets_main"])
+        self.run_it("lesson.hex")
+        self.assertEqual(self.asked(), ["check sheets_main", "check bench_main"])
+
+    def test_what_is_built_is_told(self):
+        said = self.run_it("--settings", "0", given="")[2]
+        self.assertTrue(said.startswith("bench: the program is proved and built first: 1 crates, up to 2 minutes on two processors"), said)
+        self.assertEqual((self.root / "target/sheets-build.log").read_text("utf-8").splitlines()[-1], "rt: ok, 3 crates proved")
+
+    def test_failure_names_its_log(self):
+        status, answers, said = self.run_it("--settings-write", given="", settings={"UNPROVED": "1"})
+        self.assertEqual((status, answers), (2, ""))
+        self.assertEqual(said.splitlines()[-1], "bench: the program could not be built; above are the last lines of "
+                                                f"{self.root}/target/sheets-build.log")
+
+    def test_clock_of_any_length(self):
+        self.built("sheets_main")
+        for clock in ("0", "007", 20 * "9", 5000 * "0"):
+            self.assertEqual(self.run_it("--settings", clock, given=""), (0, f"given --settings {clock}\n", ""))
+
+    def test_word_on_standard_error_is_a_fault(self):
+        self.script("target/bin/sheets_main", "#!/bin/sh\necho an answer\necho a fault >&2\n")
+        self.assertEqual(self.run_it("--settings-write"), (1, "an answer\n", "a fault\n"))
+
+    def test_signal_is_told_without_a_hint_on_lessons(self):
+        self.built("sheets_main")
+        self.assertEqual(self.run_it("--settings", "0", settings={"SIGNAL": "SEGV"}), (1, "", "bench: the program was ended by signal 11\n"))
+        self.assertEqual(self.run_it("--settings", "0", settings={"SIGNAL": "PIPE"}), (141, "", ""))
+
+    def test_clock_is_no_file(self):
+        """A file of the clock's name is no long lesson, and nothing is said of the stack."""
+        self.built("sheets_main")
+        self.write("0", 65536 * "#")
+        limit = lambda: resource.setrlimit(resource.RLIMIT_STACK, (8192 * KIB, 8192 * KIB))
+        self.assertEqual(self.run_it("--settings", "0", preexec_fn=limit), (0, "given --settings 0\n", ""))
+
+    def test_terminal_is_told_what_is_waited_for(self):
+        self.built("sheets_main")
+        for words, lines in zip(SHEETS, ("settings lines", "lines CLOCK DIVISOR LCR ROOM")):
+            user, terminal = pty.openpty()
+            self.addCleanup(os.close, user)
+            running = self.started(*words, stdin=terminal)
+            os.close(terminal)
+            self.says(running, f"bench: waiting for {lines} on standard input; Ctrl-D ends them\n")
+            os.write(user, b"ab\n\4")
+            self.assertEqual(running.communicate(timeout=LIMIT), (f"given {' '.join(words)}\nab\n".encode(), b""))
 
 
 class Version(Start):
