@@ -8,6 +8,7 @@ import re
 
 from source import functions, known, without_comments
 
+PUBLIC = r"(?:pub(?:\(crate\))? )?"
 TYPE = r"[&\[]*(?:mut )?(?:\w+::)*([A-Z]\w*)"
 
 
@@ -23,8 +24,8 @@ class Calls:
 
     def read(self, room, text):
         """Notes the types of a file's fields and those that have its methods."""
-        for body in re.findall(r"(?ms)^(?:pub )?struct \w+ \{$(.*?)^\}$", text):
-            for field, kind in re.findall(rf"(?m)^ *(?:pub )?(\w+): {TYPE}", body):
+        for body in re.findall(rf"(?ms)^{PUBLIC}struct \w+ \{{$(.*?)^\}}$", text):
+            for field, kind in re.findall(rf"(?m)^ *{PUBLIC}(\w+): {TYPE}", body):
                 self.fields.setdefault(field, set()).add(kind)
         for function in functions(text):
             if function.takes_self:

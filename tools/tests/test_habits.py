@@ -80,6 +80,7 @@ class Habits(Room):
     def test_of_two_types_a_let_or_a_field_tells_which(self):
         table = "struct Laid {\n    pub full: Cup,\n}\n\nfn lay(laid: Laid) -> Cup {\n    let one = laid.full;\n    one.fill(3)\n}\n"
         self.assertEqual(self.told(plates=PLATES, table=table), [])
+        self.assertEqual(self.told(plates=PLATES, table=table.replace("struct", "pub(crate) struct").replace("pub full", "pub(crate) full")), [])
         self.assertEqual(self.told(plates=PLATES, table=table.replace("one.fill", "laid.full.fill")), [])
         self.assertEqual(len(self.told(plates=PLATES, table=table.replace("full: Cup", "full: Plate"))), 1)
         self.assertEqual(self.told(plates=PLATES, table=table.replace("laid.full;", "Cup { milk: false };")), [])
