@@ -5,3 +5,4 @@ pub mod Guess
 pub mod ShapeLaws
 pub mod RateLaws
 pub mod GuessLaws
+pub mod LineLaws
