@@ -13,7 +13,7 @@ use Rattle.base.specs.PickLaws.{both-hold, not-both}
 use Rattle.text.specs.Line.{numeral, decimal}
 use Rattle.text.specs.FormLaws.{Digits, decimal-digits, decimal-leads}
 use Rattle.rates.specs.Rates.{divisorOf, rateOf}
-use Rattle.setting_lines.specs.Fields.{comma, point, Shape, Sized, Rated, rateText, stopText, shapeText, lineOf, lcrOf}
+use Rattle.setting_lines.specs.Fields.{N, O, E, M, S, letter, comma, point, Shape, Sized, Rated, rateText, stopText, shapeText, lineOf, lcrOf}
 use Rattle.setting_lines.specs.Reading.{settingBy, NoLine, Reads}
 use Rattle.setting_lines.specs.Writing.{left, writtenBy, Writes}
 use Rattle.setting_lines.specs.Guess.{guessed, lineBy}
@@ -79,7 +79,7 @@ line-short rate s rated sized =
 
 -- "decimal", "134.5", commas and the five capitals
 abbrev pub ofLine : ℕ → Bool
-ofLine c = (leb (numeral 0) c && leb c (numeral 9)) || (eqb c point || (eqb c comma || (eqb c 78 || (eqb c 79 || (eqb c 69 || (eqb c 77 || eqb c 83))))))
+ofLine c = (leb (numeral 0) c && leb c (numeral 9)) || (eqb c point || (eqb c comma || (eqb c (letter N) || (eqb c (letter O) || (eqb c (letter E) || (eqb c (letter M) || eqb c (letter S)))))))
 
 abbrev pub allOfLine : List ℕ → Bool
 allOfLine [] = true
