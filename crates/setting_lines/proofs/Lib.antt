@@ -1,4 +1,8 @@
 pub mod Texts
 pub mod Supposed
-pub mod Ends
 pub mod Copies
+pub mod Ends
+pub mod Cases
+pub mod Refusing
+pub mod Returning
+pub mod Forty
