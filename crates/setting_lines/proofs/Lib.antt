@@ -6,3 +6,6 @@ pub mod Cases
 pub mod Refusing
 pub mod Returning
 pub mod Forty
+pub mod Exemplified
+pub mod Statements
+pub mod Slips

@@ -75,7 +75,7 @@ module _ (clock divisor lcr : ℕ) (d : List ℕ) (l : Left) where
   given-as : {m : Left} → l ≡ m → l .written .answer ≡ m .written .answer
   given-as is = ap (λ (x : Left). x .written .answer) is
 
-  11-told : WriteCase clock divisor lcr d l → NoShape lcr → l .written .answer ≡ Refused 11
+  pub 11-told : WriteCase clock divisor lcr d l → NoShape lcr → l .written .answer ≡ Refused 11
   11-told (no-shape other is) none = given-as is
   11-told (unrated u is) none = absurd (none (u .shape) (u .sized) (u .is))
   11-told (short n less is) none = absurd (none (n .shape) (n .sized) (n .is))

@@ -1,7 +1,7 @@
 -- Ticket 1 by examples: what lines are read as, and what is written; the lines that a careless reader would take among them.
 use Prim.Native.Nat.{ℕ, _≤_}
 use Prim.Native.String.{String}
-use mathlib.Core.List.{List}
+use mathlib.Core.List.{List, [], _∷_}
 use mathlib.Core.Path.{_≡_}
 use lib.ListN.{length, take}
 use Rattle.base.specs.declared.Answer.the-variants.{Refused}
@@ -24,46 +24,64 @@ Wrote clock divisor lcr line = (d d′ : List ℕ) (w : Written) → 13 ≤ leng
 abbrev pub NotWritten : ℕ → Type 0
 NotWritten lcr = (clock divisor : ℕ) (d d′ : List ℕ) (w : Written) → Writes clock divisor lcr d d′ w → w .answer ≡ Refused 11
 
+-- one example: a line, a clock and its answer
+pub record Example : Type 0 where
+  pub line : String
+  pub clock : ℕ
+  pub setting : Setting
+
+abbrev pub example : String → ℕ → Setting → Example
+example line clock setting = record { line = line; clock = clock; setting = setting }
+
+abbrev pub examples : List Example
+examples =
+    -- "`9600,E,7,2`"
+    example "9600,E,7,2" 0 (settingOf 12 0b011_110)
+    -- the five letters
+    ∷ example "300,N,8,1" 0 (settingOf 384 0b000_011)
+    ∷ example "300,O,8,1" 0 (settingOf 384 0b001_011)
+    ∷ example "300,E,8,1" 0 (settingOf 384 0b011_011)
+    ∷ example "300,M,8,1" 0 (settingOf 384 0b101_011)
+    ∷ example "300,S,8,1" 0 (settingOf 384 0b111_011)
+    -- "five bits take 1 or 1.5", and no other takes 1.5
+    ∷ example "300,N,5,1.5" 0 (settingOf 384 0b000_100)
+    ∷ example "300,N,5,2" 0 (refusedBy 11)
+    ∷ example "300,N,6,2" 0 (settingOf 384 0b000_101)
+    ∷ example "300,N,6,1.5" 0 (refusedBy 11)
+    ∷ example "300,N,9,1" 0 (refusedBy 11)
+    -- "or 134.5"
+    ∷ example "134.5,N,8,1" 0 (settingOf 857 0b000_011)
+    ∷ example "1345,N,8,1" 0 (refusedBy 10)
+    ∷ example "134,N,8,1" 0 (refusedBy 10)
+    ∷ example "300.0,N,8,1" 0 (refusedBy 11)
+    -- "1 to 99999 without leading zeros"
+    ∷ example "1,N,8,1" 0 (refusedBy 10)
+    ∷ example "99999,N,8,1" 0 (refusedBy 10)
+    ∷ example "100000,N,8,1" 0 (refusedBy 11)
+    ∷ example "0,N,8,1" 0 (refusedBy 11)
+    ∷ example "0300,N,8,1" 0 (refusedBy 11)
+    -- the list of the clock; a clock that is none; a line that is none, whatever the clock
+    ∷ example "56000,N,8,1" 0 (settingOf 2 0b000_011)
+    ∷ example "56000,N,8,1" 1 (refusedBy 10)
+    ∷ example "300,N,8,1" 3 (refusedBy 10)
+    ∷ example "300,n,8,1" 3 (refusedBy 11)
+    -- nothing before it, behind it or between
+    ∷ example "300, N,8,1" 0 (refusedBy 11)
+    ∷ example " 300,N,8,1" 0 (refusedBy 11)
+    ∷ example "300,N,8,1\r" 0 (refusedBy 11)
+    ∷ example "300,N,8,1\n" 0 (refusedBy 11)
+    ∷ example "" 0 (refusedBy 11)
+    ∷ []
+
+abbrev pub AllRead : List Example → Type 0
+AllRead [] = Unit
+AllRead (e ∷ es) = Read (e .line) (e .clock) (e .setting) × AllRead es
+
 pub record Examples : Type 0 where
-  -- "`9600,E,7,2`"
-  pub sheet : Read "9600,E,7,2" 0 (settingOf 12 0b011_110)
-  pub sheet-back : Wrote 0 12 0b011_110 "9600,E,7,2"
-  -- the five letters
-  pub n : Read "300,N,8,1" 0 (settingOf 384 0b000_011)
-  pub o : Read "300,O,8,1" 0 (settingOf 384 0b001_011)
-  pub e : Read "300,E,8,1" 0 (settingOf 384 0b011_011)
-  pub m : Read "300,M,8,1" 0 (settingOf 384 0b101_011)
-  pub s : Read "300,S,8,1" 0 (settingOf 384 0b111_011)
-  -- "five bits take 1 or 1.5", and no other takes 1.5
-  pub five : Read "300,N,5,1.5" 0 (settingOf 384 0b000_100)
-  pub five-two : Read "300,N,5,2" 0 (refusedBy 11)
-  pub six : Read "300,N,6,2" 0 (settingOf 384 0b000_101)
-  pub six-and-a-half : Read "300,N,6,1.5" 0 (refusedBy 11)
-  pub nine : Read "300,N,9,1" 0 (refusedBy 11)
-  pub five-back : Wrote 0 384 0b000_100 "300,N,5,1.5"
-  -- "or 134.5"
-  pub odd : Read "134.5,N,8,1" 0 (settingOf 857 0b000_011)
-  pub odd-back : Wrote 0 857 0b000_011 "134.5,N,8,1"
-  pub tenths : Read "1345,N,8,1" 0 (refusedBy 10)
-  pub cut : Read "134,N,8,1" 0 (refusedBy 10)
-  pub other-half : Read "300.0,N,8,1" 0 (refusedBy 11)
-  -- "1 to 99999 without leading zeros"
-  pub least : Read "1,N,8,1" 0 (refusedBy 10)
-  pub most : Read "99999,N,8,1" 0 (refusedBy 10)
-  pub more : Read "100000,N,8,1" 0 (refusedBy 11)
-  pub none : Read "0,N,8,1" 0 (refusedBy 11)
-  pub leading : Read "0300,N,8,1" 0 (refusedBy 11)
-  -- the list of the clock; a clock that is none; a line that is none, whatever the clock
-  pub fastest : Read "56000,N,8,1" 0 (settingOf 2 0b000_011)
-  pub no-faster : Read "56000,N,8,1" 1 (refusedBy 10)
-  pub no-clock : Read "300,N,8,1" 3 (refusedBy 10)
-  pub no-line : Read "300,n,8,1" 3 (refusedBy 11)
-  -- nothing before it, behind it or between
-  pub blank : Read "300, N,8,1" 0 (refusedBy 11)
-  pub before : Read " 300,N,8,1" 0 (refusedBy 11)
-  pub returned : Read "300,N,8,1\r" 0 (refusedBy 11)
-  pub fed : Read "300,N,8,1\n" 0 (refusedBy 11)
-  pub empty : Read "" 0 (refusedBy 11)
+  pub read : AllRead examples
+  pub sheet : Wrote 0 12 0b011_110 "9600,E,7,2"
+  pub five : Wrote 0 384 0b000_100 "300,N,5,1.5"
+  pub odd : Wrote 0 857 0b000_011 "134.5,N,8,1"
   -- a byte with the divisor bit, one with the break bit, and one with a parity that has no letter
   pub divisor-bit : NotWritten 0x83
   pub break-bit : NotWritten 0x43
