@@ -12,7 +12,7 @@ use lib.ListN.{length, getD}
 use Rattle.base.specs.Pick.{pick}
 use Rattle.base.specs.PickLaws.{pick-true, pick-false, either-way}
 use Rattle.base.specs.declared.Answer.the-variants.{Divisor, Done, Refused}
-use Rattle.rates.specs.Rates.{ratesOf, divisorsOf, hertz, divisorOf, rateIn, rateOf, Nearest}
+use Rattle.rates.specs.Rates.{ratesOf, divisorsOf, hertz, look, divisorOf, rateIn, rateOf, Nearest}
 use Rattle.rates.specs.Row.{rowOf}
 use Rattle.rates.specs.RatesLaws.{rateAt, divisorAt, nearest, answered, distinct-answered, nearest-answered, accepted, member, three, as-many}
 use Rattle.rates.specs.declared.Found.{Found}
@@ -59,6 +59,22 @@ one-nearest hz rate d e one other =
     let differ = eqb-false d e no in
     absurd (omega (arith, one e (λ q. differ (sym q)), other d differ)))
     (either-way (eqb d e))
+
+-- the list has a divisor for a rate, or it refuses it by 10
+look-either : (rate : ℕ) (rs ds : List ℕ) → ((d : ℕ) × (look rate rs ds ≡ Divisor d)) ⊎ (look rate rs ds ≡ Refused 10)
+unfolding look
+look-either rate [] ds = inr refl
+look-either rate (r ∷ rs) [] = inr refl
+look-either rate (r ∷ rs) (d ∷ ds) =
+    ⊎-elim (λ (here : eqb r rate ≡ true). inl (d, pick-true _ _ _ here))
+    (λ (other : eqb r rate ≡ false).
+    let later = pick-false (eqb r rate) (Divisor d) (look rate rs ds) other in
+    ⊎-elim (λ has. inl (has .0, later ∙ has .1)) (λ no. inr (later ∙ no)) (look-either rate rs ds))
+    (either-way (eqb r rate))
+
+pub divisor-either : (rate clock : ℕ) → ((d : ℕ) × (divisorOf rate clock ≡ Divisor d)) ⊎ (divisorOf rate clock ≡ Refused 10)
+unfolding divisorOf
+divisor-either rate clock = look-either rate (ratesOf clock) (divisorsOf clock)
 
 module _ (divisor clock : ℕ) where
   -- the list gives a listed divisor for the rate of its row

@@ -1,4 +1,11 @@
 pub mod Texts
 pub mod Supposed
-pub mod Ends
 pub mod Copies
+pub mod Ends
+pub mod Cases
+pub mod Refusing
+pub mod Returning
+pub mod Forty
+pub mod Exemplified
+pub mod Statements
+pub mod Slips

@@ -3,19 +3,21 @@
 -- ticket 1: "Our control sheets give settings as `9600,E,7,2`."
 use Prim.Native.Nat.{ℕ, _+_, _-_, _*_, _/_, _≤_}
 use mathlib.Core.Bool.{Bool, true, false}
-use mathlib.Core.List.{List, [], _∷_, _++_}
+use Prim.Native.Char.{code}
+use mathlib.Core.List.{List, _∷_, _++_}
 use mathlib.Core.Logic.{_⊎_}
 use mathlib.Core.Path.{_≡_}
 use lib.Dec.{eqb}
 use Rattle.base.specs.Pick.{pick}
 use Rattle.base.specs.Bits.{digit}
+use Rattle.text.specs.Quoted.{quoted}
 use Rattle.text.specs.Line.{numeral, decimal}
 
 abbrev pub comma : ℕ
-comma = 44
+comma = code ","
 
 abbrev pub point : ℕ
-point = 46
+point = code "."
 
 -- ---- the fields
 
@@ -23,13 +25,13 @@ point = 46
 pub data Parity : Type 0 where
   N O E M S : Parity
 
--- the letter of each, as a byte of text
+-- the letter of each
 abbrev pub letter : Parity → ℕ
-letter N = 78
-letter O = 79
-letter E = 69
-letter M = 77
-letter S = 83
+letter N = code "N"
+letter O = code "O"
+letter E = code "E"
+letter M = code "M"
+letter S = code "S"
 
 -- ticket 1: "(LCR bits 5-3: 000, 001, 011, 101, 111; bits 7-6 are 0)"
 abbrev pub parityBits : Parity → ℕ
@@ -60,15 +62,15 @@ Rated rate = (rate ≡ 1345) ⊎ Whole rate
 -- ---- the line of a rate and a shape
 
 abbrev pub odd134 : List ℕ
-odd134 = numeral 1 ∷ numeral 3 ∷ numeral 4 ∷ point ∷ numeral 5 ∷ []
+odd134 = quoted "134.5"
 
 unfoldable pub rateText : ℕ → List ℕ
 rateText rate = pick (eqb rate 1345) odd134 (decimal (rate / 10))
 
 -- ticket 1: "stop 1 or 2; five bits take 1 or 1.5"
 unfoldable pub stopText : ℕ → Bool → List ℕ
-stopText bits false = numeral 1 ∷ []
-stopText bits true = pick (eqb bits 5) (numeral 1 ∷ point ∷ numeral 5 ∷ []) (numeral 2 ∷ [])
+stopText bits false = quoted "1"
+stopText bits true = pick (eqb bits 5) (quoted "1.5") (quoted "2")
 
 unfoldable pub shapeText : Shape → List ℕ
 shapeText s = comma ∷ letter (s .parity) ∷ comma ∷ numeral (s .bits) ∷ comma ∷ stopText (s .bits) (s .longer)

@@ -9,14 +9,14 @@ use Rattle.base.specs.Pick.{pick}
 use Rattle.base.specs.Bits.{bit, digit}
 use Rattle.text.specs.Line.{numeral}
 use Rattle.text.specs.FormLaws.{denoted}
-use Rattle.setting_lines.specs.Fields.{comma, point, rateText, stopText}
+use Rattle.setting_lines.specs.Fields.{N, O, E, M, S, letter, comma, point, rateText, stopText}
 use Rattle.setting_lines.specs.declared.guesses.Guess.{Guess}
 
 -- ---- by the LCR byte
 
 -- the letter of the parity that bits 5-3 are; N where they are none
 unfoldable pub letterBy : ℕ → ℕ
-letterBy code = pick (eqb code 0b001) 79 (pick (eqb code 0b011) 69 (pick (eqb code 0b101) 77 (pick (eqb code 0b111) 83 78)))
+letterBy parity = pick (eqb parity 0b001) (letter O) (pick (eqb parity 0b011) (letter E) (pick (eqb parity 0b101) (letter M) (pick (eqb parity 0b111) (letter S) (letter N))))
 
 unfoldable pub shapeBy : ℕ → List ℕ
 shapeBy lcr = comma ∷ letterBy (lcr / 8 % 8) ∷ comma ∷ numeral (5 + lcr % 4) ∷ comma ∷ stopText (5 + lcr % 4) (bit 2 lcr)
@@ -35,7 +35,7 @@ unfoldable pub behindRate : List ℕ → ℕ
 behindRate line = pick (eqb (getD line (length line - 1) 0) (numeral 5)) 8 6
 
 unfoldable pub codeBy : ℕ → ℕ
-codeBy c = pick (eqb c 79) 0b001 (pick (eqb c 69) 0b011 (pick (eqb c 77) 0b101 (pick (eqb c 83) 0b111 0b000)))
+codeBy c = pick (eqb c (letter O)) 0b001 (pick (eqb c (letter E)) 0b011 (pick (eqb c (letter M)) 0b101 (pick (eqb c (letter S)) 0b111 0b000)))
 
 unfoldable pub bitsBy : ℕ → ℕ
 bitsBy c = (c - numeral 5) % 4

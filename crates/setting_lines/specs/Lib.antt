@@ -2,6 +2,12 @@ pub mod Fields
 pub mod Reading
 pub mod Writing
 pub mod Guess
+pub mod ThereAndBack
+pub mod LcrBytes
+pub mod SettingRefusals
+pub mod Examples
+pub mod Statements
 pub mod ShapeLaws
 pub mod RateLaws
 pub mod GuessLaws
+pub mod LineLaws

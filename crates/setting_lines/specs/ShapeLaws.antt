@@ -64,7 +64,7 @@ at-shape test all s sized =
 
 -- ---- what is computed
 
-same-digit : (a b : Bool) → digit a ≡ digit b → a ≡ b
+pub same-digit : (a b : Bool) → digit a ≡ digit b → a ≡ b
 unfolding digit pick
 same-digit true true e = refl
 same-digit true false e = absurd (omega arith)

@@ -1,3 +1,4 @@
+pub mod Quoted
 pub mod Line
 pub mod Front
 pub mod StoreLaws

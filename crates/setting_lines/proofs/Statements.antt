@@ -1,0 +1,19 @@
+-- All statements of this room hold.
+use Rattle.setting_lines.specs.Statements.{Statements}
+use Rattle.setting_lines.proofs.Returning.{read-back, written-back}
+use Rattle.setting_lines.proofs.Forty.{forty-bytes}
+use Rattle.setting_lines.proofs.Refusing.{read-refusals, write-refusals, stays, longest}
+use Rattle.setting_lines.proofs.Exemplified.{exemplified}
+
+pub statements : Statements
+statements =
+    record {
+      read-back = read-back;
+      written-back = written-back;
+      forty-bytes = forty-bytes;
+      read-refusals = read-refusals;
+      write-refusals = write-refusals;
+      stays = stays;
+      longest = longest;
+      examples = exemplified;
+    }
