@@ -5,3 +5,4 @@ pub mod Replies
 pub mod Numbers
 pub mod Writings
 pub mod AnswerLaws
+pub mod KeptLaws

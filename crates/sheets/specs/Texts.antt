@@ -4,6 +4,7 @@
 --  2. Four numbers are answered by REFUSAL LINE, as in `0 9600,E,7,2`; where they are refused, by `12 -`.
 --  3. One blank stands between two words, and the line ends behind the last.
 use Prim.Native.Nat.{ℕ, _/_, _%_, _≤_}
+use Prim.Native.Char.{code}
 use mathlib.Core.List.{List, [], _∷_, _++_}
 use mathlib.Core.Path.{_≡_}
 use lib.Dec.{eqb}
@@ -15,7 +16,7 @@ use Rattle.text.specs.Line.{space, newline, numeral, decimal, capital}
 use Rattle.setting_lines.specs.declared.Setting.{Setting}
 
 abbrev pub dash : ℕ
-dash = 45
+dash = code "-"
 
 abbrev pub noRefusal : List ℕ
 noRefusal = numeral 0 ∷ space ∷ []
