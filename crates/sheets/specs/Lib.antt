@@ -6,3 +6,4 @@ pub mod Numbers
 pub mod Writings
 pub mod AnswerLaws
 pub mod KeptLaws
+pub mod OddLaws
