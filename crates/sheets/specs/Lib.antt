@@ -7,3 +7,5 @@ pub mod Writings
 pub mod AnswerLaws
 pub mod KeptLaws
 pub mod OddLaws
+pub mod LimitLaws
+pub mod FourLaws
