@@ -9,3 +9,6 @@ pub mod KeptLaws
 pub mod OddLaws
 pub mod LimitLaws
 pub mod FourLaws
+pub mod SpelledLaws
+pub mod OneLaws
+pub mod SheetLaws

@@ -1,0 +1,49 @@
+-- The control sheet's own line, read and written: "Our control sheets give settings as `9600,E,7,2`."
+use Prim.Native.Nat.{ℕ}
+use mathlib.Core.Bool.{true}
+use mathlib.Core.List.{List}
+use mathlib.Core.Path.{_≡_, refl, ap, subst, _∙_}
+use native.Mathlib.Omega.{arith}
+use lib.ListN.{length, take}
+use Rattle.base.specs.Pick.{pick}
+use Rattle.base.specs.Bits.{digit}
+use Rattle.base.specs.Answers.{refusalOf}
+use Rattle.rates.specs.Rates.{everywhere, ratesOf, first, divisorsOf, look, divisorOf}
+use Rattle.text.specs.Quoted.{quoted}
+use Rattle.text.specs.Line.{decimal, digitsWithin, capital}
+use Rattle.setting_lines.specs.Fields.{E, Shape, rateText, stopText, shapeText, lineOf, lcrOf}
+use Rattle.setting_lines.specs.Writing.{Left, left}
+use Rattle.setting_lines.specs.SettingRefusals.{Lined}
+use Rattle.setting_lines.specs.declared.Setting.{Setting}
+use Rattle.setting_lines.proofs.Statements.{statements}
+use Rattle.sheets.specs.Limits.{upTo}
+use Rattle.sheets.specs.Texts.{settingText, writtenText, AtStart}
+use Rattle.sheets.specs.Numbers.{worth, base, noNumbers, withDigit, withBlank, numbersAfter, numbersBehind, four}
+use Rattle.sheets.specs.Replies.{Replies}
+use Rattle.sheets.specs.Writings.{Recounts}
+
+pub sheet-read : (d d′ : List ℕ) (r : ℕ) → Replies (quoted "9600,E,7,2") 0 d d′ r → AtStart (quoted "0 12 1E\n") d d′ r
+unfolding settingText pick refusalOf decimal digitsWithin capital
+sheet-read d d′ r p =
+    subst (λ (s : Setting). AtStart (settingText s) d d′ r) (statements .examples .read .0 (p .setting) (p .read)) (p .told)
+
+lined : Lined 0 12 0x1E
+unfolding pick digit everywhere ratesOf first divisorsOf look divisorOf lcrOf
+lined = record {
+  rate = 96000;
+  shape = record { parity = E; bits = 7; longer = true };
+  sized = record { fewest = omega arith; most = omega arith };
+  is = refl;
+  listed = refl;
+}
+
+abbrev textOf : Left → List ℕ
+textOf l = writtenText (refusalOf (l .written .answer)) (take (l .written .length) (l .buffer))
+
+pub sheet-written : (d d′ : List ℕ) (r : ℕ) → Recounts (numbersBehind noNumbers (quoted "0 12 1E 10")) d d′ r
+    → AtStart (quoted "0 9600,E,7,2\n") d d′ r
+unfolding upTo worth base withDigit withBlank numbersAfter four lined writtenText pick refusalOf decimal digitsWithin rateText stopText shapeText lineOf
+sheet-written d d′ r p =
+    let told : _ = p .answer refl in
+    let is : _ = statements .write-refusals .gives-line 0 12 0x1E _ (told .buffer) (told .written) (told .writes) lined (omega arith) in
+    subst (λ (l : List ℕ). AtStart l d d′ r) (ap textOf is) (told .told)
