@@ -1,4 +1,5 @@
 pub mod Fits
 pub mod Kept
+pub mod Slips
 pub mod Stores
 pub mod Walks

@@ -1,21 +1,16 @@
 -- Four numbers with one blank between two of them are read as these numbers, cut to the largest of their types.
 use Prim.Native.Nat.{ℕ, _+_, _-_, _*_, _≤_, _<_}
-use Prim.Native.Char.{code}
 use mathlib.Core.Bool.{Bool, true, false}
-use mathlib.Core.List.{List, [], _∷_, _++_, map}
-use mathlib.Core.Path.{_≡_, refl, sym, ap, ap₂, _∙_}
+use mathlib.Core.List.{List, [], _∷_, _++_}
+use mathlib.Core.Path.{_≡_, refl, sym, ap, _∙_}
 use native.Mathlib.Omega.{arith}
-use lib.Dec.{eqb, ltb, leb}
-use lib.ListN.{length, getD, set}
+use lib.Dec.{eqb}
+use lib.ListN.{length, set}
 use lib.Seq.{set-set, getD-set-same}
-use borrow.Author.Tests.{lt-leb, lt-ltb, le-leb, eq-eqb, ne-eqb}
+use borrow.Author.Tests.{lt-leb, lt-ltb, eq-eqb, ne-eqb}
 use Rattle.base.specs.Pick.{pick}
 use Rattle.base.specs.PickLaws.{pick-true, pick-false, pick-either}
-use Rattle.base.specs.EveryLaws.{equal-at}
-use Rattle.text.specs.Line.{space, letterA, numeral, decimal}
-use Rattle.text.specs.Front.{front}
-use Rattle.text.specs.DecimalLaws.{front-length}
-use Rattle.text.specs.FormLaws.{denoted, Digits, decimal-denotes, decimal-digits}
+use Rattle.text.specs.Line.{space}
 use Rattle.sheets.specs.Limits.{upTo}
 use Rattle.sheets.specs.LimitLaws.{up-to-low, up-to-more, up-to-less}
 use Rattle.sheets.specs.Numbers.{worth, base, noNumbers, withDigit, withBlank, numbersAfter, numbersBehind, number, four, byte, room}
@@ -143,3 +138,9 @@ words-read a b c d wa wb wc wd =
       lcr-read = ap (λ (s : Numbers). byte (number 2 s)) is ∙ up-to-less 255 (valued 16 0 c) 65535 (omega arith);
       room-read = ap (λ (s : Numbers). room (number 3 s)) is ∙ up-to-less 13 (valued 10 0 d) 65535 (omega arith);
     }
+
+-- the first alone
+pub first-read : (a : List ℕ) → Word 10 a
+    → numbersBehind noNumbers a ≡ record { values = upTo 65535 (valued 10 0 a) ∷ 0 ∷ 0 ∷ 0 ∷ []; place = 0; begun = true }
+unfolding base pick zeros
+first-read a w = ap (λ (s : Numbers). numbersBehind s a) start-read ∙ word-read zeros 0 (omega arith) (omega arith) 0 false a w

@@ -7,11 +7,11 @@ use mathlib.Core.Path.{_≡_, refl, sym, ap, subst, _∙_}
 use native.Mathlib.Omega.{arith}
 use native.Mathlib.Numerals.{add-one}
 use lib.Dec.{eqb, ltb, leb}
-use lib.ListN.{length, take, set, length-set, length-take, length-append}
+use lib.ListN.{length, take, set, length-set}
 use lib.Seq.{take-all, take-nil, take-suc-set, length-take-le}
 use borrow.Author.Tests.{ltb-true, ltb-false, lt-ltb, le-ltb, leb-true, leb-false, eqb-true}
 use Rattle.base.specs.PickLaws.{pick-true, pick-false, either-way}
-use Rattle.setting_lines.specs.Reading.{NoLine, ReadAs, OtherLine, Reads}
+use Rattle.setting_lines.specs.Reading.{NoLine, Reads}
 use Rattle.setting_lines.specs.LineLaws.{none-longer}
 use Rattle.setting_lines.specs.declared.Setting.{Setting}
 use Rattle.sheets.specs.Replies.{Replies}

@@ -12,3 +12,5 @@ pub mod FourLaws
 pub mod SpelledLaws
 pub mod OneLaws
 pub mod SheetLaws
+pub mod RoomLaws
+pub mod ClockLaws

@@ -5,7 +5,6 @@ use mathlib.Core.List.{List}
 use mathlib.Core.Logic.{⊎-elim}
 use mathlib.Core.Path.{_≡_, sym, ap, subst, _∙_}
 use lib.ListN.{length, take, replicate}
-use lib.Seq.{sets}
 use Rattle.base.specs.PickLaws.{either-way}
 use Rattle.base.specs.Answers.{refusalOf}
 use Rattle.setting_lines.specs.Writing.{Left}

@@ -2,7 +2,7 @@
 use Prim.Native.Nat.{ℕ}
 use mathlib.Core.Bool.{true}
 use mathlib.Core.List.{List}
-use mathlib.Core.Path.{_≡_, refl, ap, subst, _∙_}
+use mathlib.Core.Path.{refl, ap, subst}
 use native.Mathlib.Omega.{arith}
 use lib.ListN.{length, take}
 use Rattle.base.specs.Pick.{pick}
@@ -11,8 +11,8 @@ use Rattle.base.specs.Answers.{refusalOf}
 use Rattle.rates.specs.Rates.{everywhere, ratesOf, first, divisorsOf, look, divisorOf}
 use Rattle.text.specs.Quoted.{quoted}
 use Rattle.text.specs.Line.{decimal, digitsWithin, capital}
-use Rattle.setting_lines.specs.Fields.{E, Shape, rateText, stopText, shapeText, lineOf, lcrOf}
-use Rattle.setting_lines.specs.Writing.{Left, left}
+use Rattle.setting_lines.specs.Fields.{E, rateText, stopText, shapeText, lineOf, lcrOf}
+use Rattle.setting_lines.specs.Writing.{Left}
 use Rattle.setting_lines.specs.SettingRefusals.{Lined}
 use Rattle.setting_lines.specs.declared.Setting.{Setting}
 use Rattle.setting_lines.proofs.Statements.{statements}

@@ -3,9 +3,9 @@ use Prim.Native.Nat.{ℕ, _+_, _-_, _*_, _/_, _%_, _≤_, _<_}
 use Prim.Native.Char.{code}
 use mathlib.Core.Bool.{Bool, true, false}
 use mathlib.Core.List.{List, [], _∷_, map}
-use mathlib.Core.Path.{_≡_, refl, ap, subst, _∙_}
+use mathlib.Core.Path.{_≡_, refl, ap, _∙_}
 use native.Mathlib.Omega.{arith}
-use lib.Dec.{ltb, leb}
+use lib.Dec.{ltb}
 use lib.ListN.{length}
 use borrow.Author.Tests.{le-leb}
 use Rattle.base.specs.Pick.{pick}
@@ -15,7 +15,7 @@ use Rattle.text.specs.Line.{letterA, numeral, decimal, capital}
 use Rattle.text.specs.DecimalLaws.{front-length}
 use Rattle.text.specs.FormLaws.{denoted, Digits, decimal-denotes, decimal-digits}
 use Rattle.sheets.specs.Limits.{upTo}
-use Rattle.sheets.specs.Numbers.{worth, noNumbers, numbersBehind, unread, byte, number, clockIn, clockOf}
+use Rattle.sheets.specs.Numbers.{worth, noNumbers, numbersBehind}
 use Rattle.sheets.specs.FourLaws.{valued, AllDigits, Word, line, ReadAs, words-read}
 
 -- ---- decimal
