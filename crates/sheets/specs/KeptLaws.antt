@@ -14,7 +14,7 @@ use Rattle.base.specs.PickLaws.{pick-true, pick-false, either-way}
 use Rattle.setting_lines.specs.Reading.{NoLine, Reads}
 use Rattle.setting_lines.specs.LineLaws.{none-longer}
 use Rattle.setting_lines.specs.declared.Setting.{Setting}
-use Rattle.sheets.specs.Replies.{Replies}
+use Rattle.sheets.specs.Replies.{LineReply}
 use Rattle.sheets.specs.Kept.{most, noBytes, kept, lineAfter, lineBehind}
 use Rattle.sheets.specs.declared.Line.{Line}
 
@@ -126,8 +126,8 @@ module _ (text : List ℕ) (clock : ℕ) (r : Setting) where
 
 -- so its answer is that of the whole line
 module _ (text : List ℕ) (clock : ℕ) (d d′ : List ℕ) (r : ℕ) where
-  pub whole-reply : Replies (kept (lineBehind noBytes text)) clock d d′ r → Replies text clock d d′ r
+  pub whole-reply : LineReply (kept (lineBehind noBytes text)) clock d d′ r → LineReply text clock d d′ r
   whole-reply p = record { setting = p .setting; read = whole-read text clock (p .setting) (p .read); told = p .told }
 
-  pub reply-whole : Replies text clock d d′ r → Replies (kept (lineBehind noBytes text)) clock d d′ r
+  pub reply-whole : LineReply text clock d d′ r → LineReply (kept (lineBehind noBytes text)) clock d d′ r
   reply-whole p = record { setting = p .setting; read = read-whole text clock (p .setting) (p .read); told = p .told }

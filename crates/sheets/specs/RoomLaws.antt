@@ -15,8 +15,8 @@ use Rattle.setting_lines.proofs.Statements.{statements}
 abbrev textOf : Left → List ℕ
 textOf l = take (l .written .length) (l .buffer)
 
-line-fits : {clock divisor lcr : ℕ} (n : Lined clock divisor lcr) → length (lineWith n) ≤ 13
-line-fits {clock} {divisor} n =
+line-short : {clock divisor lcr : ℕ} (n : Lined clock divisor lcr) → length (lineWith n) ≤ 13
+line-short {clock} {divisor} n =
     statements .longest .most (n .rate) (n .shape) (listed-rated (n .rate) clock divisor (n .listed)) (n .sized)
 
 module _ (clock divisor lcr : ℕ) (d d′ e e′ : List ℕ) (w v : Written) where
@@ -31,9 +31,9 @@ module _ (clock divisor lcr : ℕ) (d d′ e e′ : List ℕ) (w v : Written) wh
     written : (n : Lined clock divisor lcr) → WriteCase clock divisor lcr d (left w d′) → Same
     written n (no-shape a t) = absurd (a (n .shape) (n .sized) (n .is))
     written n (unrated a t) = absurd (a .missing (n .rate) (n .listed))
-    written n (short m full t) = absurd (omega (arith, full, line-fits m))
+    written n (short m full t) = absurd (omega (arith, full, line-short m))
     written n (lined m fits t) =
-        let u : _ = statements .write-refusals .gives-line clock divisor lcr e e′ v q m (omega (arith, line-fits m)) in
+        let u : _ = statements .write-refusals .gives-line clock divisor lcr e e′ v q m (omega (arith, line-short m)) in
         (ap (λ (l : Left). l .written) t ∙ sym (ap (λ (l : Left). l .written) u), ap textOf t ∙ take-append-seam (lineWith m) _ ∙ sym (ap textOf u ∙ take-append-seam (lineWith m) _))
 
     by-cases : WriteCase clock divisor lcr d (left w d′) → WriteCase clock divisor lcr e (left v e′) → Same

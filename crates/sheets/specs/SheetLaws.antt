@@ -19,10 +19,9 @@ use Rattle.setting_lines.proofs.Statements.{statements}
 use Rattle.sheets.specs.Limits.{upTo}
 use Rattle.sheets.specs.Texts.{settingText, writtenText, AtStart}
 use Rattle.sheets.specs.Numbers.{worth, base, noNumbers, withDigit, withBlank, numbersAfter, numbersBehind, four}
-use Rattle.sheets.specs.Replies.{Replies}
-use Rattle.sheets.specs.Writings.{Recounts}
+use Rattle.sheets.specs.Replies.{LineReply, NumbersReply}
 
-pub sheet-read : (d d′ : List ℕ) (r : ℕ) → Replies (quoted "9600,E,7,2") 0 d d′ r → AtStart (quoted "0 12 1E\n") d d′ r
+pub sheet-read : (d d′ : List ℕ) (r : ℕ) → LineReply (quoted "9600,E,7,2") 0 d d′ r → AtStart (quoted "0 12 1E\n") d d′ r
 unfolding settingText pick refusalOf decimal digitsWithin capital
 sheet-read d d′ r p =
     subst (λ (s : Setting). AtStart (settingText s) d d′ r) (statements .examples .read .0 (p .setting) (p .read)) (p .told)
@@ -40,7 +39,7 @@ lined = record {
 abbrev textOf : Left → List ℕ
 textOf l = writtenText (refusalOf (l .written .answer)) (take (l .written .length) (l .buffer))
 
-pub sheet-written : (d d′ : List ℕ) (r : ℕ) → Recounts (numbersBehind noNumbers (quoted "0 12 1E 10")) d d′ r
+pub sheet-written : (d d′ : List ℕ) (r : ℕ) → NumbersReply (numbersBehind noNumbers (quoted "0 12 1E 10")) d d′ r
     → AtStart (quoted "0 9600,E,7,2\n") d d′ r
 unfolding upTo worth base withDigit withBlank numbersAfter four lined writtenText pick refusalOf decimal digitsWithin rateText stopText shapeText lineOf
 sheet-written d d′ r p =

@@ -7,17 +7,18 @@ ghost use Prim.Native.Nat.{_+_, _*_, _≤_};
 ghost use Rattle.sheets.specs.Limits.{upTo};
 ghost use Rattle.sheets.specs.Numbers.{within, noNumbers, spoilt, withDigit, withBlank, numbersAfter, unread, four};
 ghost use Rattle.sheets.specs.Numbers.{worth as Numbers·worth, base as Numbers·base};
-ghost use Rattle.sheets.specs.Writings.{Recounts};
+ghost use Rattle.sheets.specs.Replies.{NumbersReply};
 
+// Places of the numbers, from 0.
 const LCR: u8 = 2;
 
 const ROOM: u8 = 3;
 
+// Behind the last: the line is not four numbers, whatever follows.
+const SPOILT: u8 = 4;
+
 // A larger room is no more use.
 const LONGEST_LINE: usize = 13;
-
-// No number: the line is not four of them.
-const SPOILT: u8 = 4;
 
 fn is_within(low: u8, high: u8, c: u8) -> bool
     ensures { λ r. ⌜ r ≡ within low high c ⌝ }
@@ -130,7 +131,7 @@ impl Numbers {
 
     // Puts the answer at the start of the array, and answers its length; of what is not four numbers, nothing and 0.
     pub fn reply(self, out: &mut [u8; 20]) -> usize
-        ensures { λ r. ⌜ Recounts self (now (out .entry)) (now (out .exit)) r ⌝ }
+        ensures { λ r. ⌜ NumbersReply self (now (out .entry)) (now (out .exit)) r ⌝ }
     {
         if !self.are_four() {
             return 0;

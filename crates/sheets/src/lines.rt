@@ -5,7 +5,7 @@ use crate::limits::up_to;
 ghost use mathlib.Core.Path.{_≡_};
 ghost use lib.Dec.{eqb};
 ghost use Rattle.sheets.specs.Kept.{noBytes, lineAfter, kept};
-ghost use Rattle.sheets.specs.Replies.{Replies};
+ghost use Rattle.sheets.specs.Replies.{LineReply};
 
 const KEPT: usize = 14;
 
@@ -39,7 +39,7 @@ impl Line {
 
     // Puts the line's answer at the start of the array, and answers its length.
     pub fn reply(self, clock: u8, out: &mut [u8; 20]) -> usize
-        ensures { λ r. ⌜ Replies (kept self) clock (now (out .entry)) (now (out .exit)) r ⌝ }
+        ensures { λ r. ⌜ LineReply (kept self) clock (now (out .entry)) (now (out .exit)) r ⌝ }
     {
         let bytes = self.bytes;
         let count = up_to(KEPT, self.count);
