@@ -2,6 +2,7 @@ pub mod Starred
 pub mod Worked
 pub mod Edges
 pub mod Contracts
+pub mod DemandLines
 pub mod Demand1
 pub mod Demand2
 pub mod Demand3

@@ -1,7 +1,7 @@
 -- The way back from a divisor to its rate: exactly that of the list, so that each way undoes the other.
 use Prim.Native.Nat.{ℕ, zero, suc, _<_, _≤_}
 use mathlib.Core.Bool.{Bool, true, false}
-use mathlib.Core.List.{List, [], _∷_}
+use mathlib.Core.List.{List, [], _∷_, List·Memᴰ, List·Memᴰ·cases-cons, List·Memᴰ·not-nil}
 use mathlib.Core.Logic.{_⊎_, inl, inr, ⊎-elim}
 use mathlib.Core.Path.{_≡_, refl, ap, sym, subst, _∙_}
 use native.Mathlib.Nat.{not-suc-le-zero}
@@ -51,6 +51,19 @@ has-row n (m ∷ ms) (suc k) inside is =
     (λ (other : eqb m n ≡ false). let row : pick (eqb m n) 0 (suc (rowOf n ms)) ≡ suc (rowOf n ms) = pick-false _ _ _ other in omega arith)
     (either-way (eqb m n))
 
+member-row : (n : ℕ) (ms : List ℕ) → List·Memᴰ n ms → rowOf n ms < length ms
+unfolding rowOf
+member-row n [] in-list = absurd (List·Memᴰ·not-nil in-list)
+member-row n (m ∷ ms) in-list =
+    ⊎-elim
+    (λ (here : eqb m n ≡ true). let row : pick (eqb m n) 0 (suc (rowOf n ms)) ≡ 0 = pick-true _ _ _ here in omega arith)
+    (λ (other : eqb m n ≡ false).
+    let row : pick (eqb m n) 0 (suc (rowOf n ms)) ≡ suc (rowOf n ms) = pick-false _ _ _ other in
+    let later : rowOf n ms < length ms =
+    ⊎-elim (λ (e : n ≡ m). absurd (eqb-false m n other (sym e))) (λ rest. member-row n ms rest) (List·Memᴰ·cases-cons in-list) in
+    omega arith)
+    (either-way (eqb m n))
+
 -- "there is no tie": a rate has one nearest divisor
 one-nearest : (hz rate d e : ℕ) → Nearest hz rate d → Nearest hz rate e → d ≡ e
 one-nearest hz rate d e one other =
@@ -87,6 +100,10 @@ module _ (divisor clock : ℕ) where
       let same = one-nearest (hertz clock) (rateAt clock k) (given .0) (divisorAt clock k)
       (nearest-answered (rateAt clock k) clock (given .0) (given .1)) (nearest clock k inside) in
       given .1 ∙ ap Divisor (same ∙ in-row divisor (divisorsOf clock) inside)
+
+  -- so every divisor of a clock's list is one of a rate
+  pub listed-rate : List·Memᴰ divisor (divisorsOf clock) → (rate : ℕ) × (divisorOf rate clock ≡ Divisor divisor)
+  listed-rate in-list = (rateAt clock (rowOf divisor (divisorsOf clock)), at-own (member-row divisor (divisorsOf clock) in-list))
 
   -- a divisor has a rate, for which the list gives it; or it has none, and the list gives it for no rate
   pub either : ((rate : ℕ) × (rateOf divisor clock ≡ found rate) × (divisorOf rate clock ≡ Divisor divisor))

@@ -29,7 +29,7 @@ use Rattle.setting_lines.specs.LineLaws.{read-one, line-short}
 use Rattle.setting_lines.specs.RateLaws.{listed-rated}
 use Rattle.setting_lines.specs.declared.Setting.{Setting}
 use Rattle.setting_lines.specs.declared.Written.{Written}
-use Rattle.setting_lines.proofs.Cases.{write-case}
+use Rattle.setting_lines.specs.CaseLaws.{write-case}
 use Rattle.setting_lines.proofs.Refusing.{11-told, line-told}
 use Rattle.setting_lines.proofs.Ends.{read-as, read-none}
 

@@ -22,8 +22,8 @@ use Rattle.setting_lines.specs.ShapeLaws.{shape, line-by}
 use Rattle.setting_lines.specs.LineLaws.{line-short, one-rate, one-lcr}
 use Rattle.setting_lines.specs.declared.Setting.{Setting}
 use Rattle.setting_lines.specs.declared.Written.{Written}
-use Rattle.setting_lines.proofs.Cases.{Meant, ReadCase, no-line, unlisted, meant, read-case}
-use Rattle.setting_lines.proofs.Cases.{WriteCase, no-shape, unrated, short, lined, write-case}
+use Rattle.setting_lines.specs.CaseLaws.{Meant, ReadCase, no-line, unlisted, meant, read-case}
+use Rattle.setting_lines.specs.CaseLaws.{WriteCase, no-shape, unrated, short, lined, write-case}
 
 -- two refusals, and an answer beside a refusal, are not the same
 pub two-refusals : {A : Type 0} (a : Answer) (n m : ℕ) → a ≡ Refused n → a ≡ Refused m → (n ≡ m → ⊥) → A

@@ -18,8 +18,8 @@ use Rattle.setting_lines.specs.RateLaws.{listed-rated}
 use Rattle.setting_lines.specs.LineLaws.{line-short, one-rate, one-lcr}
 use Rattle.setting_lines.specs.declared.Setting.{Setting}
 use Rattle.setting_lines.specs.declared.Written.{Written}
-use Rattle.setting_lines.proofs.Cases.{Meant, ReadCase, no-line, unlisted, meant, read-case}
-use Rattle.setting_lines.proofs.Cases.{WriteCase, no-shape, unrated, short, lined, write-case}
+use Rattle.setting_lines.specs.CaseLaws.{Meant, ReadCase, no-line, unlisted, meant, read-case}
+use Rattle.setting_lines.specs.CaseLaws.{WriteCase, no-shape, unrated, short, lined, write-case}
 use Rattle.setting_lines.proofs.Refusing.{not-done, line-told}
 
 -- ---- reading what was written
