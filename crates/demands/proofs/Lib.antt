@@ -15,4 +15,5 @@ pub mod OnceRefused
 pub mod ClosedLedger
 pub mod WrongPrograms
 pub mod Needed
+pub mod SheetMeant
 pub mod Statements

@@ -7,6 +7,7 @@ pub mod Demand1
 pub mod Demand2
 pub mod Demand3
 pub mod SeatLedger
+pub mod SheetMeant
 pub mod Once
 pub mod OnceCalls
 pub mod WrongPrograms
