@@ -22,7 +22,7 @@ use Rattle.setting_lines.specs.Guess.{letterBy, shapeBy, lineBy, good, b
 abbrev pub shape : Parity → Bool → ℕ → Shape
 shape p longer more = record { parity = p; bits = 5 + more; longer = longer }
 
--- "bits 5 to 8"
+-- five to eight bits
 abbrev four : Parity → Bool → (Shape → Bool) → Bool
 four p longer test = every 4 (λ more. test (shape p longer more))
 
