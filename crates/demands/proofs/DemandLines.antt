@@ -1,13 +1,13 @@
 -- Demand 1 holds for settings lines, and with no other value than FFF.
-use Prim.Native.Nat.{ℕ, suc}
+use Prim.Native.Nat.{ℕ}
 use mathlib.Core.List.{List, [], _∷_}
 use mathlib.Core.Logic.{inl, inr}
-use mathlib.Core.Path.{_≡_, refl, ap, sym, _∙_}
+use mathlib.Core.Path.{_≡_, ap, sym, _∙_}
 use native.Mathlib.Omega.{arith}
 use Rattle.base.specs.declared.Answer.{Answer}
 use Rattle.base.specs.declared.Answer.the-variants.{Done, Refused}
 use Rattle.base.specs.Answers.{refusalOf, valueOf}
-use Rattle.setting_lines.specs.Reading.{refusedBy, Reads}
+use Rattle.setting_lines.specs.Reading.{Reads}
 use Rattle.setting_lines.specs.Writing.{Left, left, leftBy, Writes}
 use Rattle.setting_lines.specs.CaseLaws.{ReadCase, no-line, unlisted, meant, read-case, WriteCase, no-shape, unrated, short, lined, write-case}
 use Rattle.setting_lines.specs.declared.Setting.{Setting}

@@ -1,6 +1,5 @@
 -- A line's LCR byte in the words of the registers, computed at each of the 40 shapes.
 use mathlib.Core.Bool.{not}
-use mathlib.Core.Path.{_≡_}
 use lib.Dec.{eqb, eqb→eq}
 use Rattle.base.specs.Pick.{pick}
 use Rattle.base.specs.PickLaws.{not-true}

@@ -1,6 +1,5 @@
 -- What a settings line says is what a channel does with its LCR byte: the same bits, the parity on or off, no break, and registers 0 and 1 not
 -- the divisor. The rooms of settings lines and of registers do not know each other.
-use Prim.Native.Nat.{ℕ}
 use mathlib.Core.Bool.{Bool, true, false}
 use mathlib.Core.Path.{_≡_}
 use Rattle.base.specs.Bits.{bit}

@@ -3,7 +3,7 @@ use Prim.Native.Nat.{ℕ, _≤_, _<_}
 use mathlib.Core.Bool.{true, false}
 use mathlib.Core.List.{List, _++_}
 use mathlib.Core.Logic.{inl, inr, ⊎-elim}
-use mathlib.Core.Path.{_≡_, refl, ap, sym, subst, _∙_}
+use mathlib.Core.Path.{_≡_, refl, ap, _∙_}
 use native.Mathlib.Omega.{arith}
 use lib.Dec.{leb}
 use lib.ListN.{length, drop}
@@ -13,8 +13,8 @@ use Rattle.base.specs.PickLaws.{pick-true, pick-false, either-way}
 use Rattle.base.specs.Answers.{refusalOf, valueOf}
 use Rattle.base.specs.declared.Answer.{Answer}
 use Rattle.base.specs.declared.Answer.the-variants.{Done, Divisor, Refused}
-use Rattle.rates.specs.Rates.{divisorOf, rateOf}
-use Rattle.rates.specs.RatesLaws.{Listed, accepted}
+use Rattle.rates.specs.Rates.{divisorOf}
+use Rattle.rates.specs.RatesLaws.{accepted}
 use Rattle.rates.specs.BackLaws.{found, none, divisor-either, either}
 use Rattle.rates.specs.declared.Found.{Found}
 use Rattle.setting_lines.specs.Fields.{Shape, Sized, Rated, lineOf, lcrOf}

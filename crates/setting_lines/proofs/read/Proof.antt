@@ -7,7 +7,6 @@ use Rattle.setting_lines.proofs.Copies.{made-is, made-length}
 use native.Mathlib.Omega.{arith}
 use Rattle.setting_lines.proofs.Ends.{small, own-made}
 use Rattle.setting_lines.proofs.Copies.{made-fits}
-use Rattle.base.specs.PickLaws.{tests, pick-true, pick-false}
 use borrow.Author.Needs.{needs}
 use Rattle.setting_lines.proofs.read.Statement.{statement}
 use Rattle.setting_lines.proofs.read.Tie as tie

@@ -1,8 +1,8 @@
 use mathlib.Core.Path.{sym, _∙_}
 use native.Mathlib.Omega.{arith}
 use Rattle.setting_lines.proofs.Copies.{made, made-fits, made-length, made-is, put-done}
-use Rattle.base.specs.PickLaws.{tests, pick-true, pick-false}
-use borrow.Author.Tests.{eq-eqb, le-leb, le-ltb, lt-leb, lt-ltb, ne-eqb}
+use Rattle.base.specs.PickLaws.{pick-true, pick-false}
+use borrow.Author.Tests.{eq-eqb, lt-leb, lt-ltb, ne-eqb}
 use borrow.Author.Needs.{needs}
 use Rattle.setting_lines.proofs.write_found.Statement.{statement}
 use Rattle.setting_lines.proofs.write_found.Tie as tie

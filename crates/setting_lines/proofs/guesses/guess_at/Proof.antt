@@ -1,7 +1,6 @@
 use mathlib.Core.Path.{sym}
 use native.Mathlib.Omega.{arith}
 use lib.Seq.{length-take-le}
-use Rattle.base.specs.PickLaws.{tests}
 use Rattle.setting_lines.specs.Guess.{guessAt}
 use borrow.Author.Needs.{needs}
 use Rattle.setting_lines.proofs.guesses.guess_at.Statement.{statement}

@@ -7,7 +7,6 @@ use Rattle.setting_lines.specs.Guess.{shapeBy}
 use native.Mathlib.Omega.{arith}
 use Rattle.setting_lines.specs.Guess.{lineBy}
 use Rattle.setting_lines.proofs.Texts.{rate-short}
-use Rattle.base.specs.PickLaws.{tests}
 use borrow.Author.Needs.{needs}
 use Rattle.setting_lines.proofs.lines.put_line.Statement.{statement}
 use Rattle.setting_lines.proofs.lines.put_line.Tie as tie
