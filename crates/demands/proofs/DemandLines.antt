@@ -50,16 +50,16 @@ module _ (clock divisor lcr : ℕ) (d d′ : List ℕ) (w : Written) (writes : W
   unfolding refusalOf
   number is = ap (λ (l : Left). refusalOf (l .written .answer)) is
 
-  value : {n : ℕ} → left w d′ ≡ leftBy d n → valueOf (w .answer) ≡ 0xFFF
+  fff : {n : ℕ} → left w d′ ≡ leftBy d n → valueOf (w .answer) ≡ 0xFFF
   unfolding valueOf
-  value is = ap (λ (l : Left). valueOf (l .written .answer)) is
+  fff is = ap (λ (l : Left). valueOf (l .written .answer)) is
 
   written-by : WriteCase clock divisor lcr d (left w d′) → AnsweredBy 0xFFF (writeReasons clock divisor lcr d) (w .answer)
   unfolding refusalOf
-  written-by (no-shape other is) = inr (inl (other, number is), value is)
-  written-by (unrated u is) = inr (inr (λ none. none (u .shape) (u .sized) (u .is), inl (u, number is)), value is)
+  written-by (no-shape other is) = inr (inl (other, number is), fff is)
+  written-by (unrated u is) = inr (inr (λ none. none (u .shape) (u .sized) (u .is), inl (u, number is)), fff is)
   written-by (short n less is) =
-      inr (inr (λ none. none (n .shape) (n .sized) (n .is), inr (λ u. u .missing (n .rate) (n .listed), inl ((n, less), number is))), value is)
+      inr (inr (λ none. none (n .shape) (n .sized) (n .is), inr (λ u. u .missing (n .rate) (n .listed), inl ((n, less), number is))), fff is)
   written-by (lined n fits is) =
       let done : w .answer ≡ Done = ap (λ (l : Left). l .written .answer) is in
       inl (

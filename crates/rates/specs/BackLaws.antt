@@ -18,11 +18,11 @@ use Rattle.rates.specs.RatesLaws.{rateAt, divisorAt, nearest, answered, 
 use Rattle.rates.specs.declared.Found.{Found}
 
 -- a rate that is found, and none
-abbrev pub found : ℕ → Found
-found rate = record { answer = Done; rate = rate }
+abbrev pub rateFound : ℕ → Found
+rateFound rate = record { answer = Done; rate = rate }
 
-abbrev pub none : Found
-none = record { answer = Refused 10; rate = 0 }
+abbrev pub rateNone : Found
+rateNone = record { answer = Refused 10; rate = 0 }
 
 -- a number stands in its row
 in-row : (n : ℕ) (ms : List ℕ) → rowOf n ms < length ms → getD ms (rowOf n ms) 0 ≡ n
@@ -106,8 +106,8 @@ module _ (divisor clock : ℕ) where
   listed-rate in-list = (rateAt clock (rowOf divisor (divisorsOf clock)), at-own (member-row divisor (divisorsOf clock) in-list))
 
   -- a divisor has a rate, for which the list gives it; or it has none, and the list gives it for no rate
-  pub either : ((rate : ℕ) × (rateOf divisor clock ≡ found rate) × (divisorOf rate clock ≡ Divisor divisor))
-      ⊎ ((rateOf divisor clock ≡ none) × ((rate : ℕ) → divisorOf rate clock ≡ Divisor divisor → ⊥))
+  pub either : ((rate : ℕ) × (rateOf divisor clock ≡ rateFound rate) × (divisorOf rate clock ≡ Divisor divisor))
+      ⊎ ((rateOf divisor clock ≡ rateNone) × ((rate : ℕ) → divisorOf rate clock ≡ Divisor divisor → ⊥))
   unfolding rateOf rateIn
   either =
       ⊎-elim
@@ -125,13 +125,13 @@ module _ (divisor clock : ℕ) where
 
   module _ (rate : ℕ) where
     -- the divisor of a rate leads back to it
-    pub rate-again : divisorOf rate clock ≡ Divisor divisor → rateOf divisor clock ≡ found rate
+    pub rate-again : divisorOf rate clock ≡ Divisor divisor → rateOf divisor clock ≡ rateFound rate
     rate-again listed =
-        ⊎-elim (λ has. has .1 ∙ ap found (distinct-answered (has .0) rate clock divisor (has .2) listed))
+        ⊎-elim (λ has. has .1 ∙ ap rateFound (distinct-answered (has .0) rate clock divisor (has .2) listed))
         (λ no. absurd (no .1 rate listed)) either
 
     -- and the rate of a divisor to that
-    pub divisor-again : rateOf divisor clock ≡ found rate → divisorOf rate clock ≡ Divisor divisor
+    pub divisor-again : rateOf divisor clock ≡ rateFound rate → divisorOf rate clock ≡ Divisor divisor
     divisor-again is =
         ⊎-elim (λ has. let same : has .0 ≡ rate = ap (λ (f : Found). f .rate) (sym (has .1) ∙ is) in subst (λ (r : ℕ). divisorOf r clock ≡ Divisor divisor) same (has .2))
         (λ no. let z : _≡_ {A = ℕ} 0 1 = cc (ap (λ (f : Found). f .answer) (sym (no .0) ∙ is)) in absurd (omega arith)) either
