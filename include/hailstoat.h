@@ -196,6 +196,8 @@ enum hailstoat_refusal {
     HAILSTOAT_NOT_SERVED = 9, /* ICW1 with bit 0 or bit 1 clear; ICW4 with bit 0 clear;
                                  OCW3 with bit 2 set; MCR write with bit 4 set */
     HAILSTOAT_NOT_LISTED = 10, /* of hailstoat_divisor alone */
+    HAILSTOAT_NO_SETTING = 11, /* of settings lines, which no function here reads or writes */
+    HAILSTOAT_NO_ROOM = 12, /* of settings lines too */
 };
 
 /* A refusal in words, for a log. */
@@ -213,6 +215,8 @@ static inline const char *hailstoat_refusal_words(unsigned refusal)
     case HAILSTOAT_NOT_READY: return "controller not ready";
     case HAILSTOAT_NOT_SERVED: return "not served (loopback, cascaded controllers, 8080 mode, poll)";
     case HAILSTOAT_NOT_LISTED: return "rate or clock not in the divisor list";
+    case HAILSTOAT_NO_SETTING: return "no settings line, or an LCR byte that none gives";
+    case HAILSTOAT_NO_ROOM: return "lent buffer too short";
     default: return "no refusal that this header knows";
     }
 }

@@ -14,8 +14,14 @@ use Rattle.base.specs.Answers.{refusalOf, valueOf}
 use Rattle.base.specs.Refusals.{Ground, refusalOrder, stands, firstOf, refusalBy}
 use Rattle.base.specs.RefusalLaws.{noneHolds, none-given}
 use Rattle.rates.specs.Rates as list
-use Rattle.rates.specs.Rates.{ratesOf}
+use Rattle.rates.specs.Rates.{ratesOf, divisorsOf, divisorOf}
 use Rattle.rates.specs.RatesLaws as rates
+use Rattle.rates.specs.Row.{rowOf}
+use Rattle.rates.specs.BackLaws.{either, listed-rate}
+use Rattle.rates.specs.declared.Found.{Found}
+use Rattle.setting_lines.specs.Reading.{refusedBy}
+use Rattle.setting_lines.specs.LineLaws.{no-leading-zero}
+use Rattle.setting_lines.proofs.Statements as lines
 use Rattle.controller.specs.Refusals.{lineAbove}
 use Rattle.controller.specs.LineLaws.{place-told, place-refused}
 use Rattle.records.specs.Events.{Record, whole}
@@ -26,8 +32,10 @@ use Rattle.bench.specs.RefusalLaws.{in-turn}
 use Rattle.bench.specs.Seats.{seat, powerUp}
 use Rattle.bench.specs.Steps.{outcome}
 use Rattle.bench.specs.OutcomeLaws.{outcome-refused, outcome-number}
-use Rattle.demands.specs.Demand1.{Listed, RefusedBy, Accepted, Answered, Unchanged, Events, Places, among, Divisors, Demand1, OnlyFFF, OneRefusal}
+use Rattle.demands.specs.Demand1.{Listed, RefusedBy, Accepted, Answered, Unchanged, Events, Places, among, Divisors, Rates, Demand1, OnlyFFF, OneRefusal}
+use Rattle.demands.specs.DemandLines.{readReasons, writeReasons}
 use Rattle.demands.proofs.Opened.{laid-open}
+use Rattle.demands.proofs.DemandLines.{readings, writings, one-reason, a-reason}
 
 -- the number that is given is listed, where there is one
 first-listed : (order : List ℕ) (gs : List Ground) → (firstOf order gs ≡ 0 → ⊥) → Listed order (firstOf order gs) gs
@@ -120,8 +128,28 @@ divisors rate clock =
     (λ l. not-both (ap₂ _&&_ (lt-ltb clock 3 (l .0)) (among-listed rate (ratesOf clock) (l .1))) out)))
     (either-way (ltb clock 3 && among rate (ratesOf clock)))
 
+back : Rates 0xFFF
+unfolding refusalOf
+back divisor clock =
+    ⊎-elim
+    (λ has.
+    let at = rates.answered (has .0) clock divisor (has .2) in
+    let row = subst (λ (d : ℕ). List·Memᴰ d (divisorsOf clock)) (at .given) (rates.member (divisorsOf clock) (at .row) (at .inside)) in
+    free (10 ∷ []) 10 _ _ (ap not (among-listed divisor (divisorsOf clock) row)) (ap (λ (f : Found). refusalOf (f .answer)) (has .1)))
+    (λ none.
+    held (10 ∷ []) 10 _ _ (inl (ap not (absent divisor clock (none .1)), refl)) (ap (λ (f : Found). f .answer) (none .0)))
+    (either divisor clock)
+  where
+    absent : (divisor clock : ℕ) → ((rate : ℕ) → divisorOf rate clock ≡ answer.Divisor divisor → ⊥) → among divisor (divisorsOf clock) ≡ false
+    absent divisor clock none =
+        ⊎-elim
+        (λ (there : among divisor (divisorsOf clock) ≡ true).
+        let has = listed-rate divisor clock (listed-among divisor (divisorsOf clock) there) in absurd (none (has .0) (has .1)))
+        (λ (not-there : among divisor (divisorsOf clock) ≡ false). not-there)
+        (either-way (among divisor (divisorsOf clock)))
+
 pub demand-1 : Demand1
-demand-1 = record { events = events; places = places; divisors = divisors }
+demand-1 = record { events = events; places = places; divisors = divisors; rates = back; readings = readings; writings = writings }
 
 -- ---- another value: a record of no kind at power-up, a line above 7, a clock that is not there
 
@@ -134,13 +162,19 @@ a-refusal order value gs a some (inl x) = absurd (some (x .number))
 a-refusal order value gs a some (inr x) = x .told
 
 pub only-fff : OnlyFFF
-unfolding laid-open no-kind list.divisorOf list.look list.ratesOf list.divisorsOf list.everywhere
+unfolding laid-open no-kind list.divisorOf list.rateOf list.rateIn rowOf list.look list.ratesOf list.divisorsOf list.everywhere
 only-fff =
     record {
       events = λ value e.
           ⊎-elim (λ x. absurd (above 2 (x .number))) (λ x. sym (x .0 .told)) (e powerUp (no-kind ∷ []) .0);
       places = λ value p. sym (a-refusal _ value _ _ (above 0) (p powerUp 8));
       divisors = λ value d. sym (a-refusal _ value _ _ (above 9) (d 0 3));
+      rates = λ value d. sym (a-refusal _ value _ _ (above 9) (d 0 3));
+      readings = λ value all. sym (a-reason value (readReasons (48 ∷ []) 0) (answer.Refused 11) (above 10) (all (48 ∷ []) 0 (refusedBy 11) (inr (record { other = no-leading-zero []; told = refl }))));
+      writings = λ value all.
+          sym (a-reason value (writeReasons 0 0 0x83 []) (answer.Refused 11) (above 10)
+          (all 0 0 0x83 [] [] (record { answer = answer.Refused 11; length = 0 })
+          (inr (record { other = lines.statements .forty-bytes .others 0x83 (omega arith) refl; told = refl })) .0));
     }
   where
     above : (n : ℕ) → suc n ≡ 0 → ⊥
@@ -175,4 +209,4 @@ module _ (order : List ℕ) (value : ℕ) (gs : List Ground) (a b : Answer) wher
   one-number (inr x) (inr y) = listed-once order gs (refusalOf a) (refusalOf b) (x .listed) (y .listed)
 
 pub one-refusal : OneRefusal
-one-refusal = record { number = one-number; bench = λ b o p u v. (u .whole ∙ sym (v .whole), u .output ∙ sym (v .output)) }
+one-refusal = record { number = one-number; reading = λ value line clock. one-reason value (readReasons line clock); writing = λ value clock divisor lcr d. one-reason value (writeReasons clock divisor lcr d); bench = λ b o p u v. (u .whole ∙ sym (v .whole), u .output ∙ sym (v .output)) }

@@ -3,6 +3,7 @@ pub mod Starred
 pub mod Worked
 pub mod Edges
 pub mod Contracts
+pub mod DemandLines
 pub mod Demand1
 pub mod Demand2
 pub mod Demand3
@@ -14,4 +15,5 @@ pub mod OnceRefused
 pub mod ClosedLedger
 pub mod WrongPrograms
 pub mod Needed
+pub mod SheetMeant
 pub mod Statements

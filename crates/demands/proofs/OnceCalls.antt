@@ -1,10 +1,12 @@
 -- No second outcome, call by call: each line of OnceCalls in specs/ by a law of Once.
 use mathlib.Core.Path.{_≡_, refl, sym, ap, _∙_}
 use denote.Ref.{now}
+use Rattle.setting_lines.specs.Writing.{Left}
+use Rattle.setting_lines.specs.LineLaws.{read-one, write-one}
 use Rattle.listing.specs.PartLaws.{runs-one}
 use Rattle.lesson.specs.Lesson.{handedOut}
 use Rattle.lesson.specs.declared.Lesson.{Lesson}
-use Rattle.demands.specs.OnceCalls.{BaseOnce, QueueOnce, RatesOnce, RegistersOnce, ReceiverOnce, TransmitterOnce, StatusOnce, ChannelOnce, LendingOnce, SeatOnce, RankOnce}
+use Rattle.demands.specs.OnceCalls.{BaseOnce, QueueOnce, RatesOnce, SettingLinesOnce, RegistersOnce, ReceiverOnce, TransmitterOnce, StatusOnce, ChannelOnce, LendingOnce, SeatOnce, RankOnce}
 use Rattle.demands.specs.OnceCalls.{ControllerOnce, RecordsOnce, BenchOnce, ListingOnce, LessonOnce, StreamsOnce, EmbedOnce}
 use Rattle.demands.proofs.Once.{told, unasked, value}
 
@@ -35,6 +37,16 @@ pub rates-once : (M : Type 1) → RatesOnce M
 rates-once M =
     record {
       rates·divisor = value _ refl (λ κ a v w. refl);
+      rates·rate = value _ refl (λ κ a v w. refl);
+    }
+
+pub setting-lines-once : (M : Type 1) → SettingLinesOnce M
+setting-lines-once M =
+    record {
+      setting-lines·read = told _ refl (λ κ a r s v w p q. (read-one _ _ r s p q, refl));
+      setting-lines·write = told _ refl (λ κ a r s v w p q.
+          let same = write-one _ _ _ _ _ _ r s p q in
+          (ap (λ (l : Left). l .written) same, λ i. (tt, (tt, (tt, (same i .buffer, tt))))));
     }
 
 pub registers-once : (M : Type 1) → RegistersOnce M

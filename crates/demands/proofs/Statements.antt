@@ -5,6 +5,7 @@ use Rattle.demands.proofs.Demand1.{demand-1, only-fff, one-refusal}
 use Rattle.demands.proofs.Demand2.{demand-2, demand-2-listed}
 use Rattle.demands.proofs.Demand3.{demand-3-bench, demand-3-from-power-up}
 use Rattle.demands.proofs.SeatLedger.{seat-ledger, seat-ledger-from-power-up}
+use Rattle.demands.proofs.SheetMeant.{sheet-meant}
 use Rattle.demands.proofs.WrongPrograms.{shut-out, let-in}
 use Rattle.demands.proofs.Needed.{needed}
 use Rattle.demands.proofs.Starred.{tasted}
@@ -24,6 +25,7 @@ statements =
       demand-3-from-power-up = demand-3-from-power-up;
       seat-ledger = seat-ledger;
       seat-ledger-from-power-up = seat-ledger-from-power-up;
+      sheet-meant = sheet-meant;
       shut-out = shut-out;
       let-in = let-in;
       needed = needed;

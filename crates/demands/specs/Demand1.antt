@@ -1,4 +1,4 @@
--- Demand 1: every event, place and divisor that is asked for is answered, and a refusal leaves everything just as before.
+-- Demand 1: every event, place, divisor, rate and settings line that is asked for is answered, and a refusal leaves everything just as before.
 use Prim.Native.Nat.{ℕ}
 use mathlib.Core.Bool.{Bool, true, false, not, _&&_, _||_}
 use mathlib.Core.List.{List, [], _∷_}
@@ -9,7 +9,7 @@ use Rattle.base.specs.declared.Answer.{Answer}
 use Rattle.base.specs.Answers.{refusalOf, valueOf}
 use Rattle.base.specs.Refusals.{Ground, refusalOrder, stands}
 use Rattle.base.specs.RefusalLaws.{noneHolds}
-use Rattle.rates.specs.Rates.{ratesOf, divisorOf}
+use Rattle.rates.specs.Rates.{ratesOf, divisorsOf, divisorOf, rateOf}
 use Rattle.controller.specs.Refusals.{lineAbove}
 use Rattle.controller.specs.Steps.{placed}
 use Rattle.controller.specs.Turns.{outputOf}
@@ -19,6 +19,7 @@ use Rattle.bench.specs.declared.Outcome.{Outcome}
 use Rattle.bench.specs.Refusals.{grounds}
 use Rattle.bench.specs.Seats.{seat}
 use Rattle.bench.specs.Steps.{outcome}
+use Rattle.demands.specs.DemandLines.{AnsweredBy, readReasons, Readings, writeReasons, Writings}
 
 -- the number stands, and none before it in the order does
 abbrev pub Listed : List ℕ → ℕ → List Ground → Type 0
@@ -39,7 +40,7 @@ pub record RefusedBy (order : List ℕ) (value : ℕ) (gs : List Ground) (a : An
 abbrev pub Answered : List ℕ → ℕ → List Ground → Answer → Type 0
 Answered order value gs a = Accepted gs a ⊎ RefusedBy order value gs a
 
--- ---- the three entries: events, the place in turn, the divisor list
+-- ---- the entries: events, the place in turn, the divisor list both ways, settings lines both ways
 
 -- The tender: and a bench with every seat and the controller just as before
 pub record Unchanged (b : Bench) (o : Outcome) : Type 0 where
@@ -75,22 +76,37 @@ unlisted rate clock = not (ltb clock 3 && among rate (ratesOf clock))
 abbrev pub Divisors : ℕ → Type 0
 Divisors value = (rate clock : ℕ) → Answered (10 ∷ []) value (record { number = 10; holds = unlisted rate clock } ∷ []) (divisorOf rate clock)
 
+-- ticket 1: "(also for a divisor not listed at the clock)"
+abbrev pub Rates : ℕ → Type 0
+Rates value =
+    (divisor clock : ℕ) → Answered (10 ∷ []) value (record { number = 10; holds = not (among divisor (divisorsOf clock)) } ∷ []) (rateOf divisor clock .answer)
+
 -- The tender: every event on the bench, with any numbers in it and in any order, is answered; each public entry tests its own input; a refused
 -- one gives the answer FFF
 pub record Demand1 : Type 0 where
   pub events : Events 0xFFF
   pub places : Places 0xFFF
   pub divisors : Divisors 0xFFF
+  pub rates : Rates 0xFFF
+  pub readings : Readings 0xFFF
+  pub writings : Writings 0xFFF
 
 -- no entry keeps the demand with another value, 000 among them
 pub record OnlyFFF : Type 0 where
   pub events : (value : ℕ) → Events value → value ≡ 0xFFF
   pub places : (value : ℕ) → Places value → value ≡ 0xFFF
   pub divisors : (value : ℕ) → Divisors value → value ≡ 0xFFF
+  pub rates : (value : ℕ) → Rates value → value ≡ 0xFFF
+  pub readings : (value : ℕ) → Readings value → value ≡ 0xFFF
+  pub writings : (value : ℕ) → Writings value → value ≡ 0xFFF
 
 -- the demand leaves nothing of a refusal open: by one order and one list of grounds two answers that it lets through have one number, and from
 -- one bench two outcomes that it calls unchanged have one bench and one output
 pub record OneRefusal : Type 0 where
   pub number : (order : List ℕ) (value : ℕ) (gs : List Ground) (a b : Answer) → Answered order value gs a → Answered order value gs b
       → refusalOf a ≡ refusalOf b
+  pub reading : (value : ℕ) (line : List ℕ) (clock : ℕ) (a b : Answer) → AnsweredBy value (readReasons line clock) a
+      → AnsweredBy value (readReasons line clock) b → refusalOf a ≡ refusalOf b
+  pub writing : (value clock divisor lcr : ℕ) (d : List ℕ) (a b : Answer) → AnsweredBy value (writeReasons clock divisor lcr d) a
+      → AnsweredBy value (writeReasons clock divisor lcr d) b → refusalOf a ≡ refusalOf b
   pub bench : (b : Bench) (o p : Outcome) → Unchanged b o → Unchanged b p → (o .bench ≡ p .bench) × (o .output ≡ p .output)

@@ -2,10 +2,12 @@ pub mod Starred
 pub mod Worked
 pub mod Edges
 pub mod Contracts
+pub mod DemandLines
 pub mod Demand1
 pub mod Demand2
 pub mod Demand3
 pub mod SeatLedger
+pub mod SheetMeant
 pub mod Once
 pub mod OnceCalls
 pub mod WrongPrograms

@@ -3,6 +3,7 @@
 use Rattle.base.proofs as base
 use Rattle.queue.proofs as queue
 use Rattle.rates.proofs as rates
+use Rattle.setting_lines.proofs as setting_lines
 use Rattle.registers.proofs as registers
 use Rattle.receiver.proofs as receiver
 use Rattle.transmitter.proofs as transmitter
@@ -46,6 +47,13 @@ pub record QueueOnce (M : Type 1) : Type 2 where
 
 pub record RatesOnce (M : Type 1) : Type 2 where
   pub rates·divisor : Once M rates.divisor.ended rates.divisor.clauses rates.divisor.spec
+  pub rates·rate : Once M rates.rate.ended rates.rate.clauses rates.rate.spec
+
+-- ---- setting_lines: a settings line, read and written
+
+pub record SettingLinesOnce (M : Type 1) : Type 2 where
+  pub setting-lines·read : Once M setting_lines.read.ended setting_lines.read.clauses setting_lines.read.spec
+  pub setting-lines·write : Once M setting_lines.write.ended setting_lines.write.clauses setting_lines.write.spec
 
 -- ---- registers: the settings
 

@@ -4,6 +4,7 @@ use Rattle.demands.specs.Demand1.{Demand1, OnlyFFF, OneRefusal}
 use Rattle.demands.specs.Demand2.{Demand2, Demand2Listed}
 use Rattle.demands.specs.Demand3.{Demand3, Demand3FromPowerUp}
 use Rattle.demands.specs.SeatLedger.{SeatLedger, SeatLedgerFromPowerUp}
+use Rattle.demands.specs.SheetMeant.{SheetMeant}
 use Rattle.demands.specs.WrongPrograms.{ShutOut, LetIn}
 use Rattle.demands.specs.Needed.{Needed}
 use Rattle.demands.specs.Starred.{Tasted}
@@ -21,6 +22,7 @@ pub record Statements : Type 0 where
   pub demand-3-from-power-up : Demand3FromPowerUp
   pub seat-ledger : SeatLedger
   pub seat-ledger-from-power-up : SeatLedgerFromPowerUp
+  pub sheet-meant : SheetMeant
   pub shut-out : ShutOut
   pub let-in : LetIn
   pub needed : Needed

@@ -1,7 +1,7 @@
 -- The way back from a divisor to its rate: exactly that of the list, so that each way undoes the other.
 use Prim.Native.Nat.{ℕ, zero, suc, _<_, _≤_}
-use mathlib.Core.Bool.{Bool, true, false}
-use mathlib.Core.List.{List, [], _∷_}
+use mathlib.Core.Bool.{true, false}
+use mathlib.Core.List.{List, [], _∷_, List·Memᴰ, List·Memᴰ·cases-cons, List·Memᴰ·not-nil}
 use mathlib.Core.Logic.{_⊎_, inl, inr, ⊎-elim}
 use mathlib.Core.Path.{_≡_, refl, ap, sym, subst, _∙_}
 use native.Mathlib.Nat.{not-suc-le-zero}
@@ -18,11 +18,11 @@ use Rattle.rates.specs.RatesLaws.{rateAt, divisorAt, nearest, answered, 
 use Rattle.rates.specs.declared.Found.{Found}
 
 -- a rate that is found, and none
-abbrev pub found : ℕ → Found
-found rate = record { answer = Done; rate = rate }
+abbrev pub rateFound : ℕ → Found
+rateFound rate = record { answer = Done; rate = rate }
 
-abbrev pub none : Found
-none = record { answer = Refused 10; rate = 0 }
+abbrev pub rateNone : Found
+rateNone = record { answer = Refused 10; rate = 0 }
 
 -- a number stands in its row
 in-row : (n : ℕ) (ms : List ℕ) → rowOf n ms < length ms → getD ms (rowOf n ms) 0 ≡ n
@@ -49,6 +49,19 @@ has-row n (m ∷ ms) (suc k) inside is =
     ⊎-elim
     (λ (here : eqb m n ≡ true). let row : pick (eqb m n) 0 (suc (rowOf n ms)) ≡ 0 = pick-true _ _ _ here in omega arith)
     (λ (other : eqb m n ≡ false). let row : pick (eqb m n) 0 (suc (rowOf n ms)) ≡ suc (rowOf n ms) = pick-false _ _ _ other in omega arith)
+    (either-way (eqb m n))
+
+member-row : (n : ℕ) (ms : List ℕ) → List·Memᴰ n ms → rowOf n ms < length ms
+unfolding rowOf
+member-row n [] in-list = absurd (List·Memᴰ·not-nil in-list)
+member-row n (m ∷ ms) in-list =
+    ⊎-elim
+    (λ (here : eqb m n ≡ true). let row : pick (eqb m n) 0 (suc (rowOf n ms)) ≡ 0 = pick-true _ _ _ here in omega arith)
+    (λ (other : eqb m n ≡ false).
+    let row : pick (eqb m n) 0 (suc (rowOf n ms)) ≡ suc (rowOf n ms) = pick-false _ _ _ other in
+    let later : rowOf n ms < length ms =
+    ⊎-elim (λ (e : n ≡ m). absurd (eqb-false m n other (sym e))) (λ rest. member-row n ms rest) (List·Memᴰ·cases-cons in-list) in
+    omega arith)
     (either-way (eqb m n))
 
 -- "there is no tie": a rate has one nearest divisor
@@ -88,9 +101,13 @@ module _ (divisor clock : ℕ) where
       (nearest-answered (rateAt clock k) clock (given .0) (given .1)) (nearest clock k inside) in
       given .1 ∙ ap Divisor (same ∙ in-row divisor (divisorsOf clock) inside)
 
+  -- so every divisor of a clock's list is one of a rate
+  pub listed-rate : List·Memᴰ divisor (divisorsOf clock) → (rate : ℕ) × (divisorOf rate clock ≡ Divisor divisor)
+  listed-rate in-list = (rateAt clock (rowOf divisor (divisorsOf clock)), at-own (member-row divisor (divisorsOf clock) in-list))
+
   -- a divisor has a rate, for which the list gives it; or it has none, and the list gives it for no rate
-  pub either : ((rate : ℕ) × (rateOf divisor clock ≡ found rate) × (divisorOf rate clock ≡ Divisor divisor))
-      ⊎ ((rateOf divisor clock ≡ none) × ((rate : ℕ) → divisorOf rate clock ≡ Divisor divisor → ⊥))
+  pub either : ((rate : ℕ) × (rateOf divisor clock ≡ rateFound rate) × (divisorOf rate clock ≡ Divisor divisor))
+      ⊎ ((rateOf divisor clock ≡ rateNone) × ((rate : ℕ) → divisorOf rate clock ≡ Divisor divisor → ⊥))
   unfolding rateOf rateIn
   either =
       ⊎-elim
@@ -108,13 +125,13 @@ module _ (divisor clock : ℕ) where
 
   module _ (rate : ℕ) where
     -- the divisor of a rate leads back to it
-    pub rate-again : divisorOf rate clock ≡ Divisor divisor → rateOf divisor clock ≡ found rate
+    pub rate-again : divisorOf rate clock ≡ Divisor divisor → rateOf divisor clock ≡ rateFound rate
     rate-again listed =
-        ⊎-elim (λ has. has .1 ∙ ap found (distinct-answered (has .0) rate clock divisor (has .2) listed))
+        ⊎-elim (λ has. has .1 ∙ ap rateFound (distinct-answered (has .0) rate clock divisor (has .2) listed))
         (λ no. absurd (no .1 rate listed)) either
 
     -- and the rate of a divisor to that
-    pub divisor-again : rateOf divisor clock ≡ found rate → divisorOf rate clock ≡ Divisor divisor
+    pub divisor-again : rateOf divisor clock ≡ rateFound rate → divisorOf rate clock ≡ Divisor divisor
     divisor-again is =
         ⊎-elim (λ has. let same : has .0 ≡ rate = ap (λ (f : Found). f .rate) (sym (has .1) ∙ is) in subst (λ (r : ℕ). divisorOf r clock ≡ Divisor divisor) same (has .2))
         (λ no. let z : _≡_ {A = ℕ} 0 1 = cc (ap (λ (f : Found). f .answer) (sym (no .0) ∙ is)) in absurd (omega arith)) either

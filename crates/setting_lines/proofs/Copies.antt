@@ -2,7 +2,6 @@
 use Prim.Native.Nat.{ℕ, _+_, _≤_}
 use mathlib.Core.List.{List, _++_}
 use mathlib.Core.Path.{_≡_, refl, ap, sym, _∙_}
-use native.Mathlib.Nat.{zero-add}
 use native.Mathlib.Omega.{arith}
 use lib.ListN.{length, take, drop}
 use lib.Seq.{sets, sets-eq, take-at, take-length, length-sets}
@@ -11,9 +10,8 @@ use Rattle.base.specs.PickLaws.{pick-true}
 use Rattle.base.specs.Answers.{refusalOf}
 use Rattle.base.specs.declared.Answer.the-variants.{Done}
 use Rattle.rates.specs.declared.Found.{Found}
-use Rattle.setting_lines.specs.Fields.{rateText}
 use Rattle.setting_lines.specs.Writing.{left, writtenBy}
-use Rattle.setting_lines.specs.Guess.{shapeBy, lineBy}
+use Rattle.setting_lines.specs.Guess.{lineBy}
 use Rattle.setting_lines.proofs.Texts.{rate-short, shape-short, line-length}
 
 pub line-short : (rate lcr : ℕ) → rate ≤ 999990 → length (lineBy rate lcr) ≤ 13

@@ -7,7 +7,6 @@ use mathlib.Core.Path.{_≡_, ap, sym, _∙_}
 use lib.ListN.{length}
 use lib.Seq.{sets}
 use Rattle.base.specs.PickLaws.{not-both}
-use Rattle.base.specs.declared.Answer.{Answer}
 use Rattle.rates.specs.Rates.{divisorOf, rateOf}
 use Rattle.setting_lines.specs.Fields.{lcrOf, lineOf}
 use Rattle.setting_lines.specs.Reading.{refusedBy, settingBy, Reads}

@@ -6,7 +6,7 @@ use mathlib.Core.List.{List, [], _∷_, map}
 use mathlib.Core.Logic.{⊎-elim}
 use mathlib.Core.Path.{_≡_, refl, ap, ap₂, sym, _∙_}
 use native.Mathlib.Omega.{arith}
-use lib.Dec.{eqb, ltb, leb, lit≤}
+use lib.Dec.{eqb}
 use lib.ListN.{length, take, drop}
 use lib.Seq.{take-at}
 use borrow.Author.Tests.{eqb-true, eq-eqb}
@@ -20,7 +20,7 @@ use Rattle.text.specs.Quoted.{quoted}
 use Rattle.text.specs.Line.{decimal, digitsWithin}
 use Rattle.setting_lines.specs.Fields.{rateText, stopText, shapeText, lcrOf, lineOf}
 use Rattle.setting_lines.specs.Reading.{refusedBy, settingBy, Reads}
-use Rattle.setting_lines.specs.Writing.{Left, left, NoShape, Writes}
+use Rattle.setting_lines.specs.Writing.{Left, left}
 use Rattle.setting_lines.specs.Guess.{letterBy, shapeBy, lineBy, good, behindRate, codeBy, bitsBy, lcrGuess, halved, rateGuess, guessAt, guessed}
 use Rattle.setting_lines.specs.SettingRefusals.{Lined, lineWith}
 use Rattle.setting_lines.specs.Examples.{Wrote, NotWritten, Example, examples, AllRead, Examples}
@@ -28,8 +28,7 @@ use Rattle.setting_lines.specs.ShapeLaws.{shapeFor, shape-sized, lcr-aga
 use Rattle.setting_lines.specs.LineLaws.{read-one, line-short}
 use Rattle.setting_lines.specs.RateLaws.{listed-rated}
 use Rattle.setting_lines.specs.declared.Setting.{Setting}
-use Rattle.setting_lines.specs.declared.Written.{Written}
-use Rattle.setting_lines.proofs.Cases.{write-case}
+use Rattle.setting_lines.specs.CaseLaws.{write-case}
 use Rattle.setting_lines.proofs.Refusing.{11-told, line-told}
 use Rattle.setting_lines.proofs.Ends.{read-as, read-none}
 

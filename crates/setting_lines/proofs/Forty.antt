@@ -1,6 +1,5 @@
 -- The LCR bytes that lines give, counted over all 256.
 use Prim.Native.Nat.{ℕ, _<_}
-use mathlib.Core.Bool.{Bool, true, false}
 use mathlib.Core.Path.{_≡_, refl, ap, sym, _∙_}
 use Rattle.base.specs.Pick.{pick}
 use Rattle.base.specs.PickLaws.{not-both}

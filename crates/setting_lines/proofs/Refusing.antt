@@ -2,28 +2,26 @@
 use Prim.Native.Nat.{ℕ, _≤_, _<_}
 use mathlib.Core.Bool.{true}
 use mathlib.Core.List.{List, _++_}
-use mathlib.Core.Logic.{inl, inr}
+use mathlib.Core.Logic.{inr}
 use mathlib.Core.Path.{_≡_, refl, ap, sym, _∙_}
 use native.Mathlib.Omega.{arith}
 use lib.ListN.{length, drop}
 use lib.Seq.{drop-at}
 use Rattle.base.specs.Pick.{pick}
 use Rattle.base.specs.declared.Answer.{Answer}
-use Rattle.base.specs.declared.Answer.the-variants.{Done, Divisor, Refused}
-use Rattle.rates.specs.Rates.{divisorOf}
-use Rattle.rates.specs.RatesLaws.{Listed, accepted-only, distinct-answered}
+use Rattle.base.specs.declared.Answer.the-variants.{Done, Refused}
+use Rattle.rates.specs.RatesLaws.{accepted-only, distinct-answered}
 use Rattle.text.specs.Line.{decimal, digitsWithin}
-use Rattle.setting_lines.specs.Fields.{N, Shape, Sized, Rated, rateText, stopText, shapeText, lineOf, lcrOf}
-use Rattle.setting_lines.specs.Reading.{NoLine, Reads}
-use Rattle.setting_lines.specs.Writing.{Left, left, leftBy, NoShape, Writes}
+use Rattle.setting_lines.specs.Fields.{N, rateText, stopText, shapeText, lineOf, lcrOf}
+use Rattle.setting_lines.specs.Reading.{NoLine}
+use Rattle.setting_lines.specs.Writing.{Left, left, leftBy, NoShape}
 use Rattle.setting_lines.specs.Guess.{lineBy}
 use Rattle.setting_lines.specs.SettingRefusals.{Unlisted, ReadRefusals, Lined, lineWith, Unrated, WriteRefusals, Stays, Longest}
 use Rattle.setting_lines.specs.ShapeLaws.{shape, line-by}
-use Rattle.setting_lines.specs.LineLaws.{line-short, one-rate, one-lcr}
+use Rattle.setting_lines.specs.LineLaws.{line-short, one-rate}
 use Rattle.setting_lines.specs.declared.Setting.{Setting}
-use Rattle.setting_lines.specs.declared.Written.{Written}
-use Rattle.setting_lines.proofs.Cases.{Meant, ReadCase, no-line, unlisted, meant, read-case}
-use Rattle.setting_lines.proofs.Cases.{WriteCase, no-shape, unrated, short, lined, write-case}
+use Rattle.setting_lines.specs.CaseLaws.{ReadCase, no-line, unlisted, meant, read-case}
+use Rattle.setting_lines.specs.CaseLaws.{WriteCase, no-shape, unrated, short, lined, write-case}
 
 -- two refusals, and an answer beside a refusal, are not the same
 pub two-refusals : {A : Type 0} (a : Answer) (n m : ℕ) → a ≡ Refused n → a ≡ Refused m → (n ≡ m → ⊥) → A

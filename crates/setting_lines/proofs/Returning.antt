@@ -1,15 +1,14 @@
 -- There and back.
 use Prim.Native.Nat.{ℕ, _≤_}
 use mathlib.Core.List.{List, _++_}
-use mathlib.Core.Logic.{inl, inr}
 use mathlib.Core.Path.{_≡_, refl, ap, sym, subst, _∙_}
 use native.Mathlib.Omega.{arith}
 use lib.ListN.{length, take, drop}
 use lib.Seq.{take-at}
-use Rattle.base.specs.declared.Answer.the-variants.{Done, Divisor, Refused}
+use Rattle.base.specs.declared.Answer.the-variants.{Done, Divisor}
 use Rattle.rates.specs.Rates.{divisorOf}
 use Rattle.rates.specs.RatesLaws.{accepted-only}
-use Rattle.setting_lines.specs.Fields.{Shape, Sized, Rated, lineOf, lcrOf}
+use Rattle.setting_lines.specs.Fields.{Rated, lineOf, lcrOf}
 use Rattle.setting_lines.specs.Reading.{Reads}
 use Rattle.setting_lines.specs.Writing.{Left, left, Writes}
 use Rattle.setting_lines.specs.ThereAndBack.{settingOf, ReadBack, WrittenBack}
@@ -18,8 +17,8 @@ use Rattle.setting_lines.specs.RateLaws.{listed-rated}
 use Rattle.setting_lines.specs.LineLaws.{line-short, one-rate, one-lcr}
 use Rattle.setting_lines.specs.declared.Setting.{Setting}
 use Rattle.setting_lines.specs.declared.Written.{Written}
-use Rattle.setting_lines.proofs.Cases.{Meant, ReadCase, no-line, unlisted, meant, read-case}
-use Rattle.setting_lines.proofs.Cases.{WriteCase, no-shape, unrated, short, lined, write-case}
+use Rattle.setting_lines.specs.CaseLaws.{ReadCase, no-line, unlisted, meant, read-case}
+use Rattle.setting_lines.specs.CaseLaws.{WriteCase, no-shape, unrated, short, lined, write-case}
 use Rattle.setting_lines.proofs.Refusing.{not-done, line-told}
 
 -- ---- reading what was written

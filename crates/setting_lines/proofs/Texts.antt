@@ -1,24 +1,23 @@
 -- The texts of a line: how long they are, and how the code's stores put them.
-use Prim.Native.Nat.{ℕ, suc, _+_, _/_, _%_, _≤_, _<_, _^_}
+use Prim.Native.Nat.{ℕ, suc, _+_, _/_, _%_, _≤_}
 use mathlib.Core.Bool.{Bool, true, false}
-use mathlib.Core.List.{List, [], _∷_, _++_}
+use mathlib.Core.List.{List, [], _∷_}
 use mathlib.Core.Logic.{⊎-elim}
-use mathlib.Core.Path.{_≡_, refl, ap, sym, _∙_}
+use mathlib.Core.Path.{_≡_}
 use native.Mathlib.Nat.{zero-add}
 use native.Mathlib.Omega.{arith}
 use lib.Dec.{eqb}
 use lib.ListN.{length, set, length-append}
 use lib.Seq.{sets}
 use borrow.Author.Tests.{ne-eqb}
-use Rattle.base.specs.Pick.{pick}
 use Rattle.base.specs.Bits.{bit}
 use Rattle.base.specs.PickLaws.{pick-true, pick-false, either-way}
 use Rattle.text.specs.Line.{numeral, decimal}
 use Rattle.text.specs.Front.{front}
-use Rattle.text.specs.DecimalLaws.{decimal-length, decimal-front, front-length}
+use Rattle.text.specs.DecimalLaws.{decimal-length, decimal-front}
 use Rattle.text.specs.StoreLaws.{sets-append}
-use Rattle.setting_lines.specs.Fields.{comma, odd134, rateText, stopText}
-use Rattle.setting_lines.specs.Guess.{letterBy, shapeBy, lineBy}
+use Rattle.setting_lines.specs.Fields.{rateText, stopText}
+use Rattle.setting_lines.specs.Guess.{shapeBy, lineBy}
 
 -- ---- how long
 

@@ -35,7 +35,7 @@ example line clock setting = record { line = line; clock = clock; setting = sett
 
 abbrev pub examples : List Example
 examples =
-    -- "`9600,E,7,2`"
+    -- ticket 1: "`9600,E,7,2`"
     example "9600,E,7,2" 0 (settingOf 12 0b011_110)
     -- the five letters
     ∷ example "300,N,8,1" 0 (settingOf 384 0b000_011)
@@ -43,18 +43,18 @@ examples =
     ∷ example "300,E,8,1" 0 (settingOf 384 0b011_011)
     ∷ example "300,M,8,1" 0 (settingOf 384 0b101_011)
     ∷ example "300,S,8,1" 0 (settingOf 384 0b111_011)
-    -- "five bits take 1 or 1.5", and no other takes 1.5
+    -- ticket 1: "five bits take 1 or 1.5", and no other takes 1.5
     ∷ example "300,N,5,1.5" 0 (settingOf 384 0b000_100)
     ∷ example "300,N,5,2" 0 (refusedBy 11)
     ∷ example "300,N,6,2" 0 (settingOf 384 0b000_101)
     ∷ example "300,N,6,1.5" 0 (refusedBy 11)
     ∷ example "300,N,9,1" 0 (refusedBy 11)
-    -- "or 134.5"
+    -- ticket 1: "or 134.5"
     ∷ example "134.5,N,8,1" 0 (settingOf 857 0b000_011)
     ∷ example "1345,N,8,1" 0 (refusedBy 10)
     ∷ example "134,N,8,1" 0 (refusedBy 10)
     ∷ example "300.0,N,8,1" 0 (refusedBy 11)
-    -- "1 to 99999 without leading zeros"
+    -- ticket 1: "1 to 99999 without leading zeros"
     ∷ example "1,N,8,1" 0 (refusedBy 10)
     ∷ example "99999,N,8,1" 0 (refusedBy 10)
     ∷ example "100000,N,8,1" 0 (refusedBy 11)

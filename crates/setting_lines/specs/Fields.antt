@@ -1,6 +1,4 @@
 -- A settings line by its fields: the rate, the letter of the parity, the bits and the stop; and the LCR byte of the last three.
---
--- ticket 1: "Our control sheets give settings as `9600,E,7,2`."
 use Prim.Native.Nat.{ℕ, _+_, _-_, _*_, _/_, _≤_}
 use mathlib.Core.Bool.{Bool, true, false}
 use Prim.Native.Char.{code}
@@ -75,6 +73,7 @@ stopText bits true = pick (eqb bits 5) (quoted "1.5") (quoted "2")
 unfoldable pub shapeText : Shape → List ℕ
 shapeText s = comma ∷ letter (s .parity) ∷ comma ∷ numeral (s .bits) ∷ comma ∷ stopText (s .bits) (s .longer)
 
+-- ticket 1: "Our control sheets give settings as `9600,E,7,2`."
 unfoldable pub lineOf : ℕ → Shape → List ℕ
 lineOf rate s = rateText rate ++ shapeText s
 

@@ -1,8 +1,8 @@
 -- What the code works with between its two calls: a guess at the setting of a line, whose own line is then compared; and the same line by
 -- its LCR byte. Whoever reads what is promised can leave this file out.
 use Prim.Native.Nat.{ℕ, _+_, _-_, _*_, _/_, _%_}
-use mathlib.Core.Bool.{Bool, true, false, _&&_, _||_}
-use mathlib.Core.List.{List, [], _∷_, _++_}
+use mathlib.Core.Bool.{Bool, _&&_, _||_}
+use mathlib.Core.List.{List, _∷_, _++_}
 use lib.Dec.{eqb, ltb, leb}
 use lib.ListN.{length, getD, take}
 use Rattle.base.specs.Pick.{pick}

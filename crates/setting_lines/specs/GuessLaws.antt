@@ -1,14 +1,14 @@
 -- The code's guess is right at the line of every setting, and is some setting everywhere else; so one line is that of one setting.
-use Prim.Native.Nat.{ℕ, zero, suc, _+_, _-_, _*_, _%_, _≤_, _<_}
-use mathlib.Core.Bool.{Bool, true, false, _&&_, _||_}
-use mathlib.Core.List.{List, [], _∷_, _++_}
+use Prim.Native.Nat.{ℕ, zero, suc, _+_, _-_, _*_, _≤_, _<_}
+use mathlib.Core.Bool.{Bool, true, false, _&&_}
+use mathlib.Core.List.{List, [], _∷_}
 use mathlib.Core.Logic.{inl, inr, ⊎-elim}
 use mathlib.Core.Path.{_≡_, refl, ap, ap₂, sym, subst, _∙_}
 use native.Mathlib.Omega.{arith}
 use lib.Dec.{T, eqb, leb, ltb}
 use lib.ListN.{length, getD, take, length-append}
 use lib.Seq.{take-at, getD-append-add}
-use borrow.Author.Tests.{eq-eqb, ne-eqb, eqb-true, eqb-false, lt-ltb, le-ltb, lt-leb, ltb-true, ltb-false}
+use borrow.Author.Tests.{ne-eqb, eqb-true, eqb-false, le-ltb, lt-leb, ltb-false}
 use Rattle.base.specs.Pick.{pick}
 use Rattle.base.specs.PickLaws.{pick-true, pick-false, pick-either, either-way}
 use Rattle.base.specs.Bits.{digit}
@@ -16,7 +16,7 @@ use Rattle.base.specs.Every.{every}
 use Rattle.base.specs.EveryLaws.{every-at}
 use Rattle.text.specs.Line.{numeral, decimal}
 use Rattle.text.specs.FormLaws.{denoted, Digits, decimal-denotes, decimal-digits}
-use Rattle.setting_lines.specs.Fields.{point, letter, Shape, Sized, Rated, Whole, odd134, rateText, shapeText, lcrOf, lineOf}
+use Rattle.setting_lines.specs.Fields.{point, letter, Shape, Sized, Rated, odd134, rateText, shapeText, lcrOf, lineOf}
 use Rattle.setting_lines.specs.Guess.{behindRate, good, halved, codeBy, bitsBy, lcrGuess, rateGuess, someGuess, guessAt, guessed}
 use Rattle.setting_lines.specs.RateLaws.{text-odd, text-whole, text-short}
 use Rattle.setting_lines.specs.ShapeLaws.{both, holds, text-length, text-longer, lcr-guess}

@@ -7,7 +7,7 @@ use Rattle.base.specs.Bits.{digit}
 use Rattle.setting_lines.specs.Fields.{Shape, Sized, lcrOf}
 use Rattle.setting_lines.specs.Writing.{NoShape}
 
--- "(LCR bits 5-3: 000, 001, 011, 101, 111; bits 7-6 are 0)"
+-- ticket 1: "(LCR bits 5-3: 000, 001, 011, 101, 111; bits 7-6 are 0)"
 abbrev pub given : ℕ → Bool
 given lcr =
     eqb (lcr / 64) 0

@@ -11,3 +11,4 @@ pub mod ShapeLaws
 pub mod RateLaws
 pub mod GuessLaws
 pub mod LineLaws
+pub mod CaseLaws

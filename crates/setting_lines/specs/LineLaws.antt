@@ -77,7 +77,7 @@ line-short rate s rated sized =
 
 -- ---- its characters
 
--- "decimal", "134.5", commas and the five capitals
+-- digits, the point, commas and the five capitals
 abbrev pub ofLine : ℕ → Bool
 ofLine c = (leb (numeral 0) c && leb c (numeral 9)) || (eqb c point || (eqb c comma || (eqb c (letter N) || (eqb c (letter O) || (eqb c (letter E) || (eqb c (letter M) || eqb c (letter S)))))))
 
@@ -124,7 +124,7 @@ pub line-first : (rate : ℕ) (s : Shape) → Rated rate → Sized s → (49 ≤
 unfolding lineOf
 line-first rate s rated sized = rw (starts (rateText rate) (shapeText s) (text-short rate rated .0)) (rate-first rate rated)
 
--- "without leading zeros"
+-- ticket 1: "without leading zeros"
 pub no-leading-zero : (l : List ℕ) → NoLine (numeral 0 ∷ l)
 no-leading-zero l rate s rated sized is =
     let first = line-first rate s rated sized in

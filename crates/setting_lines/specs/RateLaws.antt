@@ -2,13 +2,12 @@
 use Prim.Native.Nat.{ℕ, zero, suc, _*_, _/_, _%_, _≤_}
 use mathlib.Core.Bool.{Bool, true, false, _&&_, _||_}
 use mathlib.Core.List.{List, [], _∷_, List·Memᴰ, List·Memᴰ·cases-cons, List·Memᴰ·not-nil}
-use mathlib.Core.Logic.{_⊎_, inl, inr, ⊎-elim}
-use mathlib.Core.Path.{_≡_, refl, ap, sym, subst, _∙_}
+use mathlib.Core.Logic.{inl, inr, ⊎-elim}
+use mathlib.Core.Path.{_≡_, refl, ap, _∙_}
 use native.Mathlib.Omega.{arith}
 use lib.Dec.{eqb, leb}
 use lib.ListN.{length}
 use borrow.Author.Tests.{eqb-true, eq-eqb, ne-eqb, leb-true}
-use Rattle.base.specs.Pick.{pick}
 use Rattle.base.specs.PickLaws.{pick-true, pick-false, either-way, both-hold}
 use Rattle.base.specs.declared.Answer.the-variants.{Divisor}
 use Rattle.text.specs.Line.{decimal}
@@ -16,8 +15,7 @@ use Rattle.text.specs.DecimalLaws.{decimal-length, front-length}
 use Rattle.rates.specs.Rates.{everywhere, ratesOf, divisorOf, rateOf}
 use Rattle.rates.specs.RatesLaws.{accepted-only}
 use Rattle.rates.specs.BackLaws.{either}
-use Rattle.rates.specs.declared.Found.{Found}
-use Rattle.setting_lines.specs.Fields.{Whole, Rated, odd134, rateText}
+use Rattle.setting_lines.specs.Fields.{Rated, odd134, rateText}
 
 -- ---- the text of a rate
 

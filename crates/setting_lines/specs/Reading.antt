@@ -14,7 +14,7 @@ use Rattle.setting_lines.specs.declared.Setting.{Setting}
 abbrev pub refusedBy : ℕ → Setting
 refusedBy number = record { answer = Refused number; divisor = 0; lcr = 0 }
 
--- the divisor that the list answers for the rate, beside the LCR byte; "then 10" where it has none
+-- ticket 1: the divisor that the list answers for the rate, beside the LCR byte; "then 10" where it has none
 abbrev pub settingBy : Answer → ℕ → Setting
 settingBy a lcr = joined (refusalOf a) (record { answer = Done; divisor = valueOf a; lcr = lcr }) refusedBy
 

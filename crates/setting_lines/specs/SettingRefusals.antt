@@ -1,5 +1,4 @@
--- Ticket 1: "Refusals: 11 for any other line or an LCR byte that no line gives, then 10 (also for a divisor not listed at the clock), then 12
--- for a lent buffer too short; bytes not written stay.": each exactly in its own case.
+-- Ticket 1: each refusal exactly in its own case, and what of the buffer stays.
 use Prim.Native.Nat.{ℕ, _≤_, _<_}
 use mathlib.Core.List.{List, _++_}
 use mathlib.Core.Path.{_≡_}
@@ -24,6 +23,7 @@ pub record Unlisted (line : List ℕ) (clock : ℕ) : Type 0 where
   pub is : line ≡ lineOf rate shape
   pub missing : Listed rate clock → ⊥
 
+-- ticket 1: "Refusals: 11 for any other line", "then 10"
 pub record ReadRefusals : Type 0 where
   pub gives-11 : (line : List ℕ) (clock : ℕ) (r : Setting) → Reads line clock r → NoLine line → r .answer ≡ Refused 11
   pub only-11 : (line : List ℕ) (clock : ℕ) (r : Setting) → Reads line clock r → r .answer ≡ Refused 11 → NoLine line
@@ -50,6 +50,7 @@ pub record Unrated (clock divisor lcr : ℕ) : Type 0 where
   pub is : lcr ≡ lcrOf shape
   pub missing : (rate : ℕ) → divisorOf rate clock ≡ Divisor divisor → ⊥
 
+-- ticket 1: "or an LCR byte that no line gives, then 10 (also for a divisor not listed at the clock), then 12 for a lent buffer too short"
 pub record WriteRefusals : Type 0 where
   pub gives-11 : (clock divisor lcr : ℕ) (d d′ : List ℕ) (w : Written) → Writes clock divisor lcr d d′ w → NoShape lcr → w .answer ≡ Refused 11
   pub only-11 : (clock divisor lcr : ℕ) (d d′ : List ℕ) (w : Written) → Writes clock divisor lcr d d′ w → w .answer ≡ Refused 11 → NoShape lcr
@@ -64,6 +65,7 @@ pub record WriteRefusals : Type 0 where
 
 -- ---- the buffer
 
+-- ticket 1: "bytes not written stay"
 pub record Stays : Type 0 where
   -- in a refusal the whole buffer stays
   pub refused : (clock divisor lcr : ℕ) (d d′ : List ℕ) (w : Written) → Writes clock divisor lcr d d′ w → (w .answer ≡ Done → ⊥) → d′ ≡ d

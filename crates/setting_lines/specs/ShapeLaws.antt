@@ -1,20 +1,19 @@
 -- The 40 shapes and their LCR bytes: a test that is computed at each shape, and what it shows.
-use Prim.Native.Nat.{ℕ, zero, suc, _+_, _-_, _*_, _/_, _%_, _≤_, _<_}
+use Prim.Native.Nat.{ℕ, zero, suc, _+_, _-_, _/_, _%_, _<_}
 use mathlib.Core.Bool.{Bool, true, false, not, _&&_, _||_}
-use mathlib.Core.List.{List, [], _∷_, _++_}
-use mathlib.Core.Logic.{⊎-elim}
-use mathlib.Core.Path.{_≡_, refl, ap, ap₂, sym, subst, _∙_}
+use mathlib.Core.List.{List, _++_}
+use mathlib.Core.Path.{_≡_, refl, ap, subst}
 use native.Mathlib.Omega.{arith}
 use lib.Dec.{T, eqb, ltb, eqb→eq}
 use lib.ListN.{length, getD}
 use borrow.Author.Tests.{ltb-true}
 use Rattle.base.specs.Pick.{pick}
-use Rattle.base.specs.PickLaws.{both-hold, not-both, either-way}
+use Rattle.base.specs.PickLaws.{both-hold, not-both}
 use Rattle.base.specs.Bits.{bit, digit}
 use Rattle.base.specs.Every.{every}
 use Rattle.base.specs.EveryLaws.{every-at}
 use Rattle.text.specs.Line.{numeral}
-use Rattle.setting_lines.specs.Fields.{Parity, N, O, E, M, S, letter, parityBits, Shape, Sized, stopText, shapeText, lcrOf, rateText, lineOf}
+use Rattle.setting_lines.specs.Fields.{Parity, N, O, E, M, S, letter, Shape, Sized, stopText, shapeText, lcrOf, rateText, lineOf}
 use Rattle.setting_lines.specs.Guess.{letterBy, shapeBy, lineBy, good, behindRate, codeBy, bitsBy, lcrGuess}
 
 -- ---- a test at every shape
@@ -22,7 +21,7 @@ use Rattle.setting_lines.specs.Guess.{letterBy, shapeBy, lineBy, good, b
 abbrev pub shape : Parity → Bool → ℕ → Shape
 shape p longer more = record { parity = p; bits = 5 + more; longer = longer }
 
--- "bits 5 to 8"
+-- five to eight bits
 abbrev four : Parity → Bool → (Shape → Bool) → Bool
 four p longer test = every 4 (λ more. test (shape p longer more))
 

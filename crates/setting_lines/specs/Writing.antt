@@ -22,7 +22,7 @@ pub record Left : Type 0 where
 abbrev pub left : Written → List ℕ → Left
 left w d = record { written = w; buffer = d }
 
--- a refusal; "bytes not written stay"
+-- ticket 1: in a refusal too "bytes not written stay"
 abbrev pub leftBy : List ℕ → ℕ → Left
 leftBy d number = left (record { answer = Refused number; length = 0 }) d
 

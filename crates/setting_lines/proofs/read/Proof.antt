@@ -1,14 +1,11 @@
 use mathlib.Core.Path.{refl, ap, sym, _∙_}
+use native.Mathlib.Omega.{arith}
+use borrow.Author.Needs.{needs}
 use Rattle.base.specs.PickLaws.{not-both}
 use Rattle.base.specs.declared.Answer.{Answer}
 use Rattle.setting_lines.specs.Reading.{settingBy}
-use Rattle.setting_lines.proofs.Ends.{read-as, read-none}
-use Rattle.setting_lines.proofs.Copies.{made-is, made-length}
-use native.Mathlib.Omega.{arith}
-use Rattle.setting_lines.proofs.Ends.{small, own-made}
-use Rattle.setting_lines.proofs.Copies.{made-fits}
-use Rattle.base.specs.PickLaws.{tests, pick-true, pick-false}
-use borrow.Author.Needs.{needs}
+use Rattle.setting_lines.proofs.Ends.{read-as, read-none, small, own-made}
+use Rattle.setting_lines.proofs.Copies.{made-is, made-length, made-fits}
 use Rattle.setting_lines.proofs.read.Statement.{statement}
 use Rattle.setting_lines.proofs.read.Tie as tie
 
@@ -20,15 +17,13 @@ put-line-requires c κs = small (c .before .before .before .args .line .now) (c 
 
 array-share-prefix-own : tie.Need-array-share-prefix-own
 array-share-prefix-own c =
-    made-fits _ _ _ _ (
-    own-made (c .before .before .before .before .args .line .now) (c .before .before .guess-line .result) (c .before .before .guess-line .ensures) _ (c .put-line .last .0)
-    (c .put-line .result) (omega arith) (c .put-line .ensures))
+    let at = c .before .before in
+    made-fits _ _ _ _ (own-made (at .before .before .args .line .now) _ (at .guess-line .ensures) _ _ _ (omega arith) (c .put-line .ensures))
 
 slice-aggregate-same : tie.Need-slice-aggregate-same
 slice-aggregate-same c =
-    made-length _ _ _ _ (
-    own-made (c .before .before .before .before .before .args .line .now) (c .before .before .before .guess-line .result) (c .before .before .before .guess-line .ensures) _ (c .before .put-line .last .0)
-    (c .before .put-line .result) (omega arith) (c .before .put-line .ensures))
+    let at = c .before .before .before in
+    made-length _ _ _ _ (own-made (at .before .before .args .line .now) _ (at .guess-line .ensures) _ _ _ (omega arith) (c .before .put-line .ensures))
 
 same-requires : tie.Need-same-requires
 same-requires c κs = search needs
@@ -42,20 +37,16 @@ setting-by-requires c κs = search needs
 returns : tie.Need-returns
 returns c =
     let at = c .before .before .before .before .before .before .before in
-    let m =
-    own-made (c .before .before .before .before .before .before .before .before .before .args .line .now) (c .before .before .before .before .before .before .before .guess-line .result) (c .before .before .before .before .before .before .before .guess-line .ensures) _ (c .before .before .before .before .before .put-line .last .0)
-    (c .before .before .before .before .before .put-line .result) (omega arith) (c .before .before .before .before .before .put-line .ensures) in
-    read-as (at .before .before .args .line .now) (at .before .before .args .clock) (c .setting-by .result) (at .guess-line .result) (at .guess-line .ensures)
+    let m = own-made (at .before .before .args .line .now) _ (at .guess-line .ensures) _ _ _ (omega arith) (c .before .before .before .before .before .put-line .ensures) in
+    read-as (at .before .before .args .line .now) (at .before .before .args .clock) _ _ (at .guess-line .ensures)
     (c .before .before .before .same .ensures .0 (c .before .before .if1 .taken) ∙ made-is _ _ _ _ m)
     (c .setting-by .ensures ∙ ap (λ (a : Answer). settingBy a (at .guess-line .result .lcr)) (c .before .divisor .ensures))
 
 returns-2 : tie.Need-returns-2
 returns-2 c =
     let at = c .before .before .before .before .before in
-    let m =
-    own-made (c .before .before .before .before .before .before .before .args .line .now) (c .before .before .before .before .before .guess-line .result) (c .before .before .before .before .before .guess-line .ensures) _ (c .before .before .before .put-line .last .0)
-    (c .before .before .before .put-line .result) (omega arith) (c .before .before .before .put-line .ensures) in
-    read-none (at .before .before .args .line .now) (at .before .before .args .clock) _ (at .guess-line .result) (at .guess-line .ensures)
+    let m = own-made (at .before .before .args .line .now) _ (at .guess-line .ensures) _ _ _ (omega arith) (c .before .before .before .put-line .ensures) in
+    read-none (at .before .before .args .line .now) (at .before .before .args .clock) _ _ (at .guess-line .ensures)
     (λ e. not-both (c .before .same .ensures .1 (e ∙ sym (made-is _ _ _ _ m))) (c .if1 .left)) refl
 
 pub read-spec : {M : Type 1} → statement M

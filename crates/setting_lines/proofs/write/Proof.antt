@@ -1,11 +1,10 @@
+use mathlib.Core.Path.{refl, ap, sym, _∙_}
+use borrow.Author.Needs.{needs}
 use Rattle.rates.specs.declared.Found.{Found}
 use Rattle.setting_lines.specs.RateLaws.{found-small}
 use Rattle.setting_lines.specs.Writing.{writtenBy}
 use Rattle.setting_lines.specs.Guess.{lineBy}
-use mathlib.Core.Path.{refl, ap, sym, _∙_}
 use Rattle.setting_lines.proofs.Ends.{written-as, written-none}
-use Rattle.base.specs.PickLaws.{tests, pick-true, pick-false}
-use borrow.Author.Needs.{needs}
 use Rattle.setting_lines.proofs.write.Statement.{statement}
 use Rattle.setting_lines.proofs.write.Tie as tie
 

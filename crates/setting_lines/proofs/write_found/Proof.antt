@@ -1,9 +1,9 @@
 use mathlib.Core.Path.{sym, _∙_}
 use native.Mathlib.Omega.{arith}
-use Rattle.setting_lines.proofs.Copies.{made, made-fits, made-length, made-is, put-done}
-use Rattle.base.specs.PickLaws.{tests, pick-true, pick-false}
-use borrow.Author.Tests.{eq-eqb, le-leb, le-ltb, lt-leb, lt-ltb, ne-eqb}
+use borrow.Author.Tests.{eq-eqb, lt-leb, lt-ltb, ne-eqb}
 use borrow.Author.Needs.{needs}
+use Rattle.base.specs.PickLaws.{pick-true, pick-false}
+use Rattle.setting_lines.proofs.Copies.{made, made-fits, made-length, made-is, put-done}
 use Rattle.setting_lines.proofs.write_found.Statement.{statement}
 use Rattle.setting_lines.proofs.write_found.Tie as tie
 
@@ -15,15 +15,18 @@ put-line-requires c κs = search needs
 
 array-share-prefix-own : tie.Need-array-share-prefix-own
 array-share-prefix-own c =
-    made-fits _ _ _ _ (made _ (c .before .put-line .last .0) (c .before .put-line .result) (c .before .before .before .before .before .before .args .found .rate) (c .before .before .before .before .before .before .args .lcr) (omega arith) (omega arith) (c .before .put-line .ensures))
+    let a = c .before .before .before .before .before .before .args in
+    made-fits _ _ _ _ (made _ _ _ (a .found .rate) (a .lcr) (omega arith) (omega arith) (c .before .put-line .ensures))
 
 slice-aggregate-copy : tie.Need-slice-aggregate-copy
 slice-aggregate-copy c =
-    made-length _ _ _ _ (made _ (c .before .before .put-line .last .0) (c .before .before .put-line .result) (c .before .before .before .before .before .before .before .args .found .rate) (c .before .before .before .before .before .before .before .args .lcr) (omega arith) (omega arith) (c .before .before .put-line .ensures))
+    let a = c .before .before .before .before .before .before .before .args in
+    made-length _ _ _ _ (made _ _ _ (a .found .rate) (a .lcr) (omega arith) (omega arith) (c .before .before .put-line .ensures))
 
 copy-requires : tie.Need-copy-requires
 copy-requires c κs =
-    omega (arith, made-length _ _ _ _ (made _ (c .before .before .before .put-line .last .0) (c .before .before .before .put-line .result) (c .before .before .before .before .before .before .before .before .args .found .rate) (c .before .before .before .before .before .before .before .before .args .lcr) (omega arith) (omega arith) (c .before .before .before .put-line .ensures)))
+    let a = c .before .before .before .before .before .before .before .before .args in
+    omega (arith, made-length _ _ _ _ (made _ _ _ (a .found .rate) (a .lcr) (omega arith) (omega arith) (c .before .before .before .put-line .ensures)))
 
 same-length : tie.Need-same-length
 same-length c = search needs
@@ -31,7 +34,7 @@ same-length c = search needs
 returns : tie.Need-returns
 returns c =
     let a = c .before .before .before .before .before .before .before .before .before .before .before .args in
-    let m = made _ (c .before .before .before .before .before .before .put-line .last .0) (c .before .before .before .before .before .before .put-line .result) (c .before .before .before .before .before .before .before .before .before .before .before .args .found .rate) (c .before .before .before .before .before .before .before .before .before .before .before .args .lcr) (omega arith) (omega arith) (c .before .before .before .before .before .before .put-line .ensures) in
+    let m = made _ _ _ (a .found .rate) (a .lcr) (omega arith) (omega arith) (c .before .before .before .before .before .before .put-line .ensures) in
     put-done (a .found) _ _ (a .out .now) _ _
     (sym (c .before .before .before .before .before .before .before .before .before .refusal .ensures) ∙ c .before .before .before .before .before .before .before .before .if1 .taken)
     (made-is _ _ _ _ m) (m .size) (c .before .before .before .before .before .if2 .taken) (c .before .before .copy .ensures .1)

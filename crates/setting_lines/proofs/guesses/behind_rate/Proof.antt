@@ -1,8 +1,8 @@
-use Rattle.setting_lines.proofs.Supposed.{none-behind}
-use Rattle.base.specs.PickLaws.{pick-true, pick-false}
 use borrow.Author.Tests.{eq-eqb, ne-eqb}
-use Rattle.setting_lines.specs.Guess.{behindRate}
 use borrow.Author.Needs.{needs}
+use Rattle.base.specs.PickLaws.{pick-true, pick-false}
+use Rattle.setting_lines.specs.Guess.{behindRate}
+use Rattle.setting_lines.proofs.Supposed.{none-behind}
 use Rattle.setting_lines.proofs.guesses.behind_rate.Statement.{statement}
 use Rattle.setting_lines.proofs.guesses.behind_rate.Tie as tie
 

@@ -1,9 +1,8 @@
 use mathlib.Core.Path.{sym}
 use native.Mathlib.Omega.{arith}
-use lib.Seq.{length-take-le}
-use Rattle.base.specs.PickLaws.{tests}
-use Rattle.setting_lines.specs.Guess.{guessAt}
 use borrow.Author.Needs.{needs}
+use lib.Seq.{length-take-le}
+use Rattle.setting_lines.specs.Guess.{guessAt}
 use Rattle.setting_lines.proofs.guesses.guess_at.Statement.{statement}
 use Rattle.setting_lines.proofs.guesses.guess_at.Tie as tie
 

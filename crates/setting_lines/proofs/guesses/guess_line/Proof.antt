@@ -1,9 +1,9 @@
 use native.Mathlib.Omega.{arith}
-use Rattle.setting_lines.proofs.Supposed.{behind-least}
-use Rattle.base.specs.PickLaws.{tests, pick-true, pick-false}
 use borrow.Author.Tests.{le-leb, le-ltb, lt-leb, lt-ltb}
-use Rattle.setting_lines.specs.Guess.{guessed}
 use borrow.Author.Needs.{needs}
+use Rattle.base.specs.PickLaws.{pick-true, pick-false}
+use Rattle.setting_lines.specs.Guess.{guessed}
+use Rattle.setting_lines.proofs.Supposed.{behind-least}
 use Rattle.setting_lines.proofs.guesses.guess_line.Statement.{statement}
 use Rattle.setting_lines.proofs.guesses.guess_line.Tie as tie
 

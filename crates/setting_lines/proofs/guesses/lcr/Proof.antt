@@ -1,9 +1,8 @@
 use native.Mathlib.Omega.{arith}
+use borrow.Author.Needs.{needs}
 use Rattle.base.specs.Bits.{digit}
 use Rattle.setting_lines.specs.Guess.{lcrGuess, bitsBy}
 use Rattle.setting_lines.proofs.Supposed.{flag-small, code-small}
-use Rattle.base.specs.PickLaws.{tests}
-use borrow.Author.Needs.{needs}
 use Rattle.setting_lines.proofs.guesses.lcr.Statement.{statement}
 use Rattle.setting_lines.proofs.guesses.lcr.Tie as tie
 

@@ -1,14 +1,12 @@
 use mathlib.Core.Path.{_∙_}
 use native.Mathlib.Nat.{zero-add}
+use native.Mathlib.Omega.{arith}
+use borrow.Author.Needs.{needs}
 use lib.ListN.{length-append}
 use Rattle.text.specs.StoreLaws.{sets-append}
 use Rattle.setting_lines.specs.Fields.{rateText}
-use Rattle.setting_lines.specs.Guess.{shapeBy}
-use native.Mathlib.Omega.{arith}
-use Rattle.setting_lines.specs.Guess.{lineBy}
+use Rattle.setting_lines.specs.Guess.{shapeBy, lineBy}
 use Rattle.setting_lines.proofs.Texts.{rate-short}
-use Rattle.base.specs.PickLaws.{tests}
-use borrow.Author.Needs.{needs}
 use Rattle.setting_lines.proofs.lines.put_line.Statement.{statement}
 use Rattle.setting_lines.proofs.lines.put_line.Tie as tie
 

@@ -1,13 +1,12 @@
-use mathlib.Core.Path.{refl}
 use Prim.Native.Nat.{_/_}
+use mathlib.Core.Path.{refl}
 use native.Mathlib.Omega.{arith}
 use borrow.Author.Tests.{eq-eqb}
+use borrow.Author.Needs.{needs}
 use Rattle.base.specs.PickLaws.{pick-true}
 use Rattle.text.specs.DecimalLaws.{decimal-length, front-length}
 use Rattle.setting_lines.specs.Fields.{rateText}
 use Rattle.setting_lines.proofs.Texts.{rate-whole, last-digit}
-use Rattle.base.specs.PickLaws.{tests}
-use borrow.Author.Needs.{needs}
 use Rattle.setting_lines.proofs.lines.put_rate.Statement.{statement}
 use Rattle.setting_lines.proofs.lines.put_rate.Tie as tie
 

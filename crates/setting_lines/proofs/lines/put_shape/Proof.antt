@@ -1,11 +1,10 @@
 use Prim.Native.Nat.{_+_, _%_}
-use Rattle.setting_lines.specs.Fields.{stopText}
 use mathlib.Core.Path.{_∙_}
 use native.Mathlib.Omega.{arith}
+use borrow.Author.Needs.{needs}
+use Rattle.setting_lines.specs.Fields.{stopText}
 use Rattle.setting_lines.specs.Guess.{shapeBy}
 use Rattle.setting_lines.proofs.Texts.{five}
-use Rattle.base.specs.PickLaws.{tests}
-use borrow.Author.Needs.{needs}
 use Rattle.setting_lines.proofs.lines.put_shape.Statement.{statement}
 use Rattle.setting_lines.proofs.lines.put_shape.Tie as tie
 

@@ -1,10 +1,9 @@
 use mathlib.Core.Path.{refl}
 use borrow.Author.Tests.{eq-eqb, ne-eqb}
+use borrow.Author.Needs.{needs}
 use Rattle.base.specs.PickLaws.{pick-true, pick-false}
 use Rattle.setting_lines.specs.Fields.{stopText}
 use Rattle.setting_lines.proofs.Texts.{three}
-use Rattle.base.specs.PickLaws.{tests}
-use borrow.Author.Needs.{needs}
 use Rattle.setting_lines.proofs.lines.put_stop.Statement.{statement}
 use Rattle.setting_lines.proofs.lines.put_stop.Tie as tie
 

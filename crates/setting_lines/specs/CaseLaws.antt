@@ -3,7 +3,7 @@ use Prim.Native.Nat.{ℕ, _≤_, _<_}
 use mathlib.Core.Bool.{true, false}
 use mathlib.Core.List.{List, _++_}
 use mathlib.Core.Logic.{inl, inr, ⊎-elim}
-use mathlib.Core.Path.{_≡_, refl, ap, sym, subst, _∙_}
+use mathlib.Core.Path.{_≡_, refl, ap, _∙_}
 use native.Mathlib.Omega.{arith}
 use lib.Dec.{leb}
 use lib.ListN.{length, drop}
@@ -13,9 +13,9 @@ use Rattle.base.specs.PickLaws.{pick-true, pick-false, either-way}
 use Rattle.base.specs.Answers.{refusalOf, valueOf}
 use Rattle.base.specs.declared.Answer.{Answer}
 use Rattle.base.specs.declared.Answer.the-variants.{Done, Divisor, Refused}
-use Rattle.rates.specs.Rates.{divisorOf, rateOf}
-use Rattle.rates.specs.RatesLaws.{Listed, accepted}
-use Rattle.rates.specs.BackLaws.{found, none, divisor-either, either}
+use Rattle.rates.specs.Rates.{divisorOf}
+use Rattle.rates.specs.RatesLaws.{accepted}
+use Rattle.rates.specs.BackLaws.{rateFound, rateNone, divisor-either, either}
 use Rattle.rates.specs.declared.Found.{Found}
 use Rattle.setting_lines.specs.Fields.{Shape, Sized, Rated, lineOf, lcrOf}
 use Rattle.setting_lines.specs.Reading.{refusedBy, settingBy, NoLine, Reads}
@@ -82,11 +82,11 @@ pub data WriteCase (clock divisor lcr : ℕ) (d : List ℕ) (l : Left) : Type 0 
   lined : (n : Lined clock divisor lcr) → length (lineWith n) ≤ length d
       → l ≡ left (record { answer = Done; length = length (lineWith n) }) (lineWith n ++ drop (length (lineWith n)) d) → WriteCase clock divisor lcr d l
 
-by-found : (rate : ℕ) (line d : List ℕ) → writtenBy (found rate) line d ≡ putInto d line
+by-found : (rate : ℕ) (line d : List ℕ) → writtenBy (rateFound rate) line d ≡ putInto d line
 unfolding refusalOf pick
 by-found rate line d = refl
 
-by-none : (line d : List ℕ) → writtenBy none line d ≡ leftBy d 10
+by-none : (line d : List ℕ) → writtenBy rateNone line d ≡ leftBy d 10
 unfolding refusalOf pick
 by-none line d = refl
 
