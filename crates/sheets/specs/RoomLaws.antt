@@ -9,7 +9,7 @@ use Rattle.setting_lines.specs.Writing.{Left, left, leftBy, Writes}
 use Rattle.setting_lines.specs.SettingRefusals.{Lined, lineWith}
 use Rattle.setting_lines.specs.RateLaws.{listed-rated}
 use Rattle.setting_lines.specs.declared.Written.{Written}
-use Rattle.setting_lines.proofs.Cases.{WriteCase, no-shape, unrated, short, lined, write-case}
+use Rattle.setting_lines.specs.CaseLaws.{WriteCase, no-shape, unrated, short, lined, write-case}
 use Rattle.setting_lines.proofs.Statements.{statements}
 
 abbrev textOf : Left → List ℕ
