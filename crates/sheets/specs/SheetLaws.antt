@@ -1,4 +1,4 @@
--- The control sheet's own line, read and written: "Our control sheets give settings as `9600,E,7,2`."
+-- The control sheet's own line, 9600,E,7,2 at clock 0, read and written.
 use Prim.Native.Nat.{ℕ}
 use mathlib.Core.Bool.{true}
 use mathlib.Core.List.{List}
