@@ -53,7 +53,9 @@ module _ (values : List ℕ) (place : ℕ) (inside : place < 4) (room : place < 
       → numbersAfter (reading values place n begun) c ≡ reading values place (base place * n + worth c) true
   unfolding numbersAfter withDigit
   digit-read n c begun digit =
-      rw (pick-false _ _ _ (lt-leb 4 place inside), pick-false _ _ _ (ne-eqb c space (no-space place c digit)), pick-true _ _ _ (lt-ltb (worth c) (base place) digit), getD-set-same values place (upTo 65535 n) 0 room, set-set values place (upTo 65535 n), up-to-more 65535 n (base place) (worth c) (some-base place))
+      rw (pick-false _ _ _ (lt-leb 4 place inside), pick-false _ _ _ (ne-eqb c space (no-space place c digit)))
+      (rw (pick-true _ _ _ (lt-ltb (worth c) (base place) digit), getD-set-same values place (upTo 65535 n) 0 room)
+      (rw (set-set values place (upTo 65535 n), up-to-more 65535 n (base place) (worth c) (some-base place))))
 
   digits-read : (n : ℕ) (l : List ℕ) → AllDigits (base place) l
       → numbersBehind (reading values place n true) l ≡ reading values place (valued (base place) n l) true

@@ -137,7 +137,8 @@ module _ (s : Numbers) (c : ℕ) where
   counted-other : eqb c space ≡ false → Counted (pick (ltb (worth c) (base (s .place))) (withDigit s (worth c)) (spoilt s))
   unfolding withDigit
   counted-other not =
-      pick-either Counted (ltb (worth c) (base (s .place))) _ _ (λ h. rw (pick-false {A = ℕ} (eqb c space) 1 0 not) (omega arith)) (λ h. absurd (omega arith))
+      pick-either Counted (ltb (worth c) (base (s .place))) _ _
+      (λ h. rw (pick-false {A = ℕ} (eqb c space) 1 0 not) (omega arith)) (λ h. absurd (omega arith))
 
   counted : Counted (numbersAfter s c)
   unfolding numbersAfter

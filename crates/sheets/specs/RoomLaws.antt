@@ -33,8 +33,10 @@ module _ (clock divisor lcr : ℕ) (d d′ e e′ : List ℕ) (w v : Written) wh
     written n (unrated a t) = absurd (a .missing (n .rate) (n .listed))
     written n (short m full t) = absurd (omega (arith, full, line-short m))
     written n (lined m fits t) =
-        let u : _ = statements .write-refusals .gives-line clock divisor lcr e e′ v q m (omega (arith, line-short m)) in
-        (ap (λ (l : Left). l .written) t ∙ sym (ap (λ (l : Left). l .written) u), ap textOf t ∙ take-append-seam (lineWith m) _ ∙ sym (ap textOf u ∙ take-append-seam (lineWith m) _))
+        let u : _ = statements .write-refusals .gives-line clock divisor lcr e e′ v q m (omega (arith, line-short m)) in (
+          ap (λ (l : Left). l .written) t ∙ sym (ap (λ (l : Left). l .written) u),
+          ap textOf t ∙ take-append-seam (lineWith m) _ ∙ sym (ap textOf u ∙ take-append-seam (lineWith m) _),
+        )
 
     by-cases : WriteCase clock divisor lcr d (left w d′) → WriteCase clock divisor lcr e (left v e′) → Same
     by-cases (no-shape a t) (no-shape b u) = refused 11 t u

@@ -53,7 +53,8 @@ sheet-written d d′ r p =
 
 -- ---- refused
 
-pub other-read : (line : List ℕ) (clock : ℕ) (d d′ : List ℕ) (r : ℕ) → NoLine line → LineReply line clock d d′ r → AtStart (quoted "11 - -\n") d d′ r
+pub other-read : (line : List ℕ) (clock : ℕ) (d d′ : List ℕ) (r : ℕ) → NoLine line → LineReply line clock d d′ r
+    → AtStart (quoted "11 - -\n") d d′ r
 unfolding settingText pick refusalOf decimal digitsWithin
 other-read line clock d d′ r none p =
     ⊎-elim
@@ -74,7 +75,8 @@ unlisted-read d d′ r p =
     }) in
     subst (λ (s : Setting). AtStart (settingText s) d d′ r) (read-one _ 3 (p .setting) (refusedBy 10) (p .read) own) (p .told)
 
-pub short-written : (d d′ : List ℕ) (r : ℕ) → NumbersReply (numbersBehind noNumbers (quoted "0 12 1E 9")) d d′ r → AtStart (quoted "12 -\n") d d′ r
+pub short-written : (d d′ : List ℕ) (r : ℕ) → NumbersReply (numbersBehind noNumbers (quoted "0 12 1E 9")) d d′ r
+    → AtStart (quoted "12 -\n") d d′ r
 unfolding upTo worth base withDigit withBlank numbersAfter four lined writtenText pick refusalOf decimal digitsWithin rateText stopText shapeText lineOf
 short-written d d′ r p =
     let told : _ = p .answer refl in
