@@ -6,7 +6,8 @@ use Rattle.base.specs.PickLaws.{not-true}
 use Rattle.base.specs.Bits.{bit, digit}
 use Rattle.registers.specs.Words.{wordBits, parityOff}
 use Rattle.setting_lines.specs.Fields.{Shape, lcrOf}
-use Rattle.setting_lines.specs.ShapeLaws.{at-shape, same-digit, holds}
+use Rattle.base.specs.EveryLaws.{holds}
+use Rattle.setting_lines.specs.ShapeLaws.{at-shape, same-digit}
 use Rattle.demands.specs.SheetMeant.{withoutParity, SheetMeant}
 
 pub sheet-meant : SheetMeant

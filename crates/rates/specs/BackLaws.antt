@@ -1,12 +1,12 @@
 -- The way back from a divisor to its rate: exactly that of the list, so that each way undoes the other.
-use Prim.Native.Nat.{ℕ, zero, suc, _<_, _≤_}
+use Prim.Native.Nat.{ℕ, suc, _<_, _≤_}
 use mathlib.Core.Bool.{true, false}
 use mathlib.Core.List.{List, [], _∷_, List·Memᴰ, List·Memᴰ·cases-cons, List·Memᴰ·not-nil}
 use mathlib.Core.Logic.{_⊎_, inl, inr, ⊎-elim}
 use mathlib.Core.Path.{_≡_, refl, ap, sym, subst, _∙_}
 use native.Mathlib.Nat.{not-suc-le-zero}
 use native.Mathlib.Omega.{arith}
-use borrow.Author.Tests.{ltb-true, ltb-false, eqb-true, eqb-false, eq-eqb}
+use borrow.Author.Tests.{ltb-true, ltb-false, eqb-true, eqb-false}
 use lib.Dec.{eqb, ltb}
 use lib.ListN.{length, getD}
 use Rattle.base.specs.Pick.{pick}
@@ -36,19 +36,6 @@ in-row n (m ∷ ms) inside =
     (λ (later : eqb m n ≡ false).
     let row : pick (eqb m n) 0 (suc (rowOf n ms)) ≡ suc (rowOf n ms) = pick-false _ _ _ later in
     ap (λ (k : ℕ). getD (m ∷ ms) k 0) row ∙ in-row n ms (omega arith))
-    (either-way (eqb m n))
-
--- a number that stands in some row has a row
-has-row : (n : ℕ) (ms : List ℕ) (k : ℕ) → k < length ms → getD ms k 0 ≡ n → rowOf n ms < length ms
-unfolding rowOf
-has-row n [] k inside is = absurd (not-suc-le-zero inside)
-has-row n (m ∷ ms) zero inside is =
-    let row : pick (eqb m n) 0 (suc (rowOf n ms)) ≡ 0 = pick-true _ _ _ (eq-eqb m n is) in omega arith
-has-row n (m ∷ ms) (suc k) inside is =
-    let later : rowOf n ms < length ms = has-row n ms k (omega arith) is in
-    ⊎-elim
-    (λ (here : eqb m n ≡ true). let row : pick (eqb m n) 0 (suc (rowOf n ms)) ≡ 0 = pick-true _ _ _ here in omega arith)
-    (λ (other : eqb m n ≡ false). let row : pick (eqb m n) 0 (suc (rowOf n ms)) ≡ suc (rowOf n ms) = pick-false _ _ _ other in omega arith)
     (either-way (eqb m n))
 
 member-row : (n : ℕ) (ms : List ℕ) → List·Memᴰ n ms → rowOf n ms < length ms
@@ -118,7 +105,7 @@ module _ (divisor clock : ℕ) where
         pick-false _ _ _ behind,
         λ rate listed.
             let at = answered rate clock divisor listed in
-            let has = has-row divisor (divisorsOf clock) (at .row) (at .inside) (at .given) in
+            let has = member-row divisor (divisorsOf clock) (rw (← at .given) (member (divisorsOf clock) (at .row) (at .inside))) in
             let no : length (divisorsOf clock) ≤ rowOf divisor (divisorsOf clock) = ltb-false _ _ behind in omega arith,
       ))
       (either-way (ltb (rowOf divisor (divisorsOf clock)) (length (divisorsOf clock))))

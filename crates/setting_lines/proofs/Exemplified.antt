@@ -70,10 +70,9 @@ answers line clock =
 all-read : (es : List Example) → map (λ e. answerOf (quoted (e .line)) (e .clock)) es ≡ map (λ e. e .setting) es → AllRead es
 all-read [] is = tt
 all-read (e ∷ es) is =
-    let here : answerOf (quoted (e .line)) (e .clock) ≡ e .setting = cc in (
-      λ r reads. read-one (quoted (e .line)) (e .clock) r (answerOf (quoted (e .line)) (e .clock)) reads (answers (quoted (e .line)) (e .clock)) ∙ here,
-      all-read es (cc),
-    )
+    let here : answerOf (quoted (e .line)) (e .clock) ≡ e .setting = cc in
+    let this : Reads (quoted (e .line)) (e .clock) (e .setting) = rw (← here) (answers (quoted (e .line)) (e .clock)) in
+    ((this, λ r reads. read-one (quoted (e .line)) (e .clock) r (e .setting) reads this), all-read es (cc))
 
 -- a listed divisor and a good byte, written
 wrote : (clock divisor lcr rate : ℕ) (text : String) → good lcr ≡ true → divisorOf rate clock ≡ Divisor divisor

@@ -16,7 +16,7 @@ use Rattle.setting_lines.specs.Fields.{N, rateText, stopText, shapeText,
 use Rattle.setting_lines.specs.Reading.{NoLine}
 use Rattle.setting_lines.specs.Writing.{Left, left, leftBy, NoShape}
 use Rattle.setting_lines.specs.Guess.{lineBy}
-use Rattle.setting_lines.specs.SettingRefusals.{Unlisted, ReadRefusals, Lined, lineWith, Unrated, WriteRefusals, Stays, Longest}
+use Rattle.setting_lines.specs.SettingRefusals.{Unlisted, ReadRefusals, Lined, lineWith, Unrated, WriteRefusals, Nothing, Stays, Longest}
 use Rattle.setting_lines.specs.ShapeLaws.{shape, line-by}
 use Rattle.setting_lines.specs.LineLaws.{line-short, one-rate}
 use Rattle.setting_lines.specs.declared.Setting.{Setting}
@@ -150,6 +150,28 @@ write-refusals =
       gives-12 = λ clock divisor lcr d d′ w writes. 12-told clock divisor lcr d (left w d′) (write-case clock divisor lcr d d′ w writes);
       only-12 = λ clock divisor lcr d d′ w writes. 12-alone clock divisor lcr d (left w d′) (write-case clock divisor lcr d d′ w writes);
       gives-line = λ clock divisor lcr d d′ w writes. line-told clock divisor lcr d (left w d′) (write-case clock divisor lcr d d′ w writes);
+    }
+
+-- ---- beside a refusal
+
+module _ (line : List ℕ) (clock : ℕ) (r : Setting) where
+  no-numbers : ReadCase line clock r → (r .answer ≡ Done → ⊥) → (r .divisor ≡ 0) × (r .lcr ≡ 0)
+  no-numbers (no-line other is) refused = rw is (refl, refl)
+  no-numbers (unlisted u is) refused = rw is (refl, refl)
+  no-numbers (meant divisor m is) refused = absurd (refused (ap (λ (x : Setting). x .answer) is))
+
+module _ (clock divisor lcr : ℕ) (d : List ℕ) (l : Left) where
+  no-length : WriteCase clock divisor lcr d l → (l .written .answer ≡ Done → ⊥) → l .written .length ≡ 0
+  no-length (no-shape other is) refused = ap (λ (x : Left). x .written .length) is
+  no-length (unrated u is) refused = ap (λ (x : Left). x .written .length) is
+  no-length (short n less is) refused = ap (λ (x : Left). x .written .length) is
+  no-length (lined n fits is) refused = absurd (refused (ap (λ (x : Left). x .written .answer) is))
+
+pub nothing : Nothing
+nothing =
+    record {
+      read = λ line clock r reads. no-numbers line clock r (read-case line clock r reads);
+      written = λ clock divisor lcr d d′ w writes. no-length clock divisor lcr d (left w d′) (write-case clock divisor lcr d d′ w writes);
     }
 
 pub stays : Stays

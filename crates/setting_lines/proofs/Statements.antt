@@ -2,7 +2,7 @@
 use Rattle.setting_lines.specs.Statements.{Statements}
 use Rattle.setting_lines.proofs.Returning.{read-back, written-back}
 use Rattle.setting_lines.proofs.Forty.{forty-bytes}
-use Rattle.setting_lines.proofs.Refusing.{read-refusals, write-refusals, stays, longest}
+use Rattle.setting_lines.proofs.Refusing.{read-refusals, write-refusals, nothing, stays, longest}
 use Rattle.setting_lines.proofs.Exemplified.{exemplified}
 
 pub statements : Statements
@@ -13,6 +13,7 @@ statements =
       forty-bytes = forty-bytes;
       read-refusals = read-refusals;
       write-refusals = write-refusals;
+      nothing = nothing;
       stays = stays;
       longest = longest;
       examples = exemplified;

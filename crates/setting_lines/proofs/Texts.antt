@@ -2,7 +2,6 @@
 use Prim.Native.Nat.{ℕ, suc, _+_, _/_, _%_, _≤_}
 use mathlib.Core.Bool.{Bool, true, false}
 use mathlib.Core.List.{List, [], _∷_}
-use mathlib.Core.Logic.{⊎-elim}
 use mathlib.Core.Path.{_≡_}
 use native.Mathlib.Nat.{zero-add}
 use native.Mathlib.Omega.{arith}
@@ -11,7 +10,7 @@ use lib.ListN.{length, set, length-append}
 use lib.Seq.{sets}
 use borrow.Author.Tests.{ne-eqb}
 use Rattle.base.specs.Bits.{bit}
-use Rattle.base.specs.PickLaws.{pick-true, pick-false, either-way}
+use Rattle.base.specs.PickLaws.{pick-false, pick-either}
 use Rattle.text.specs.Line.{numeral, decimal}
 use Rattle.text.specs.Front.{front}
 use Rattle.text.specs.DecimalLaws.{decimal-length, decimal-front}
@@ -24,17 +23,13 @@ use Rattle.setting_lines.specs.Guess.{shapeBy, lineBy}
 pub rate-short : (rate : ℕ) → rate ≤ 999990 → length (rateText rate) ≤ 5
 unfolding rateText
 rate-short rate small =
-    ⊎-elim
-    (λ (t : eqb rate 1345 ≡ true). rw (pick-true _ _ _ t) (omega arith))
-    (λ (f : eqb rate 1345 ≡ false). rw (pick-false _ _ _ f) (decimal-length 4 (rate / 10) (omega arith)))
-    (either-way (eqb rate 1345))
+    pick-either (λ (l : List ℕ). length l ≤ 5) (eqb rate 1345) _ _ (omega arith) (decimal-length 4 (rate / 10) (omega arith))
 
 pub stop-short : (bits : ℕ) (longer : Bool) → length (stopText bits longer) ≤ 3
 unfolding stopText
 stop-short bits false = omega arith
 stop-short bits true =
-    ⊎-elim (λ (t : eqb bits 5 ≡ true). rw (pick-true _ _ _ t) (omega arith)) (λ (f : eqb bits 5 ≡ false). rw (pick-false _ _ _ f) (omega arith))
-    (either-way (eqb bits 5))
+    pick-either (λ (l : List ℕ). length l ≤ 3) (eqb bits 5) _ _ (omega arith) (omega arith)
 
 pub shape-short : (lcr : ℕ) → length (shapeBy lcr) ≤ 8
 unfolding shapeBy

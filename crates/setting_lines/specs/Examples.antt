@@ -14,7 +14,7 @@ use Rattle.setting_lines.specs.declared.Written.{Written}
 
 -- a line at a clock has this answer and no other
 abbrev pub Read : String → ℕ → Setting → Type 0
-Read line clock setting = (r : Setting) → Reads (quoted line) clock r → r ≡ setting
+Read line clock setting = Reads (quoted line) clock setting × ((r : Setting) → Reads (quoted line) clock r → r ≡ setting)
 
 -- a divisor and an LCR byte at a clock are written as this line, where 13 bytes are lent
 abbrev pub Wrote : ℕ → ℕ → ℕ → String → Type 0
@@ -48,6 +48,15 @@ examples =
     ∷ example "300,N,5,2" 0 (refusedBy 11)
     ∷ example "300,N,6,2" 0 (settingOf 384 0b000_101)
     ∷ example "300,N,6,1.5" 0 (refusedBy 11)
+    ∷ example "300,N,7,2" 0 (settingOf 384 0b000_110)
+    ∷ example "300,N,7,1.5" 0 (refusedBy 11)
+    ∷ example "300,N,8,2" 0 (settingOf 384 0b000_111)
+    ∷ example "300,N,8,1.5" 0 (refusedBy 11)
+    -- ticket 1: "bits 5 to 8", each with the shorter stop
+    ∷ example "300,N,4,1" 0 (refusedBy 11)
+    ∷ example "300,N,5,1" 0 (settingOf 384 0b000_000)
+    ∷ example "300,N,6,1" 0 (settingOf 384 0b000_001)
+    ∷ example "300,N,7,1" 0 (settingOf 384 0b000_010)
     ∷ example "300,N,9,1" 0 (refusedBy 11)
     -- ticket 1: "or 134.5"
     ∷ example "134.5,N,8,1" 0 (settingOf 857 0b000_011)

@@ -3,23 +3,23 @@ use Prim.Native.Nat.{ℕ, zero, suc, _+_, _-_, _*_, _≤_, _<_}
 use mathlib.Core.Bool.{Bool, true, false, _&&_}
 use mathlib.Core.List.{List, [], _∷_}
 use mathlib.Core.Logic.{inl, inr, ⊎-elim}
-use mathlib.Core.Path.{_≡_, refl, ap, ap₂, sym, subst, _∙_}
+use mathlib.Core.Path.{_≡_, refl, ap, ap₂, sym, _∙_}
 use native.Mathlib.Omega.{arith}
 use lib.Dec.{T, eqb, leb, ltb}
 use lib.ListN.{length, getD, take, length-append}
 use lib.Seq.{take-at, getD-append-add}
 use borrow.Author.Tests.{ne-eqb, eqb-true, eqb-false, le-ltb, lt-leb, ltb-false}
 use Rattle.base.specs.Pick.{pick}
-use Rattle.base.specs.PickLaws.{pick-true, pick-false, pick-either, either-way}
+use Rattle.base.specs.PickLaws.{pick-false, pick-either, pick-cases, either-way}
 use Rattle.base.specs.Bits.{digit}
 use Rattle.base.specs.Every.{every}
-use Rattle.base.specs.EveryLaws.{every-at}
+use Rattle.base.specs.EveryLaws.{every-at, holds}
 use Rattle.text.specs.Line.{numeral, decimal}
 use Rattle.text.specs.FormLaws.{denoted, Digits, decimal-denotes, decimal-digits}
 use Rattle.setting_lines.specs.Fields.{point, letter, Shape, Sized, Rated, odd134, rateText, shapeText, lcrOf, lineOf}
 use Rattle.setting_lines.specs.Guess.{behindRate, good, halved, codeBy, bitsBy, lcrGuess, rateGuess, someGuess, guessAt, guessed}
 use Rattle.setting_lines.specs.RateLaws.{text-odd, text-whole, text-short}
-use Rattle.setting_lines.specs.ShapeLaws.{both, holds, text-length, text-longer, lcr-guess}
+use Rattle.setting_lines.specs.ShapeLaws.{both, text-length, text-longer, lcr-guess}
 use Rattle.setting_lines.specs.declared.guesses.Guess.{Guess}
 
 -- ---- the rate
@@ -59,18 +59,10 @@ pub guess-rated : (front : List ℕ) → Rated (rateGuess front)
 unfolding rateGuess
 guess-rated front =
     pick-either Rated (halved front) _ _ (inl refl)
-    (⊎-elim
-    (λ (large : ltb 99999 (denoted 0 front) ≡ true). subst Rated (sym (pick-true _ _ _ large)) one)
-    (λ (few : ltb 99999 (denoted 0 front) ≡ false).
-    let most : denoted 0 front ≤ 99999 = ltb-false _ _ few in
-    subst Rated (sym (pick-false _ _ _ few))
-    (⊎-elim
-    (λ (none : eqb (denoted 0 front) 0 ≡ true). subst Rated (sym (pick-true _ _ _ none)) one)
-    (λ (some : eqb (denoted 0 front) 0 ≡ false).
-    let least : 1 ≤ denoted 0 front = above (denoted 0 front) (eqb-false _ _ some) in
-    subst Rated (sym (pick-false _ _ _ some)) (inr (denoted 0 front, least, most, refl)))
-    (either-way (eqb (denoted 0 front) 0))))
-    (either-way (ltb 99999 (denoted 0 front))))
+    (pick-cases Rated (ltb 99999 (denoted 0 front)) _ _ (λ large. one)
+    (λ few.
+    pick-cases Rated (eqb (denoted 0 front) 0) _ _ (λ none. one)
+    (λ some. inr (denoted 0 front, above (denoted 0 front) (eqb-false _ _ some), ltb-false _ _ few, refl))))
   where
     one : Rated 10
     one = inr (1, omega arith, omega arith, refl)

@@ -10,6 +10,7 @@ use lib.ListN.{length, getD, length-append, List·getD-append}
 use borrow.Author.Tests.{leb-true, le-leb}
 use Rattle.base.specs.Pick.{pick}
 use Rattle.base.specs.PickLaws.{both-hold, not-both}
+use Rattle.base.specs.EveryLaws.{holds}
 use Rattle.text.specs.Line.{numeral, decimal}
 use Rattle.text.specs.FormLaws.{Digits, decimal-digits, decimal-leads}
 use Rattle.rates.specs.Rates.{divisorOf, rateOf}
@@ -18,7 +19,7 @@ use Rattle.setting_lines.specs.Reading.{settingBy, NoLine, Reads}
 use Rattle.setting_lines.specs.Writing.{left, writtenBy, Writes}
 use Rattle.setting_lines.specs.Guess.{guessed, lineBy}
 use Rattle.setting_lines.specs.RateLaws.{text-odd, text-whole, text-short}
-use Rattle.setting_lines.specs.ShapeLaws.{at-shape, holds, line-by}
+use Rattle.setting_lines.specs.ShapeLaws.{at-shape, line-by}
 use Rattle.setting_lines.specs.GuessLaws.{guess-right}
 use Rattle.setting_lines.specs.declared.Setting.{Setting}
 use Rattle.setting_lines.specs.declared.Written.{Written}

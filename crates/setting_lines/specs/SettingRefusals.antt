@@ -63,6 +63,12 @@ pub record WriteRefusals : Type 0 where
   pub gives-line : (clock divisor lcr : ℕ) (d d′ : List ℕ) (w : Written) → Writes clock divisor lcr d d′ w
       → (l : Lined clock divisor lcr) → length (lineWith l) ≤ length d → left w d′ ≡ left (record { answer = Done; length = length (lineWith l) }) (lineWith l ++ drop (length (lineWith l)) d)
 
+-- ---- the numbers beside a refusal are 0
+
+pub record Nothing : Type 0 where
+  pub read : (line : List ℕ) (clock : ℕ) (r : Setting) → Reads line clock r → (r .answer ≡ Done → ⊥) → (r .divisor ≡ 0) × (r .lcr ≡ 0)
+  pub written : (clock divisor lcr : ℕ) (d d′ : List ℕ) (w : Written) → Writes clock divisor lcr d d′ w → (w .answer ≡ Done → ⊥) → w .length ≡ 0
+
 -- ---- the buffer
 
 -- ticket 1: "bytes not written stay"

@@ -11,7 +11,7 @@ use Rattle.base.specs.Pick.{pick}
 use Rattle.base.specs.PickLaws.{both-hold, not-both}
 use Rattle.base.specs.Bits.{bit, digit}
 use Rattle.base.specs.Every.{every}
-use Rattle.base.specs.EveryLaws.{every-at}
+use Rattle.base.specs.EveryLaws.{every-at, holds}
 use Rattle.text.specs.Line.{numeral}
 use Rattle.setting_lines.specs.Fields.{Parity, N, O, E, M, S, letter, Shape, Sized, stopText, shapeText, lcrOf, rateText, lineOf}
 use Rattle.setting_lines.specs.Guess.{letterBy, shapeBy, lineBy, good, behindRate, codeBy, bitsBy, lcrGuess}
@@ -69,10 +69,6 @@ same-digit true true e = refl
 same-digit true false e = absurd (omega arith)
 same-digit false true e = absurd (omega arith)
 same-digit false false e = refl
-
-pub holds : (b : Bool) → T b → b ≡ true
-holds true h = refl
-holds false h = absurd h
 
 module _ (s : Shape) (sized : Sized s) where
   letter-by : letterBy (lcrOf s / 8 % 8) ≡ letter (s .parity)
