@@ -8,13 +8,13 @@ use native.Mathlib.Omega.{arith}
 use lib.ListN.{length, take}
 use Rattle.base.specs.Pick.{pick}
 use Rattle.base.specs.Bits.{digit}
-use Rattle.base.specs.Answers.{refusalOf}
+use Rattle.base.specs.Answers.{refusalOf, valueOf}
 use Rattle.base.specs.declared.Answer.{Answer}
 use Rattle.rates.specs.Rates.{everywhere, ratesOf, first, divisorsOf, look, divisorOf}
 use Rattle.text.specs.Quoted.{quoted}
 use Rattle.text.specs.Line.{decimal, digitsWithin, capital}
 use Rattle.setting_lines.specs.Fields.{E, rateText, stopText, shapeText, lineOf, lcrOf}
-use Rattle.setting_lines.specs.Reading.{refusedBy, ReadAs, NoLine, OtherLine, Reads}
+use Rattle.setting_lines.specs.Reading.{settingBy, ReadAs, NoLine, OtherLine, Reads}
 use Rattle.setting_lines.specs.Writing.{Left}
 use Rattle.setting_lines.specs.SettingRefusals.{Lined}
 use Rattle.setting_lines.specs.LineLaws.{read-one}
@@ -25,11 +25,6 @@ use Rattle.sheets.specs.Texts.{settingText, writtenText, AtStart}
 use Rattle.sheets.specs.Numbers.{worth, base, noNumbers, withDigit, withBlank, numbersAfter, numbersBehind, four}
 use Rattle.sheets.specs.Replies.{LineReply, NumbersReply}
 
-pub sheet-read : (d d′ : List ℕ) (r : ℕ) → LineReply (quoted "9600,E,7,2") 0 d d′ r → AtStart (quoted "0 12 1E\n") d d′ r
-unfolding settingText pick refusalOf decimal digitsWithin capital
-sheet-read d d′ r p =
-    subst (λ (s : Setting). AtStart (settingText s) d d′ r) (statements .examples .read .0 (p .setting) (p .read)) (p .told)
-
 lined : Lined 0 12 0x1E
 unfolding pick digit everywhere ratesOf first divisorsOf look divisorOf lcrOf
 lined = record {
@@ -39,6 +34,27 @@ lined = record {
   is = refl;
   listed = refl;
 }
+
+-- it is read so at any clock
+own : (clock : ℕ) → Reads (quoted "9600,E,7,2") clock (settingBy (divisorOf 96000 clock) 0x1E)
+unfolding pick digit decimal digitsWithin rateText stopText shapeText lineOf lcrOf lined
+own clock = inl (record {
+  rate = 96000;
+  shape = lined .shape;
+  rated = inr (9600, omega arith, omega arith, refl);
+  sized = lined .sized;
+  is = refl;
+  told = refl;
+})
+
+own-told : (clock : ℕ) (d d′ : List ℕ) (r : ℕ) → LineReply (quoted "9600,E,7,2") clock d d′ r
+    → AtStart (settingText (settingBy (divisorOf 96000 clock) 0x1E)) d d′ r
+own-told clock d d′ r p =
+    subst (λ (s : Setting). AtStart (settingText s) d d′ r) (read-one _ clock (p .setting) _ (p .read) (own clock)) (p .told)
+
+pub sheet-read : (d d′ : List ℕ) (r : ℕ) → LineReply (quoted "9600,E,7,2") 0 d d′ r → AtStart (quoted "0 12 1E\n") d d′ r
+unfolding settingText pick refusalOf valueOf decimal digitsWithin capital everywhere ratesOf first divisorsOf look divisorOf
+sheet-read d d′ r p = own-told 0 d d′ r p
 
 abbrev textOf : Left → List ℕ
 textOf l = writtenText (refusalOf (l .written .answer)) (take (l .written .length) (l .buffer))
@@ -63,17 +79,8 @@ other-read line clock d d′ r none p =
     (p .read)
 
 pub unlisted-read : (d d′ : List ℕ) (r : ℕ) → LineReply (quoted "9600,E,7,2") 3 d d′ r → AtStart (quoted "10 - -\n") d d′ r
-unfolding settingText pick refusalOf decimal digitsWithin everywhere ratesOf divisorsOf look divisorOf lined digit rateText stopText shapeText lineOf lcrOf
-unlisted-read d d′ r p =
-    let own : Reads (quoted "9600,E,7,2") 3 (refusedBy 10) = inl (record {
-      rate = 96000;
-      shape = lined .shape;
-      rated = inr (9600, omega arith, omega arith, refl);
-      sized = lined .sized;
-      is = refl;
-      told = refl;
-    }) in
-    subst (λ (s : Setting). AtStart (settingText s) d d′ r) (read-one _ 3 (p .setting) (refusedBy 10) (p .read) own) (p .told)
+unfolding settingText pick refusalOf decimal digitsWithin everywhere ratesOf divisorsOf look divisorOf
+unlisted-read d d′ r p = own-told 3 d d′ r p
 
 pub short-written : (d d′ : List ℕ) (r : ℕ) → NumbersReply (numbersBehind noNumbers (quoted "0 12 1E 9")) d d′ r
     → AtStart (quoted "12 -\n") d d′ r
