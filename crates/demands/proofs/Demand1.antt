@@ -174,7 +174,7 @@ only-fff =
       writings = λ value all.
           sym (a-reason value (writeReasons 0 0 0x83 []) (answer.Refused 11) (above 10)
           (all 0 0 0x83 [] [] (record { answer = answer.Refused 11; length = 0 })
-          (inr (record { other = lines.statements .forty-bytes .others 0x83 (omega arith) refl; told = refl })) .0));
+          (inr (record { other = lines.statements .forty-bytes .others 0x83 refl; told = refl })) .0));
     }
   where
     above : (n : ℕ) → suc n ≡ 0 → ⊥

@@ -3,21 +3,16 @@ use Prim.Native.Nat.{ℕ}
 use mathlib.Core.List.{List, [], _∷_}
 use mathlib.Core.Logic.{inl, inr}
 use mathlib.Core.Path.{_≡_, ap, sym, _∙_}
-use native.Mathlib.Omega.{arith}
 use Rattle.base.specs.declared.Answer.{Answer}
-use Rattle.base.specs.declared.Answer.the-variants.{Done, Refused}
+use Rattle.base.specs.declared.Answer.the-variants.{Done}
 use Rattle.base.specs.Answers.{refusalOf, valueOf}
 use Rattle.setting_lines.specs.Reading.{Reads}
 use Rattle.setting_lines.specs.Writing.{Left, left, leftBy, Writes}
-use Rattle.setting_lines.specs.CaseLaws.{ReadCase, no-line, unlisted, meant, read-case, WriteCase, no-shape, unrated, short, lined, write-case}
+use Rattle.setting_lines.specs.CaseLaws.{not-done, ReadCase, no-line, unlisted, meant, read-case, WriteCase, no-shape, unrated, short, lined, write-case}
 use Rattle.setting_lines.specs.declared.Setting.{Setting}
 use Rattle.setting_lines.specs.declared.Written.{Written}
 use Rattle.setting_lines.proofs.Statements as lines
 use Rattle.demands.specs.DemandLines.{Reason, FirstOf, NoneOf, AnsweredBy, readReasons, Readings, writeReasons, Writings}
-
--- an answer that is none of a refusal
-apart : (a : Answer) (n : ℕ) → a ≡ Done → a ≡ Refused n → ⊥
-apart a n p q = let z : _≡_ {A = ℕ} 0 1 = cc in omega arith
 
 -- ---- reading
 
@@ -36,7 +31,7 @@ module _ (line : List ℕ) (clock : ℕ) (r : Setting) (reads : Reads line clock
         ap refusalOf done,
         (
           λ none. none (m .rate) (m .shape) (m .rated) (m .sized) (m .is),
-          (λ u. apart (r .answer) 10 done (lines.statements .read-refusals .gives-10 line clock r reads u), tt),
+          (λ u. not-done (r .answer) 10 done (lines.statements .read-refusals .gives-10 line clock r reads u), tt),
         ),
       )
 
@@ -68,7 +63,7 @@ module _ (clock divisor lcr : ℕ) (d d′ : List ℕ) (w : Written) (writes : W
           λ none. none (n .shape) (n .sized) (n .is),
           (
             λ u. u .missing (n .rate) (n .listed),
-            (λ full. apart (w .answer) 12 done (lines.statements .write-refusals .gives-12 clock divisor lcr d d′ w writes (full .0) (full .1)), tt),
+            (λ full. not-done (w .answer) 12 done (lines.statements .write-refusals .gives-12 clock divisor lcr d d′ w writes (full .0) (full .1)), tt),
           ),
         ),
       )
@@ -101,7 +96,7 @@ one-reason value rs a b (inl x) (inr y) = absurd (first-none rs (refusalOf b) (y
 one-reason value rs a b (inr x) (inl y) = absurd (first-none rs (refusalOf a) (x .0) (y .1))
 one-reason value rs a b (inr x) (inr y) = first-once rs (refusalOf a) (refusalOf b) (x .0) (y .0)
 
--- ---- another value: an empty line, and an LCR byte with the divisor bit
+-- ---- another value: the line 0, and an LCR byte with the divisor bit
 
 -- where the number is not 0 the answer is a refusal
 pub a-reason : (value : ℕ) (rs : List Reason) (a : Answer) → (refusalOf a ≡ 0 → ⊥) → AnsweredBy value rs a → valueOf a ≡ value

@@ -8,7 +8,7 @@ use Rattle.base.specs.declared.Answer.{Answer}
 use Rattle.base.specs.Answers.{refusalOf, valueOf}
 use Rattle.setting_lines.specs.Reading.{NoLine, Reads}
 use Rattle.setting_lines.specs.Writing.{NoShape, Writes}
-use Rattle.setting_lines.specs.SettingRefusals.{Unlisted, Unrated, Lined, lineWith}
+use Rattle.setting_lines.specs.SettingRefusals.{RateMissing, DivisorMissing, Lined, lineWith}
 use Rattle.setting_lines.specs.declared.Setting.{Setting}
 use Rattle.setting_lines.specs.declared.Written.{Written}
 
@@ -31,7 +31,7 @@ AnsweredBy value rs a = ((refusalOf a ≡ 0) × NoneOf rs) ⊎ (FirstOf rs (refu
 
 -- ticket 1: "Refusals: 11 for any other line", "then 10"
 abbrev pub readReasons : List ℕ → ℕ → List Reason
-readReasons line clock = record { number = 11; holds = NoLine line } ∷ record { number = 10; holds = Unlisted line clock } ∷ []
+readReasons line clock = record { number = 11; holds = NoLine line } ∷ record { number = 10; holds = RateMissing line clock } ∷ []
 
 abbrev pub Readings : ℕ → Type 0
 Readings value = (line : List ℕ) (clock : ℕ) (r : Setting) → Reads line clock r → AnsweredBy value (readReasons line clock) (r .answer)
@@ -40,7 +40,7 @@ Readings value = (line : List ℕ) (clock : ℕ) (r : Setting) → Reads line cl
 abbrev pub writeReasons : ℕ → ℕ → ℕ → List ℕ → List Reason
 writeReasons clock divisor lcr d =
     record { number = 11; holds = NoShape lcr }
-    ∷ record { number = 10; holds = Unrated clock divisor lcr }
+    ∷ record { number = 10; holds = DivisorMissing clock divisor lcr }
     ∷ record { number = 12; holds = (l : Lined clock divisor lcr) × (length d < length (lineWith l)) }
     ∷ []
 

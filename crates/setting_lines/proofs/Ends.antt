@@ -6,10 +6,13 @@ use mathlib.Core.Logic.{inl, inr}
 use mathlib.Core.Path.{_≡_, ap, sym, _∙_}
 use lib.ListN.{length}
 use lib.Seq.{sets}
+use Rattle.base.specs.Pick.{pick}
 use Rattle.base.specs.PickLaws.{not-both}
+use Rattle.base.specs.Answers.{refusalOf}
+use Rattle.base.specs.declared.Answer.the-variants.{Refused}
 use Rattle.rates.specs.Rates.{divisorOf, rateOf}
 use Rattle.setting_lines.specs.Fields.{lcrOf, lineOf}
-use Rattle.setting_lines.specs.Reading.{refusedBy, settingBy, Reads}
+use Rattle.setting_lines.specs.Reading.{settingBy, Reads}
 use Rattle.setting_lines.specs.Writing.{left, leftBy, writtenBy, Writes}
 use Rattle.setting_lines.specs.Guess.{good, lineBy, guessed}
 use Rattle.setting_lines.specs.ShapeLaws.{shapeFor, shape-sized, lcr-again, line-by, lcr-good}
@@ -49,7 +52,8 @@ module _ (line : List ℕ) (clock : ℕ) (r : Setting) (g : Guess) (guess : g �
       })
 
   -- it has another, and then no setting has this one
-  pub read-none : (line ≡ lineBy (g .rate) (g .lcr) → ⊥) → r ≡ refusedBy 11 → Reads line clock r
+  pub read-none : (line ≡ lineBy (g .rate) (g .lcr) → ⊥) → r ≡ settingBy (Refused 11) 0 → Reads line clock r
+  unfolding refusalOf pick
   read-none differs told =
       inr (record {
         other = λ rate shape rated sized is.

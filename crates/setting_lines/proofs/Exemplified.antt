@@ -14,23 +14,25 @@ use Rattle.base.specs.Pick.{pick}
 use Rattle.base.specs.PickLaws.{pick-true, pick-false, either-way, both-hold, not-both}
 use Rattle.base.specs.Bits.{bit, digit}
 use Rattle.base.specs.Answers.{refusalOf, valueOf}
-use Rattle.base.specs.declared.Answer.the-variants.{Divisor}
-use Rattle.rates.specs.Rates.{everywhere, ratesOf, first, second, third, divisorsOf, look, divisorOf}
+use Rattle.base.specs.declared.Answer.the-variants.{Divisor, Refused}
+use Rattle.rates.specs.Rates.{everywhere, ratesOf, first, second, third, divisorsOf, look, divisorOf, rateOf}
 use Rattle.text.specs.Quoted.{quoted}
 use Rattle.text.specs.Line.{decimal, digitsWithin}
 use Rattle.setting_lines.specs.Fields.{rateText, stopText, shapeText, lcrOf, lineOf}
-use Rattle.setting_lines.specs.Reading.{refusedBy, settingBy, Reads}
-use Rattle.setting_lines.specs.Writing.{Left, left}
+use Rattle.setting_lines.specs.Reading.{settingBy, Reads}
+use Rattle.setting_lines.specs.Writing.{Left, left, writtenBy, Writes}
 use Rattle.setting_lines.specs.Guess.{letterBy, shapeBy, lineBy, good, behindRate, codeBy, bitsBy, lcrGuess, halved, rateGuess, guessAt, guessed}
 use Rattle.setting_lines.specs.SettingRefusals.{Lined, lineWith}
+use Rattle.setting_lines.specs.ThereAndBack.{Answered}
 use Rattle.setting_lines.specs.Examples.{Wrote, NotWritten, Example, examples, AllRead, Examples}
 use Rattle.setting_lines.specs.ShapeLaws.{shapeFor, shape-sized, lcr-again, lcr-good}
 use Rattle.setting_lines.specs.LineLaws.{read-one, line-short}
 use Rattle.setting_lines.specs.RateLaws.{listed-rated}
 use Rattle.setting_lines.specs.declared.Setting.{Setting}
+use Rattle.setting_lines.specs.declared.Written.{Written}
 use Rattle.setting_lines.specs.CaseLaws.{write-case}
 use Rattle.setting_lines.proofs.Refusing.{11-told, line-told}
-use Rattle.setting_lines.proofs.Ends.{read-as, read-none}
+use Rattle.setting_lines.proofs.Ends.{read-as, read-none, written-as, written-none}
 
 -- two texts are the same, as a test
 abbrev same : List ℕ → List ℕ → Bool
@@ -54,7 +56,7 @@ abbrev own : List ℕ → List ℕ
 own line = lineBy (guessed line .rate) (guessed line .lcr)
 
 abbrev answerOf : List ℕ → ℕ → Setting
-answerOf line clock = pick (same line (own line)) (settingBy (divisorOf (guessed line .rate) clock) (guessed line .lcr)) (refusedBy 11)
+answerOf line clock = pick (same line (own line)) (settingBy (divisorOf (guessed line .rate) clock) (guessed line .lcr)) (settingBy (Refused 11) 0)
 
 answers : (line : List ℕ) (clock : ℕ) → Reads line clock (answerOf line clock)
 answers line clock =
@@ -65,6 +67,18 @@ answers line clock =
     read-none line clock (answerOf line clock) (guessed line) refl
     (λ e. not-both (ap (same line) (sym e) ∙ same-self line) h) (pick-false _ _ _ h))
     (either-way (same line (own line)))
+
+answers-written : (clock divisor lcr : ℕ) (d : List ℕ) → (d′ : List ℕ) × (w : Written) × Writes clock divisor lcr d d′ w
+answers-written clock divisor lcr d =
+    ⊎-elim
+    (λ (sure : good lcr ≡ true).
+    let l = writtenBy (rateOf divisor clock) (lineBy (rateOf divisor clock .rate) lcr) d in
+    (l .buffer, l .written, written-as clock divisor lcr d (l .buffer) (l .written) sure refl))
+    (λ (bad : good lcr ≡ false). (d, _, written-none clock divisor lcr d d _ bad refl))
+    (either-way (good lcr))
+
+pub answered : Answered
+answered = record { read = λ line clock. (answerOf line clock, answers line clock); written = answers-written }
 
 -- where all are computed as they should be, each is read so
 all-read : (es : List Example) → map (λ e. answerOf (quoted (e .line)) (e .clock)) es ≡ map (λ e. e .setting) es → AllRead es
@@ -98,7 +112,9 @@ exemplified =
       read = all-read examples refl;
       sheet = wrote 0 12 0b011_110 96000 "9600,E,7,2" refl refl refl;
       five = wrote 0 384 0b000_100 3000 "300,N,5,1.5" refl refl refl;
-      odd = wrote 0 857 0b000_011 1345 "134.5,N,8,1" refl refl refl;
+      half = wrote 0 857 0b000_011 1345 "134.5,N,8,1" refl refl refl;
+      second = wrote 1 16 0b000_011 96000 "9600,N,8,1" refl refl refl;
+      third = wrote 2 20 0b000_011 96000 "9600,N,8,1" refl refl refl;
       divisor-bit = not-written 0x83 refl;
       break-bit = not-written 0x43 refl;
       no-letter = not-written 0b010_011 refl;

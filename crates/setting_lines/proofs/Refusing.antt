@@ -1,7 +1,7 @@
 -- Each refusal exactly in its own case, and what of the buffer stays.
 use Prim.Native.Nat.{ℕ, _≤_, _<_}
 use mathlib.Core.Bool.{true}
-use mathlib.Core.List.{List, _++_}
+use mathlib.Core.List.{List}
 use mathlib.Core.Logic.{inr}
 use mathlib.Core.Path.{_≡_, refl, ap, sym, _∙_}
 use native.Mathlib.Omega.{arith}
@@ -15,20 +15,18 @@ use Rattle.text.specs.Line.{decimal, digitsWithin}
 use Rattle.setting_lines.specs.Fields.{N, rateText, stopText, shapeText, lineOf, lcrOf}
 use Rattle.setting_lines.specs.Reading.{NoLine}
 use Rattle.setting_lines.specs.Writing.{Left, left, leftBy, NoShape}
+use Rattle.setting_lines.specs.ThereAndBack.{begunBy}
 use Rattle.setting_lines.specs.Guess.{lineBy}
-use Rattle.setting_lines.specs.SettingRefusals.{Unlisted, ReadRefusals, Lined, lineWith, Unrated, WriteRefusals, Nothing, Stays, Longest}
+use Rattle.setting_lines.specs.SettingRefusals.{RateMissing, ReadRefusals, Lined, lineWith, DivisorMissing, WriteRefusals, Nothing, Stays, Longest}
 use Rattle.setting_lines.specs.ShapeLaws.{shape, line-by}
 use Rattle.setting_lines.specs.LineLaws.{line-short, one-rate}
 use Rattle.setting_lines.specs.declared.Setting.{Setting}
 use Rattle.setting_lines.specs.CaseLaws.{ReadCase, no-line, unlisted, meant, read-case}
-use Rattle.setting_lines.specs.CaseLaws.{WriteCase, no-shape, unrated, short, lined, write-case}
+use Rattle.setting_lines.specs.CaseLaws.{not-done, WriteCase, no-shape, unrated, short, lined, write-case}
 
--- two refusals, and an answer beside a refusal, are not the same
+-- two refusals are not the same
 pub two-refusals : {A : Type 0} (a : Answer) (n m : ℕ) → a ≡ Refused n → a ≡ Refused m → (n ≡ m → ⊥) → A
 two-refusals a n m p q differ = absurd (differ (cc))
-
-pub not-done : {A : Type 0} (a : Answer) (n : ℕ) → a ≡ Done → a ≡ Refused n → A
-not-done a n p q = let z : _≡_ {A = ℕ} 0 1 = cc in absurd (omega arith)
 
 -- ---- reading
 
@@ -46,14 +44,14 @@ module _ (line : List ℕ) (clock : ℕ) (r : Setting) where
   11-only (unlisted u is) told = two-refusals (r .answer) 11 10 told (answered is) (λ e. omega arith)
   11-only (meant divisor m is) told = not-done (r .answer) 11 (answered is) told
 
-  10-given : ReadCase line clock r → Unlisted line clock → r .answer ≡ Refused 10
+  10-given : ReadCase line clock r → RateMissing line clock → r .answer ≡ Refused 10
   10-given (no-line other is) v = absurd (other (v .rate) (v .shape) (v .rated) (v .sized) (v .is))
   10-given (unlisted u is) v = answered is
   10-given (meant divisor m is) v =
       let same = one-rate (m .rate) (v .rate) (m .shape) (v .shape) (m .rated) (m .sized) (v .rated) (v .sized) (sym (m .is) ∙ v .is) in
       absurd (v .missing (rw (← same) (accepted-only (m .rate) clock divisor (m .listed))))
 
-  10-only : ReadCase line clock r → r .answer ≡ Refused 10 → Unlisted line clock
+  10-only : ReadCase line clock r → r .answer ≡ Refused 10 → RateMissing line clock
   10-only (no-line other is) told = two-refusals (r .answer) 10 11 told (answered is) (λ e. omega arith)
   10-only (unlisted u is) told = u
   10-only (meant divisor m is) told = not-done (r .answer) 10 (answered is) told
@@ -85,13 +83,13 @@ module _ (clock divisor lcr : ℕ) (d : List ℕ) (l : Left) where
   11-alone (short n less is) told = two-refusals (l .written .answer) 11 12 told (given-as is) (λ e. omega arith)
   11-alone (lined n fits is) told = not-done (l .written .answer) 11 (given-as is) told
 
-  10-told : WriteCase clock divisor lcr d l → Unrated clock divisor lcr → l .written .answer ≡ Refused 10
+  10-told : WriteCase clock divisor lcr d l → DivisorMissing clock divisor lcr → l .written .answer ≡ Refused 10
   10-told (no-shape other is) v = absurd (other (v .shape) (v .sized) (v .is))
   10-told (unrated u is) v = given-as is
   10-told (short n less is) v = absurd (v .missing (n .rate) (n .listed))
   10-told (lined n fits is) v = absurd (v .missing (n .rate) (n .listed))
 
-  10-alone : WriteCase clock divisor lcr d l → l .written .answer ≡ Refused 10 → Unrated clock divisor lcr
+  10-alone : WriteCase clock divisor lcr d l → l .written .answer ≡ Refused 10 → DivisorMissing clock divisor lcr
   10-alone (no-shape other is) told = two-refusals (l .written .answer) 10 11 told (given-as is) (λ e. omega arith)
   10-alone (unrated u is) told = u
   10-alone (short n less is) told = two-refusals (l .written .answer) 10 12 told (given-as is) (λ e. omega arith)
@@ -118,12 +116,12 @@ module _ (clock divisor lcr : ℕ) (d : List ℕ) (l : Left) where
   12-alone (lined n fits is) told = not-done (l .written .answer) 12 (given-as is) told
 
   pub line-told : WriteCase clock divisor lcr d l → (m : Lined clock divisor lcr) → length (lineWith m) ≤ length d
-      → l ≡ left (record { answer = Done; length = length (lineWith m) }) (lineWith m ++ drop (length (lineWith m)) d)
+      → l ≡ begunBy d (lineWith m)
   line-told (no-shape other is) m room = absurd (other (m .shape) (m .sized) (m .is))
   line-told (unrated u is) m room = absurd (u .missing (m .rate) (m .listed))
   line-told (short n less is) m room = absurd (omega (arith, ap length (one-line n m)))
   line-told (lined n fits is) m room =
-      is ∙ ap (λ (line : List ℕ). left (record { answer = Done; length = length line }) (line ++ drop (length line) d)) (one-line n m)
+      is ∙ ap (begunBy d) (one-line n m)
 
   kept : {k : ℕ} → l ≡ leftBy d k → l .buffer ≡ d
   kept is = ap (λ (x : Left). x .buffer) is

@@ -1,6 +1,6 @@
 -- There and back.
 use Prim.Native.Nat.{ℕ, _≤_}
-use mathlib.Core.List.{List, _++_}
+use mathlib.Core.List.{List}
 use mathlib.Core.Path.{_≡_, refl, ap, sym, subst, _∙_}
 use native.Mathlib.Omega.{arith}
 use lib.ListN.{length, take, drop}
@@ -11,15 +11,15 @@ use Rattle.rates.specs.RatesLaws.{accepted-only}
 use Rattle.setting_lines.specs.Fields.{Rated, lineOf, lcrOf}
 use Rattle.setting_lines.specs.Reading.{Reads}
 use Rattle.setting_lines.specs.Writing.{Left, left, Writes}
-use Rattle.setting_lines.specs.ThereAndBack.{settingOf, ReadBack, WrittenBack}
+use Rattle.setting_lines.specs.ThereAndBack.{settingOf, begunBy, ReadBack, WrittenBack}
 use Rattle.setting_lines.specs.SettingRefusals.{Lined, lineWith}
 use Rattle.setting_lines.specs.RateLaws.{listed-rated}
 use Rattle.setting_lines.specs.LineLaws.{line-short, one-rate, one-lcr}
 use Rattle.setting_lines.specs.declared.Setting.{Setting}
 use Rattle.setting_lines.specs.declared.Written.{Written}
 use Rattle.setting_lines.specs.CaseLaws.{ReadCase, no-line, unlisted, meant, read-case}
-use Rattle.setting_lines.specs.CaseLaws.{WriteCase, no-shape, unrated, short, lined, write-case}
-use Rattle.setting_lines.proofs.Refusing.{not-done, line-told}
+use Rattle.setting_lines.specs.CaseLaws.{not-done, WriteCase, no-shape, unrated, short, lined, write-case}
+use Rattle.setting_lines.proofs.Refusing.{line-told}
 
 -- ---- reading what was written
 
@@ -65,7 +65,7 @@ read-back =
 
 module _ (line : List ℕ) (clock : ℕ) (r : Setting) (d d′ : List ℕ) (w : Written) where
   write-again : ReadCase line clock r → r .answer ≡ Done → length line ≤ length d → Writes clock (r .divisor) (r .lcr) d d′ w
-      → left w d′ ≡ left (record { answer = Done; length = length line }) (line ++ drop (length line) d)
+      → left w d′ ≡ begunBy d line
   write-again (no-line other is) done room writes = not-done (r .answer) 11 done (ap (λ (x : Setting). x .answer) is)
   write-again (unlisted u is) done room writes = not-done (r .answer) 10 done (ap (λ (x : Setting). x .answer) is)
   write-again (meant divisor m is) done room writes =
@@ -77,7 +77,7 @@ module _ (line : List ℕ) (clock : ℕ) (r : Setting) (d d′ : List ℕ) (w : 
         listed = m .listed ∙ ap (λ (x : Setting). Divisor (x .divisor)) (sym is);
       } in
       line-told clock (r .divisor) (r .lcr) d (left w d′) (write-case clock (r .divisor) (r .lcr) d d′ w writes) n (rw (← m .is) room)
-      ∙ ap (λ (l : List ℕ). left (record { answer = Done; length = length l }) (l ++ drop (length l) d)) (sym (m .is))
+      ∙ ap (begunBy d) (sym (m .is))
 
 pub written-back : WrittenBack
 written-back =

@@ -1,12 +1,12 @@
 -- The outcomes of the two calls, case by case.
 use Prim.Native.Nat.{ℕ, _≤_, _<_}
 use mathlib.Core.Bool.{true, false}
-use mathlib.Core.List.{List, _++_}
+use mathlib.Core.List.{List}
 use mathlib.Core.Logic.{inl, inr, ⊎-elim}
 use mathlib.Core.Path.{_≡_, refl, ap, _∙_}
 use native.Mathlib.Omega.{arith}
 use lib.Dec.{leb}
-use lib.ListN.{length, drop}
+use lib.ListN.{length}
 use borrow.Author.Tests.{leb-true, leb-false}
 use Rattle.base.specs.Pick.{pick}
 use Rattle.base.specs.PickLaws.{pick-true, pick-false, either-way}
@@ -20,10 +20,14 @@ use Rattle.rates.specs.declared.Found.{Found}
 use Rattle.setting_lines.specs.Fields.{Shape, Sized, Rated, lineOf, lcrOf}
 use Rattle.setting_lines.specs.Reading.{refusedBy, settingBy, NoLine, Reads}
 use Rattle.setting_lines.specs.Writing.{Left, left, leftBy, putInto, writtenBy, NoShape, Writes}
-use Rattle.setting_lines.specs.ThereAndBack.{settingOf}
-use Rattle.setting_lines.specs.SettingRefusals.{Unlisted, Lined, lineWith, Unrated}
+use Rattle.setting_lines.specs.ThereAndBack.{settingOf, begunBy}
+use Rattle.setting_lines.specs.SettingRefusals.{RateMissing, Lined, lineWith, DivisorMissing}
 use Rattle.setting_lines.specs.declared.Setting.{Setting}
 use Rattle.setting_lines.specs.declared.Written.{Written}
+
+-- an answer beside a refusal is not the same
+pub not-done : {A : Type 0} (a : Answer) (n : ℕ) → a ≡ Done → a ≡ Refused n → A
+not-done a n p q = let z : _≡_ {A = ℕ} 0 1 = cc in absurd (omega arith)
 
 -- ---- reading
 
@@ -38,7 +42,7 @@ pub record Meant (line : List ℕ) (clock divisor : ℕ) : Type 0 where
 
 pub data ReadCase (line : List ℕ) (clock : ℕ) (r : Setting) : Type 0 where
   no-line : NoLine line → r ≡ refusedBy 11 → ReadCase line clock r
-  unlisted : Unlisted line clock → r ≡ refusedBy 10 → ReadCase line clock r
+  unlisted : RateMissing line clock → r ≡ refusedBy 10 → ReadCase line clock r
   meant : (divisor : ℕ) (m : Meant line clock divisor) → r ≡ settingOf divisor (lcrOf (m .shape)) → ReadCase line clock r
 
 by-divisor : (divisor lcr : ℕ) → settingBy (Divisor divisor) lcr ≡ settingOf divisor lcr
@@ -77,10 +81,10 @@ read-case line clock r (inl a) =
 
 pub data WriteCase (clock divisor lcr : ℕ) (d : List ℕ) (l : Left) : Type 0 where
   no-shape : NoShape lcr → l ≡ leftBy d 11 → WriteCase clock divisor lcr d l
-  unrated : Unrated clock divisor lcr → l ≡ leftBy d 10 → WriteCase clock divisor lcr d l
+  unrated : DivisorMissing clock divisor lcr → l ≡ leftBy d 10 → WriteCase clock divisor lcr d l
   short : (n : Lined clock divisor lcr) → length d < length (lineWith n) → l ≡ leftBy d 12 → WriteCase clock divisor lcr d l
   lined : (n : Lined clock divisor lcr) → length (lineWith n) ≤ length d
-      → l ≡ left (record { answer = Done; length = length (lineWith n) }) (lineWith n ++ drop (length (lineWith n)) d) → WriteCase clock divisor lcr d l
+      → l ≡ begunBy d (lineWith n) → WriteCase clock divisor lcr d l
 
 by-found : (rate : ℕ) (line d : List ℕ) → writtenBy (rateFound rate) line d ≡ putInto d line
 unfolding refusalOf pick

@@ -90,7 +90,10 @@ pub record Examples : Type 0 where
   pub read : AllRead examples
   pub sheet : Wrote 0 12 0b011_110 "9600,E,7,2"
   pub five : Wrote 0 384 0b000_100 "300,N,5,1.5"
-  pub odd : Wrote 0 857 0b000_011 "134.5,N,8,1"
+  pub half : Wrote 0 857 0b000_011 "134.5,N,8,1"
+  -- at the other clocks
+  pub second : Wrote 1 16 0b000_011 "9600,N,8,1"
+  pub third : Wrote 2 20 0b000_011 "9600,N,8,1"
   -- a byte with the divisor bit, one with the break bit, and one with a parity that has no letter
   pub divisor-bit : NotWritten 0x83
   pub break-bit : NotWritten 0x43

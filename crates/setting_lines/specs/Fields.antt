@@ -50,20 +50,18 @@ pub record Sized (s : Shape) : Type 0 where
   pub fewest : 5 ≤ s .bits
   pub most : s .bits ≤ 8
 
--- ticket 1: "The rate is decimal, 1 to 99999 without leading zeros, or 134.5.", as everywhere in tenths of a baud
+-- a whole number of baud, in tenths as everywhere
 abbrev pub Whole : ℕ → Type 0
 Whole rate = (n : ℕ) × (1 ≤ n) × (n ≤ 99999) × (rate ≡ 10 * n)
 
+-- ticket 1: "The rate is decimal, 1 to 99999 without leading zeros, or 134.5."
 abbrev pub Rated : ℕ → Type 0
 Rated rate = (rate ≡ 1345) ⊎ Whole rate
 
 -- ---- the line of a rate and a shape
 
-abbrev pub odd134 : List ℕ
-odd134 = quoted "134.5"
-
 unfoldable pub rateText : ℕ → List ℕ
-rateText rate = pick (eqb rate 1345) odd134 (decimal (rate / 10))
+rateText rate = pick (eqb rate 1345) (quoted "134.5") (decimal (rate / 10))
 
 -- ticket 1: "stop 1 or 2; five bits take 1 or 1.5"
 unfoldable pub stopText : ℕ → Bool → List ℕ

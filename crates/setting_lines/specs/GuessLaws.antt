@@ -14,11 +14,12 @@ use Rattle.base.specs.PickLaws.{pick-false, pick-either, pick-cases, either-way
 use Rattle.base.specs.Bits.{digit}
 use Rattle.base.specs.Every.{every}
 use Rattle.base.specs.EveryLaws.{every-at, holds}
+use Rattle.text.specs.Quoted.{quoted}
 use Rattle.text.specs.Line.{numeral, decimal}
 use Rattle.text.specs.FormLaws.{denoted, Digits, decimal-denotes, decimal-digits}
-use Rattle.setting_lines.specs.Fields.{point, letter, Shape, Sized, Rated, odd134, rateText, shapeText, lcrOf, lineOf}
+use Rattle.setting_lines.specs.Fields.{point, letter, Shape, Sized, Rated, rateText, shapeText, lcrOf, lineOf}
 use Rattle.setting_lines.specs.Guess.{behindRate, good, halved, codeBy, bitsBy, lcrGuess, rateGuess, someGuess, guessAt, guessed}
-use Rattle.setting_lines.specs.RateLaws.{text-odd, text-whole, text-short}
+use Rattle.setting_lines.specs.RateLaws.{text-half, text-whole, text-short}
 use Rattle.setting_lines.specs.ShapeLaws.{both, text-length, text-longer, lcr-guess}
 use Rattle.setting_lines.specs.declared.guesses.Guess.{Guess}
 
@@ -41,9 +42,9 @@ not-halved l all =
     (λ (other : eqb (length l) 5 ≡ false). rw other)
     (either-way (eqb (length l) 5))
 
-rate-odd : rateGuess odd134 ≡ 1345
+rate-half : rateGuess (quoted "134.5") ≡ 1345
 unfolding rateGuess halved pick
-rate-odd = refl
+rate-half = refl
 
 rate-whole : (n : ℕ) → 1 ≤ n → n ≤ 99999 → rateGuess (decimal n) ≡ 10 * n
 unfolding rateGuess
@@ -52,7 +53,7 @@ rate-whole n some few =
     (pick-false _ _ _ (ne-eqb n 0 (λ e. omega arith)))
 
 pub rate-right : (rate : ℕ) → Rated rate → rateGuess (rateText rate) ≡ rate
-rate-right rate (inl odd) = rw (text-odd rate odd) (rate-odd ∙ sym odd)
+rate-right rate (inl half) = rw (text-half rate half) (rate-half ∙ sym half)
 rate-right rate (inr (n, some, few, is)) = rw (text-whole rate n is) (rate-whole n some few ∙ sym is)
 
 pub guess-rated : (front : List ℕ) → Rated (rateGuess front)

@@ -1,5 +1,5 @@
 -- Ticket 1: the LCR bytes that lines give.
-use Prim.Native.Nat.{ℕ, zero, suc, _+_, _/_, _%_, _<_}
+use Prim.Native.Nat.{ℕ, zero, suc, _+_, _/_, _%_}
 use mathlib.Core.Bool.{Bool, true, false, _&&_, _||_}
 use mathlib.Core.Path.{_≡_}
 use lib.Dec.{eqb}
@@ -21,5 +21,5 @@ count (suc n) test = digit (test n) + count n test
 -- a byte so given is that of a shape, any other is of none, and of the 256 there are 40
 pub record FortyBytes : Type 0 where
   pub forty : count 256 given ≡ 40
-  pub shaped : (lcr : ℕ) → lcr < 256 → given lcr ≡ true → (s : Shape) × Sized s × (lcr ≡ lcrOf s)
-  pub others : (lcr : ℕ) → lcr < 256 → given lcr ≡ false → NoShape lcr
+  pub shaped : (lcr : ℕ) → given lcr ≡ true → (s : Shape) × Sized s × (lcr ≡ lcrOf s)
+  pub others : (lcr : ℕ) → given lcr ≡ false → NoShape lcr

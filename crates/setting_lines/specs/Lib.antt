@@ -2,6 +2,7 @@ pub mod Fields
 pub mod Reading
 pub mod Writing
 pub mod Guess
+pub mod NoLines
 pub mod ThereAndBack
 pub mod LcrBytes
 pub mod SettingRefusals

@@ -1,11 +1,11 @@
 -- One line is that of one setting, it is short, and it has no other characters than its fields give it.
 use Prim.Native.Nat.{ℕ, _≤_, _<_}
-use mathlib.Core.Bool.{Bool, true, false, _&&_, _||_}
+use mathlib.Core.Bool.{true, false, _&&_}
 use mathlib.Core.List.{List, [], _∷_, _++_}
 use mathlib.Core.Logic.{inl, inr}
 use mathlib.Core.Path.{_≡_, refl, ap, ap₂, sym, _∙_}
 use native.Mathlib.Omega.{arith}
-use lib.Dec.{eqb, leb}
+use lib.Dec.{leb}
 use lib.ListN.{length, getD, length-append, List·getD-append}
 use borrow.Author.Tests.{leb-true, le-leb}
 use Rattle.base.specs.Pick.{pick}
@@ -14,11 +14,12 @@ use Rattle.base.specs.EveryLaws.{holds}
 use Rattle.text.specs.Line.{numeral, decimal}
 use Rattle.text.specs.FormLaws.{Digits, decimal-digits, decimal-leads}
 use Rattle.rates.specs.Rates.{divisorOf, rateOf}
-use Rattle.setting_lines.specs.Fields.{N, O, E, M, S, letter, comma, point, Shape, Sized, Rated, rateText, stopText, shapeText, lineOf, lcrOf}
+use Rattle.setting_lines.specs.Fields.{Shape, Sized, Rated, rateText, stopText, shapeText, lineOf, lcrOf}
 use Rattle.setting_lines.specs.Reading.{settingBy, NoLine, Reads}
 use Rattle.setting_lines.specs.Writing.{left, writtenBy, Writes}
+use Rattle.setting_lines.specs.NoLines.{ofLine, allOfLine}
 use Rattle.setting_lines.specs.Guess.{guessed, lineBy}
-use Rattle.setting_lines.specs.RateLaws.{text-odd, text-whole, text-short}
+use Rattle.setting_lines.specs.RateLaws.{text-half, text-whole, text-short}
 use Rattle.setting_lines.specs.ShapeLaws.{at-shape, line-by}
 use Rattle.setting_lines.specs.GuessLaws.{guess-right}
 use Rattle.setting_lines.specs.declared.Setting.{Setting}
@@ -78,14 +79,6 @@ line-short rate s rated sized =
 
 -- ---- its characters
 
--- digits, the point, commas and the five capitals
-abbrev pub ofLine : ℕ → Bool
-ofLine c = (leb (numeral 0) c && leb c (numeral 9)) || (eqb c point || (eqb c comma || (eqb c (letter N) || (eqb c (letter O) || (eqb c (letter E) || (eqb c (letter M) || eqb c (letter S)))))))
-
-abbrev pub allOfLine : List ℕ → Bool
-allOfLine [] = true
-allOfLine (c ∷ l) = ofLine c && allOfLine l
-
 all-append : (l m : List ℕ) → allOfLine l ≡ true → allOfLine m ≡ true → allOfLine (l ++ m) ≡ true
 all-append [] m first second = second
 all-append (c ∷ l) m first second =
@@ -97,7 +90,7 @@ all-digits [] all = refl
 all-digits (d ∷ l) (low, high, all) = rw (le-leb 48 d low, le-leb d 57 high) (all-digits l all)
 
 rate-characters : (rate : ℕ) → Rated rate → allOfLine (rateText rate) ≡ true
-rate-characters rate (inl odd) = rw (text-odd rate odd)
+rate-characters rate (inl half) = rw (text-half rate half)
 rate-characters rate (inr (n, some, few, is)) = rw (text-whole rate n is) (all-digits (decimal n) (decimal-digits n))
 
 pub line-characters : (rate : ℕ) (s : Shape) → Rated rate → Sized s → allOfLine (lineOf rate s) ≡ true
@@ -118,7 +111,7 @@ first-high [] all = omega arith
 first-high (d ∷ l) (low, high, all) = high
 
 rate-first : (rate : ℕ) → Rated rate → (49 ≤ getD (rateText rate) 0 0) × (getD (rateText rate) 0 0 ≤ 57)
-rate-first rate (inl odd) = rw (text-odd rate odd) (omega arith, omega arith)
+rate-first rate (inl half) = rw (text-half rate half) (omega arith, omega arith)
 rate-first rate (inr (n, some, few, is)) = rw (text-whole rate n is) (decimal-leads n some, first-high (decimal n) (decimal-digits n))
 
 pub line-first : (rate : ℕ) (s : Shape) → Rated rate → Sized s → (49 ≤ getD (lineOf rate s) 0 0) × (getD (lineOf rate s) 0 0 ≤ 57)

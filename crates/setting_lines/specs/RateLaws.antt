@@ -10,34 +10,35 @@ use lib.ListN.{length}
 use borrow.Author.Tests.{eqb-true, eq-eqb, ne-eqb, leb-true}
 use Rattle.base.specs.PickLaws.{pick-true, pick-false, either-way, both-hold}
 use Rattle.base.specs.declared.Answer.the-variants.{Divisor}
+use Rattle.text.specs.Quoted.{quoted}
 use Rattle.text.specs.Line.{decimal}
 use Rattle.text.specs.DecimalLaws.{decimal-length, front-length}
 use Rattle.rates.specs.Rates.{everywhere, ratesOf, divisorOf, rateOf}
 use Rattle.rates.specs.RatesLaws.{accepted-only}
 use Rattle.rates.specs.BackLaws.{either}
-use Rattle.setting_lines.specs.Fields.{Rated, odd134, rateText}
+use Rattle.setting_lines.specs.Fields.{Rated, rateText}
 
 -- ---- the text of a rate
 
 module _ (rate : ℕ) where
   pub rated-small : Rated rate → rate ≤ 999990
-  rated-small (inl odd) = omega arith
+  rated-small (inl half) = omega arith
   rated-small (inr (n, some, few, is)) = omega arith
 
-  pub text-odd : rate ≡ 1345 → rateText rate ≡ odd134
+  pub text-half : rate ≡ 1345 → rateText rate ≡ quoted "134.5"
   unfolding rateText
-  text-odd odd = pick-true _ _ _ (eq-eqb rate 1345 odd)
+  text-half half = pick-true _ _ _ (eq-eqb rate 1345 half)
 
   pub text-whole : (n : ℕ) → rate ≡ 10 * n → rateText rate ≡ decimal n
   unfolding rateText
   text-whole n is =
-      let other : rate ≡ 1345 → ⊥ = λ odd. omega arith in
+      let other : rate ≡ 1345 → ⊥ = λ half. omega arith in
       let tenth : rate / 10 ≡ n = omega arith in
       pick-false _ _ _ (ne-eqb rate 1345 other) ∙ ap decimal tenth
 
   -- it has one to five characters
   pub text-short : Rated rate → (1 ≤ length (rateText rate)) × (length (rateText rate) ≤ 5)
-  text-short (inl odd) = rw (text-odd odd) (omega arith, omega arith)
+  text-short (inl half) = rw (text-half half) (omega arith, omega arith)
   text-short (inr (n, some, few, is)) =
       rw (text-whole n is) (omega (arith, front-length n), decimal-length 4 n (omega arith))
 
@@ -58,7 +59,7 @@ member-test test n (m ∷ ns) every in-list =
 
 rated : (rate : ℕ) → could rate ≡ true → Rated rate
 rated rate h =
-    ⊎-elim (λ (odd : eqb rate 1345 ≡ true). inl (eqb-true rate 1345 odd))
+    ⊎-elim (λ (half : eqb rate 1345 ≡ true). inl (eqb-true rate 1345 half))
     (λ (other : eqb rate 1345 ≡ false).
     let h′ : (eqb (rate % 10) 0 && (leb 10 rate && leb rate 999990)) ≡ true = rw other at h in
     let whole = both-hold (eqb (rate % 10) 0) _ h′ in

@@ -14,7 +14,7 @@ use Rattle.rates.specs.declared.Found.{Found}
 use Rattle.setting_lines.specs.Fields.{Shape, Sized, lineOf, lcrOf}
 use Rattle.setting_lines.specs.declared.Written.{Written}
 
--- the answer, and the bytes of the lent buffer behind it
+-- the answer, and the bytes of the lent buffer afterwards
 pub record Left : Type 0 where
   pub written : Written
   pub buffer : List ℕ
@@ -22,9 +22,12 @@ pub record Left : Type 0 where
 abbrev pub left : Written → List ℕ → Left
 left w d = record { written = w; buffer = d }
 
+abbrev pub writtenNone : ℕ → Written
+writtenNone number = record { answer = Refused number; length = 0 }
+
 -- ticket 1: in a refusal too "bytes not written stay"
 abbrev pub leftBy : List ℕ → ℕ → Left
-leftBy d number = left (record { answer = Refused number; length = 0 }) d
+leftBy d number = left (writtenNone number) d
 
 -- ticket 1: "then 12 for a lent buffer too short; bytes not written stay": a line at the start of the buffer d, with its length
 abbrev pub putInto : List ℕ → List ℕ → Left

@@ -38,7 +38,7 @@ fn above(c: u8, first: u8) -> u8
     c - first
 }
 
-// What the digits before the first comma denote.
+// What the characters before the shape denote, taken as digits.
 fn number(front: &[u8]) -> u32
     requires { ⌜ length (now front) ≤ 5 ⌝ }
     ensures { λ r. ⌜ r ≡ denoted 0 (now (front .entry)) ⌝ }

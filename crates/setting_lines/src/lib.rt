@@ -7,7 +7,7 @@ use rates::Found;
 ghost use mathlib.Core.Path.{_≡_};
 ghost use Prim.Native.Nat.{_≤_};
 ghost use Rattle.setting_lines.specs.Reading.{settingBy, Reads};
-ghost use Rattle.setting_lines.specs.Writing.{left, writtenBy, Writes};
+ghost use Rattle.setting_lines.specs.Writing.{writtenNone, left, writtenBy, Writes};
 ghost use Rattle.setting_lines.specs.Guess.{lineBy};
 
 // What a line says, or the refusal, with both numbers 0.
@@ -41,7 +41,7 @@ fn setting_by(answer: Answer, lcr: u8) -> Setting
     }
 }
 
-// Whatever is guessed counts only where its own line is this one, to the letter.
+// Reads a line at a clock. Whatever is guessed of it counts only where the guess's own line is this one, to the letter.
 pub fn read(line: &[u8], clock: u8) -> Setting
     ensures { λ r. ⌜ Reads (now (line .entry)) clock r ⌝ }
 {
@@ -51,10 +51,15 @@ pub fn read(line: &[u8], clock: u8) -> Setting
     if check::same(line, &own[..length]) {
         return setting_by(rates::divisor(guess.rate, clock), guess.lcr);
     }
-    Setting {
-        answer: Answer::Refused(Answer::NO_SETTING),
-        divisor: 0,
-        lcr: 0,
+    setting_by(Answer::Refused(Answer::NO_SETTING), 0)
+}
+
+fn refused(number: u8) -> Written
+    ensures { λ r. ⌜ r ≡ writtenNone number ⌝ }
+{
+    Written {
+        answer: Answer::Refused(number),
+        length: 0,
     }
 }
 
@@ -75,26 +80,17 @@ fn write_found(found: Found, lcr: u8, out: &mut [u8]) -> Written
                 length,
             };
         }
-        return Written {
-            answer: Answer::Refused(Answer::NO_ROOM),
-            length: 0,
-        };
+        return refused(Answer::NO_ROOM);
     }
-    Written {
-        answer: Answer::Refused(refusal),
-        length: 0,
-    }
+    refused(refusal)
 }
 
 // Puts the line at the start of the buffer. Where it is refused the buffer stays.
-pub fn write(clock: u8, divisor: u16, lcr: u8, out: &mut [u8]) -> Written
+pub fn write(divisor: u16, lcr: u8, clock: u8, out: &mut [u8]) -> Written
     ensures { λ r. ⌜ Writes clock divisor lcr (now (out .entry)) (now (out .exit)) r ⌝ }
 {
     if lines::is_good(lcr) {
         return write_found(rates::rate(divisor, clock), lcr, &mut *out);
     }
-    Written {
-        answer: Answer::Refused(Answer::NO_SETTING),
-        length: 0,
-    }
+    refused(Answer::NO_SETTING)
 }

@@ -1,4 +1,4 @@
-use mathlib.Core.Path.{refl, ap, sym, _∙_}
+use mathlib.Core.Path.{ap, sym, _∙_}
 use native.Mathlib.Omega.{arith}
 use borrow.Author.Needs.{needs}
 use Rattle.base.specs.PickLaws.{not-both}
@@ -42,12 +42,15 @@ returns c =
     (c .before .before .before .same .ensures .0 (c .before .before .if1 .taken) ∙ made-is _ _ _ _ m)
     (c .setting-by .ensures ∙ ap (λ (a : Answer). settingBy a (at .guess-line .result .lcr)) (c .before .divisor .ensures))
 
+setting-by-requires-2 : tie.Need-setting-by-requires-2
+setting-by-requires-2 c κs = search needs
+
 returns-2 : tie.Need-returns-2
 returns-2 c =
-    let at = c .before .before .before .before .before in
-    let m = own-made (at .before .before .args .line .now) _ (at .guess-line .ensures) _ _ _ (omega arith) (c .before .before .before .put-line .ensures) in
+    let at = c .before .before .before .before .before .before in
+    let m = own-made (at .before .before .args .line .now) _ (at .guess-line .ensures) _ _ _ (omega arith) (c .before .before .before .before .put-line .ensures) in
     read-none (at .before .before .args .line .now) (at .before .before .args .clock) _ _ (at .guess-line .ensures)
-    (λ e. not-both (c .before .same .ensures .1 (e ∙ sym (made-is _ _ _ _ m))) (c .if1 .left)) refl
+    (λ e. not-both (c .before .before .same .ensures .1 (e ∙ sym (made-is _ _ _ _ m))) (c .before .if1 .left)) (c .setting-by2 .ensures)
 
 pub read-spec : {M : Type 1} → statement M
 read-spec =
@@ -61,4 +64,5 @@ read-spec =
     divisor-requires
     setting-by-requires
     returns
+    setting-by-requires-2
     returns-2)

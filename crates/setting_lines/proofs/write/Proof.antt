@@ -1,4 +1,6 @@
-use mathlib.Core.Path.{refl, ap, sym, _∙_}
+use Rattle.setting_lines.specs.Writing.{left}
+use Rattle.setting_lines.specs.declared.Written.{Written}
+use mathlib.Core.Path.{ap, sym, _∙_}
 use borrow.Author.Needs.{needs}
 use Rattle.rates.specs.declared.Found.{Found}
 use Rattle.setting_lines.specs.RateLaws.{found-small}
@@ -26,10 +28,16 @@ returns c =
     written-as (a .clock) (a .divisor) (a .lcr) (a .out .now) _ _ (sym (c .before .before .before .before .before .before .is-good .ensures) ∙ c .before .before .before .before .before .if1 .taken)
     (c .before .before .write-found .ensures ∙ ap (λ (f : Found). writtenBy f (lineBy (f .rate) (a .lcr)) (a .out .now)) (c .before .before .before .before .rate .ensures))
 
+refused-requires : tie.Need-refused-requires
+refused-requires c κs = search needs
+
 returns-2 : tie.Need-returns-2
-returns-2 c = written-none _ _ _ _ _ _ (sym (c .before .is-good .ensures) ∙ c .if1 .left) refl
+returns-2 c =
+    let a = c .before .before .before .before .args in
+    written-none (a .clock) (a .divisor) (a .lcr) (a .out .now) _ _ (sym (c .before .before .is-good .ensures) ∙ c .before .if1 .left)
+    (ap (λ (w : Written). left w (a .out .now)) (c .refused .ensures))
 
 pub write-spec : {M : Type 1} → statement M
 write-spec =
     tie.close
-    (tie.spec is-good-requires rate-requires write-found-requires same-length returns returns-2)
+    (tie.spec is-good-requires rate-requires write-found-requires same-length returns refused-requires returns-2)

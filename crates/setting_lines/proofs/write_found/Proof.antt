@@ -1,6 +1,6 @@
 use mathlib.Core.Path.{sym, _∙_}
 use native.Mathlib.Omega.{arith}
-use borrow.Author.Tests.{eq-eqb, lt-leb, lt-ltb, ne-eqb}
+use borrow.Author.Tests.{eq-eqb, lt-leb, ne-eqb}
 use borrow.Author.Needs.{needs}
 use Rattle.base.specs.PickLaws.{pick-true, pick-false}
 use Rattle.setting_lines.proofs.Copies.{made, made-fits, made-length, made-is, put-done}
@@ -39,11 +39,17 @@ returns c =
     (sym (c .before .before .before .before .before .before .before .before .before .refusal .ensures) ∙ c .before .before .before .before .before .before .before .before .if1 .taken)
     (made-is _ _ _ _ m) (m .size) (c .before .before .before .before .before .if2 .taken) (c .before .before .copy .ensures .1)
 
+refused-requires : tie.Need-refused-requires
+refused-requires c κs = search needs
+
 returns-2 : tie.Need-returns-2
-returns-2 c = simp (← c .before .put-line .ensures .0, ← c .before .before .before .before .refusal .ensures, lt-ltb _ _ (c .if2 .left), lt-leb _ _ (c .if2 .left), eq-eqb _ _ (c .before .before .before .if1 .taken), pick-true, pick-false)
+returns-2 c = simp (c .refused .ensures, ← c .before .before .put-line .ensures .0, ← c .before .before .before .before .before .refusal .ensures, lt-leb _ _ (c .before .if2 .left), eq-eqb _ _ (c .before .before .before .before .if1 .taken), pick-true, pick-false)
+
+refused-requires-2 : tie.Need-refused-requires-2
+refused-requires-2 c κs = search needs
 
 returns-3 : tie.Need-returns-3
-returns-3 c = simp (← c .before .refusal .ensures, ne-eqb _ _ (c .if1 .left), pick-false)
+returns-3 c = simp (c .refused2 .ensures, ← c .before .before .refusal .ensures, ne-eqb _ _ (c .before .if1 .left), pick-false)
 
 pub write-found-spec : {M : Type 1} → statement M
 write-found-spec =
@@ -56,5 +62,7 @@ write-found-spec =
     copy-requires
     same-length
     returns
+    refused-requires
     returns-2
+    refused-requires-2
     returns-3)
