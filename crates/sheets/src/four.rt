@@ -138,13 +138,9 @@ impl Numbers {
         }
         let values = self.values;
         let room = up_to(LONGEST_LINE, values[3] as usize);
+        let clock = byte(values[0]);
         let mut buffer = [0u8; 13];
-        let written = setting_lines::write(
-            byte(values[0]),
-            values[1],
-            byte(values[2]),
-            &mut buffer[..room],
-        );
+        let written = setting_lines::write(values[1], byte(values[2]), clock, &mut buffer[..room]);
         let answer = written.answer;
         let length = written.length;
         answers::put_written(out, answer.refusal(), &buffer[..length])
