@@ -3,10 +3,11 @@ use mathlib.Core.Path.{_≡_, refl, sym, ap, _∙_}
 use denote.Ref.{now}
 use Rattle.setting_lines.specs.Writing.{Left}
 use Rattle.setting_lines.specs.LineLaws.{read-one, write-one}
+use Rattle.sheets.specs.OneLaws.{line-one, numbers-one}
 use Rattle.listing.specs.PartLaws.{runs-one}
 use Rattle.lesson.specs.Lesson.{handedOut}
 use Rattle.lesson.specs.declared.Lesson.{Lesson}
-use Rattle.demands.specs.OnceCalls.{BaseOnce, QueueOnce, RatesOnce, SettingLinesOnce, RegistersOnce, ReceiverOnce, TransmitterOnce, StatusOnce, ChannelOnce, LendingOnce, SeatOnce, RankOnce}
+use Rattle.demands.specs.OnceCalls.{BaseOnce, QueueOnce, RatesOnce, SettingLinesOnce, SheetsOnce, RegistersOnce, ReceiverOnce, TransmitterOnce, StatusOnce, ChannelOnce, LendingOnce, SeatOnce, RankOnce}
 use Rattle.demands.specs.OnceCalls.{ControllerOnce, RecordsOnce, BenchOnce, ListingOnce, LessonOnce, StreamsOnce, EmbedOnce}
 use Rattle.demands.proofs.Once.{told, unasked, value}
 
@@ -47,6 +48,22 @@ setting-lines-once M =
       setting-lines·write = told _ refl (λ κ a r s v w p q.
           let same = write-one _ _ _ _ _ _ r s p q in
           (ap (λ (l : Left). l .written) same, λ i. (tt, (tt, (tt, (same i .buffer, tt))))));
+    }
+
+pub sheets-once : (M : Type 1) → SheetsOnce M
+sheets-once M =
+    record {
+      sheets·Line·start = value _ refl (λ κ a v w. refl);
+      sheets·Line·after = value _ refl (λ κ a v w. refl);
+      sheets·Line·is-empty = value _ refl (λ κ a v w. refl);
+      sheets·Line·reply = told _ refl (λ κ a r s v w p q.
+          let one = line-one _ _ _ _ _ r s p q in (one .0, λ i. (tt, (tt, (one .1 i, tt)))));
+      sheets·Numbers·start = value _ refl (λ κ a v w. refl);
+      sheets·Numbers·after = value _ refl (λ κ a v w. refl);
+      sheets·Numbers·is-unread = value _ refl (λ κ a v w. refl);
+      sheets·Numbers·reply = told _ refl (λ κ a r s v w p q.
+          let one = numbers-one _ _ _ _ r s p q in (one .0, λ i. (tt, (one .1 i, tt))));
+      sheets·read-clock = value _ refl (λ κ a v w. refl);
     }
 
 pub registers-once : (M : Type 1) → RegistersOnce M

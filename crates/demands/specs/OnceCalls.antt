@@ -4,6 +4,7 @@ use Rattle.base.proofs as base
 use Rattle.queue.proofs as queue
 use Rattle.rates.proofs as rates
 use Rattle.setting_lines.proofs as setting_lines
+use Rattle.sheets.proofs as sheets
 use Rattle.registers.proofs as registers
 use Rattle.receiver.proofs as receiver
 use Rattle.transmitter.proofs as transmitter
@@ -54,6 +55,19 @@ pub record RatesOnce (M : Type 1) : Type 2 where
 pub record SettingLinesOnce (M : Type 1) : Type 2 where
   pub setting-lines·read : Once M setting_lines.read.ended setting_lines.read.clauses setting_lines.read.spec
   pub setting-lines·write : Once M setting_lines.write.ended setting_lines.write.clauses setting_lines.write.spec
+
+-- ---- sheets: a control sheet, with the array that is lent back
+
+pub record SheetsOnce (M : Type 1) : Type 2 where
+  pub sheets·Line·start : Once M sheets.Line.start.ended sheets.Line.start.clauses sheets.Line.start.spec
+  pub sheets·Line·after : Once M sheets.Line.after.ended sheets.Line.after.clauses sheets.Line.after.spec
+  pub sheets·Line·is-empty : Once M sheets.Line.is_empty.ended sheets.Line.is_empty.clauses sheets.Line.is_empty.spec
+  pub sheets·Line·reply : Once M sheets.Line.reply.ended sheets.Line.reply.clauses sheets.Line.reply.spec
+  pub sheets·Numbers·start : Once M sheets.Numbers.start.ended sheets.Numbers.start.clauses sheets.Numbers.start.spec
+  pub sheets·Numbers·after : Once M sheets.Numbers.after.ended sheets.Numbers.after.clauses sheets.Numbers.after.spec
+  pub sheets·Numbers·is-unread : Once M sheets.Numbers.is_unread.ended sheets.Numbers.is_unread.clauses sheets.Numbers.is_unread.spec
+  pub sheets·Numbers·reply : Once M sheets.Numbers.reply.ended sheets.Numbers.reply.clauses sheets.Numbers.reply.spec
+  pub sheets·read-clock : Once M sheets.read_clock.ended sheets.read_clock.clauses sheets.read_clock.spec
 
 -- ---- registers: the settings
 

@@ -5,7 +5,7 @@ use crate::limits::up_to;
 ghost use mathlib.Core.Path.{_≡_};
 ghost use Prim.Native.Nat.{_+_, _*_, _≤_};
 ghost use Rattle.sheets.specs.Limits.{upTo};
-ghost use Rattle.sheets.specs.Numbers.{within, noNumbers, spoilt, withDigit, withBlank, numbersAfter, unread, four};
+ghost use Rattle.sheets.specs.Numbers.{within, noNumbers, spoilt, withBlank, numbersAfter, unread, four};
 ghost use Rattle.sheets.specs.Numbers.{worth as Numbers·worth, base as Numbers·base};
 ghost use Rattle.sheets.specs.Replies.{NumbersReply};
 
