@@ -77,6 +77,6 @@ lineOf rate s = rateText rate ++ shapeText s
 
 -- ---- the LCR byte of a shape
 
--- LCR bits 1-0 are the number of bits above 5, and bit 2 is the longer stop (document 004, the line control register)
+-- LCR bits 1-0 are the number of bits above five, and bit 2 is the longer stop (documents 004, 000 and 003, the line control register)
 unfoldable pub lcrOf : Shape → ℕ
 lcrOf s = (s .bits - 5) + 4 * digit (s .longer) + 8 * parityBits (s .parity)
