@@ -194,6 +194,7 @@ bench-once M =
 pub listing-once : (M : Type 1) → ListingOnce M
 listing-once M =
     record {
+      text·digit = told _ refl (λ κ a r s v w p q. (p .0 ∙ sym (q .0), refl));
       text·capital = value _ refl (λ κ a v w. refl);
       text·put-front = told _ refl (λ κ a r s v w p q. (p .0 ∙ sym (q .0), λ i. ((p .1 ∙ sym (q .1)) i, (tt, tt))));
       text·put-after = told _ refl (λ κ a r s v w p q. (p .next ∙ sym (q .next), λ i. ((p .bytes ∙ sym (q .bytes)) i, (tt, (tt, (tt, (tt, (tt, tt))))))));

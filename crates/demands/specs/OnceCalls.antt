@@ -189,6 +189,7 @@ pub record BenchOnce (M : Type 1) : Type 2 where
 -- ---- text and listing: a digit; a line and a run, each with the buffer that is lent back
 
 pub record ListingOnce (M : Type 1) : Type 2 where
+  pub text·digit : Once M text.digit.ended text.digit.clauses text.digit.spec
   pub text·capital : Once M text.capital.ended text.capital.clauses text.capital.spec
   pub text·put-front : Once M text.put_front.ended text.put_front.clauses text.put_front.spec
   pub text·put-after : Once M text.put_after.ended text.put_after.clauses text.put_after.spec

@@ -3,7 +3,8 @@ use Prim.Native.Nat.{ℕ}
 use mathlib.Core.List.{List, [], _∷_}
 use mathlib.Core.Path.{_≡_, refl}
 use Rattle.base.specs.Pick.{pick}
-use Rattle.lesson.specs.Text.{digit, apart, commented, uncommented, worths, paired, digitsOf, bytesOf}
+use Rattle.text.specs.Hex.{digit}
+use Rattle.lesson.specs.Text.{apart, commented, uncommented, worths, paired, digitsOf, bytesOf}
 use Rattle.lesson.specs.Fault.{faulty, next, after, faultFrom, faultOf}
 use Rattle.lesson.specs.Cause.{finding, stoppedAt, marked, wide, alien, begins, begunFrom, begunIn}
 use Rattle.lesson.specs.Place.{onward, placeFrom, placeBehind}
@@ -53,11 +54,6 @@ forgotten-byte-is-found = refl
 digits-stand-together : answer (48 ∷ 32 ∷ 56 ∷ []) ≡ 1 ∷ 1 ∷ 20 ∷ []
 unfolding answer
 digits-stand-together = refl
-
--- `letter-worth`; 0a
-small-a-is-10 : bytesOf (48 ∷ 97 ∷ []) ≡ 0x0A ∷ []
-unfolding answer
-small-a-is-10 = refl
 
 -- `short-record`; a space, 08, a number sign, two line feeds, 00: told at the first line's second column, where the record begins
 short-record-is-told-at-its-start : answer (32 ∷ 48 ∷ 56 ∷ 35 ∷ 10 ∷ 10 ∷ 48 ∷ 48 ∷ []) ≡ 1 ∷ 2 ∷ 30 ∷ 1 ∷ []

@@ -12,7 +12,8 @@ use lib.Seq.{drop-cons, sets}
 use borrow.Author.Tests.{lt-ltb, le-ltb}
 use Rattle.base.specs.Pick.{pick}
 use Rattle.base.specs.PickLaws.{pick-true, pick-false, pick-either}
-use Rattle.lesson.specs.Text.{lineFeed, digit, commented, uncommented, worths, paired, bytesOf, digitsOf}
+use Rattle.text.specs.Hex.{digit}
+use Rattle.lesson.specs.Text.{lineFeed, commented, uncommented, worths, paired, bytesOf, digitsOf}
 use Rattle.lesson.specs.Fault.{start, faulty, after, behind, half, faultFrom}
 use Rattle.lesson.specs.Cause.{begins, begunFrom}
 use Rattle.lesson.specs.Place.{onward, placeFrom}

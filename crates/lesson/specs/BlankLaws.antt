@@ -11,7 +11,8 @@ use lib.ListN.{length}
 use borrow.Author.Tests.{ne-eqb}
 use Rattle.base.specs.Pick.{pick}
 use Rattle.base.specs.PickLaws.{pick-false}
-use Rattle.lesson.specs.Text.{lineFeed, digit, white, apart, commented, uncommented, worths, digitsOf, bytesOf}
+use Rattle.text.specs.Hex.{digit}
+use Rattle.lesson.specs.Text.{lineFeed, white, apart, commented, uncommented, worths, digitsOf, bytesOf}
 use Rattle.lesson.specs.TextLaws.{white-is, commentedAfter, uncommented-parts, worths-parts}
 use Rattle.lesson.specs.Fault.{start, faulty, after, behind, faultFrom, faultOf}
 use Rattle.lesson.specs.FaultLaws.{parts-from, opened, moved, moved-from}

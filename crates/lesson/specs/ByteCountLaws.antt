@@ -10,9 +10,10 @@ use lib.Dec.{eqb}
 use lib.ListN.{take, getD}
 use borrow.Author.Tests.{ltb-true, ne-eqb, eqb-false}
 use Rattle.base.specs.PickLaws.{pick-true, pick-false, pick-cases, either-way, not-both, not-true}
-use Rattle.lesson.specs.Text.{lineFeed, digit, isDigit, apart, commented}
+use Rattle.text.specs.Hex.{digit}
+use Rattle.lesson.specs.Text.{lineFeed, isDigit, apart, commented}
 use Rattle.lesson.specs.TextLaws.{feed-no-digit}
-use Rattle.lesson.specs.Fault.{start, half, faulty, next, after, behind, faultFrom, faultOf}
+use Rattle.lesson.specs.Fault.{start, half, faulty, after, behind, faultFrom, faultOf}
 use Rattle.lesson.specs.EvenLaws.{was-outside, after-below}
 use Rattle.lesson.specs.Cause.{characterAt, alien, stoppedAt, marked, wide, finding}
 use Rattle.lesson.specs.declared.Cause.the-variants.{ShortRecord}

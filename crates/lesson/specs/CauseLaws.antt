@@ -12,12 +12,13 @@ use lib.Seq.{take-append-seam, getD-append-seam}
 use borrow.Author.Tests.{lt-ltb, ne-eqb, eq-eqb, eqb-true}
 use Rattle.base.specs.Pick.{pick}
 use Rattle.base.specs.PickLaws.{pick-true, pick-false, pick-same}
-use Rattle.lesson.specs.Text.{lineFeed, numberSign, digit, isDigit, white, apart}
+use Rattle.text.specs.Hex.{digit}
+use Rattle.lesson.specs.Text.{lineFeed, numberSign, isDigit, white, apart}
 use Rattle.lesson.specs.TextLaws.{white-is, feed-no-digit}
-use Rattle.lesson.specs.Fault.{start, half, faulty, next, behind, faultFrom, faultOf}
+use Rattle.lesson.specs.Fault.{start, half, faulty, behind, faultFrom, faultOf}
 use Rattle.lesson.specs.FaultLaws.{Whole, opened, digit-after, next-is, wrong-character, text-ends}
 use Rattle.lesson.specs.RecordLaws.{behind-parts}
-use Rattle.lesson.specs.Cause.{characterAt, begins, begunIn, alien, stoppedAt, marked, wide, finding}
+use Rattle.lesson.specs.Cause.{characterAt, begunIn, alien, stoppedAt, marked, wide, finding}
 use Rattle.lesson.specs.Place.{placeFrom, placeBehind}
 use Rattle.lesson.specs.PlaceLaws.{later-line}
 use Rattle.lesson.specs.Plain.{Digits, OneLine, feeds}

@@ -11,7 +11,8 @@ use lib.ListN.{length}
 use borrow.Author.Tests.{ltb-true, ltb-false, eqb-false}
 use Rattle.base.specs.Pick.{pick}
 use Rattle.base.specs.PickLaws.{pick-true, pick-false, pick-either, either-way, not-both}
-use Rattle.lesson.specs.Text.{lineFeed, numberSign, digit, isDigit, commented, uncommented, worths, digitsOf, bytesOf}
+use Rattle.text.specs.Hex.{digit}
+use Rattle.lesson.specs.Text.{lineFeed, numberSign, isDigit, commented, uncommented, worths, digitsOf, bytesOf}
 use Rattle.lesson.specs.TextLaws.{pair-count}
 use Rattle.lesson.specs.Fault.{start, half, faulty, next, after, faultFrom, faultOf}
 use Rattle.lesson.specs.declared.faults.Reading.{Reading}

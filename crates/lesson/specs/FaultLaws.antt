@@ -11,7 +11,8 @@ use lib.ListN.{length, length-append}
 use borrow.Author.Tests.{lt-ltb, eq-eqb, ne-eqb}
 use Rattle.base.specs.Pick.{pick}
 use Rattle.base.specs.PickLaws.{pick-true, pick-false, pick-same, pick-either, pick-through, either-way}
-use Rattle.lesson.specs.Text.{lineFeed, numberSign, digit, isDigit, white, apart, commented}
+use Rattle.text.specs.Hex.{digit}
+use Rattle.lesson.specs.Text.{lineFeed, numberSign, isDigit, white, apart, commented}
 use Rattle.lesson.specs.TextLaws.{digit-uncommented, comment-goes, white-is}
 use Rattle.lesson.specs.Fault.{start, half, faulty, next, after, behind, faultFrom, faultOf}
 use Rattle.lesson.specs.Plain.{Digits, Blank, OneLine, comment}

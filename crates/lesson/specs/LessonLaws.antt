@@ -10,7 +10,8 @@ use lib.Seq.{sets}
 use borrow.Author.Tests.{le-ltb, ltb-false}
 use Rattle.base.specs.Pick.{pick}
 use Rattle.base.specs.PickLaws.{pick-false, pick-either, pick-cases}
-use Rattle.lesson.specs.Text.{lineFeed, digit, apart, commented, bytesOf}
+use Rattle.text.specs.Hex.{digit}
+use Rattle.lesson.specs.Text.{lineFeed, apart, commented, bytesOf}
 use Rattle.lesson.specs.TextLaws.{letter-worth, plain-back}
 use Rattle.lesson.specs.Fault.{start, faulty, next, after, behind, faultFrom, faultOf}
 use Rattle.lesson.specs.FaultLaws.{opened, digit-on, digit-after, Whole}

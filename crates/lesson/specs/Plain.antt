@@ -5,7 +5,8 @@ use mathlib.Core.List.{List, [], _∷_, _++_}
 use mathlib.Core.Path.{_≡_}
 use lib.Dec.{ltb, eqb}
 use Rattle.base.specs.Pick.{pick}
-use Rattle.lesson.specs.Text.{lineFeed, numberSign, digit, white}
+use Rattle.text.specs.Hex.{digit}
+use Rattle.lesson.specs.Text.{lineFeed, numberSign, white}
 
 -- a digit below 16 as a character, with small letters or with capitals
 abbrev pub letter : Bool → ℕ → ℕ

@@ -10,7 +10,8 @@ use lib.ListN.{length}
 use borrow.Author.Tests.{ne-eqb}
 use Rattle.base.specs.Pick.{pick}
 use Rattle.base.specs.PickLaws.{pick-true, pick-false}
-use Rattle.lesson.specs.Text.{lineFeed, numberSign, digit, isDigit, apart, commented}
+use Rattle.text.specs.Hex.{digit}
+use Rattle.lesson.specs.Text.{lineFeed, numberSign, isDigit, apart, commented}
 use Rattle.lesson.specs.TextLaws.{comment-goes}
 use Rattle.lesson.specs.Fault.{start, faulty, next, after, behind, faultFrom, faultOf}
 use Rattle.lesson.specs.FaultLaws.{Whole, whole-parts, whole-digits, opened, digit-after, digit-on, wrong-character, moved, moved-from}

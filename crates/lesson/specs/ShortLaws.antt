@@ -12,7 +12,8 @@ use lib.Seq.{getD-append-seam}
 use borrow.Author.Tests.{lt-ltb, ne-eqb}
 use Rattle.base.specs.Pick.{pick}
 use Rattle.base.specs.PickLaws.{pick-true, pick-false}
-use Rattle.lesson.specs.Text.{lineFeed, digit, isDigit, commented}
+use Rattle.text.specs.Hex.{digit}
+use Rattle.lesson.specs.Text.{lineFeed, isDigit, commented}
 use Rattle.lesson.specs.Fault.{start, half, next, after, behind, faultFrom, faultOf}
 use Rattle.lesson.specs.FaultLaws.{Whole, whole-parts, opened, digit-after, digit-on, next-is, cutBehind, blank-fine, feed-cuts, blanks-on, cut-digit}
 use Rattle.lesson.specs.BlankLaws.{blank-still, blanks-from}

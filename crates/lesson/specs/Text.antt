@@ -14,11 +14,12 @@
 --     that is its cause, and its place the text's start.
 --  8. A place is a line and a column, both from 1. A column is one byte of the text, and a line ends after a line feed.
 --  9. A text of more than 4294967295 characters is not read, nor one whose bytes do not fit the buffer, and which of the two is told.
-use Prim.Native.Nat.{ℕ, _+_, _-_, _*_}
-use mathlib.Core.Bool.{Bool, true, false, _&&_, _||_}
+use Prim.Native.Nat.{ℕ, _+_, _*_}
+use mathlib.Core.Bool.{Bool, true, false, _||_}
 use mathlib.Core.List.{List, [], _∷_}
-use lib.Dec.{ltb, leb, eqb}
+use lib.Dec.{ltb, eqb}
 use Rattle.base.specs.Pick.{pick}
+use Rattle.text.specs.Hex.{digit}
 
 -- ---- characters
 
@@ -36,13 +37,6 @@ space = 32
 
 abbrev pub numberSign : ℕ
 numberSign = 35
-
-abbrev pub within : ℕ → ℕ → ℕ → Bool
-within low high c = leb low c && leb c high
-
--- what a hexadecimal digit is worth: 0 to 9, A to F, a to f; 16 for a character that is none
-unfoldable pub digit : ℕ → ℕ
-digit c = pick (within 48 57 c) (c - 48) (pick (within 65 70 c) (c - 65 + 10) (pick (within 97 102 c) (c - 97 + 10) 16))
 
 abbrev pub isDigit : ℕ → Bool
 isDigit c = ltb (digit c) 16

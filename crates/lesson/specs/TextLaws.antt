@@ -5,13 +5,15 @@ use mathlib.Core.List.{List, [], _∷_, _++_, append-assoc}
 use mathlib.Core.Path.{_≡_, refl, sym, ap, subst, _∙_}
 use mathlib.Core.Logic.{_⊎_, inl, inr, ⊎-elim}
 use native.Mathlib.Omega.{arith}
-use lib.Dec.{ltb, leb, eqb}
+use lib.Dec.{ltb, eqb}
 use lib.ListN.{length}
-use borrow.Author.Tests.{lt-ltb, le-ltb, leb-true, ne-eqb, eqb-true}
+use borrow.Author.Tests.{lt-ltb, le-ltb, ne-eqb, eqb-true}
 use Rattle.base.specs.Pick.{pick}
-use Rattle.base.specs.PickLaws.{pick-true, pick-false, pick-same, pick-either, pick-cases, both-hold}
+use Rattle.base.specs.PickLaws.{pick-true, pick-false, pick-same, pick-either, pick-cases}
 use Rattle.base.specs.EveryLaws.{equal-at}
-use Rattle.lesson.specs.Text.{lineFeed, numberSign, within, digit, white, commented, uncommented, worths, paired, digitsOf, bytesOf}
+use Rattle.text.specs.HexLaws.{inside}
+use Rattle.text.specs.Hex.{digit, within}
+use Rattle.lesson.specs.Text.{lineFeed, numberSign, white, commented, uncommented, worths, paired, digitsOf, bytesOf}
 use Rattle.lesson.specs.Plain.{letter, two, plain, Bytes, OneLine, comment}
 
 -- ---- characters
@@ -21,11 +23,6 @@ pub letter-worth : (small : Bool) (d : ℕ) → d < 16 → digit (letter small d
 unfolding digit pick
 letter-worth true = equal-at 16 (λ d. digit (letter true d)) (λ d. d) tt
 letter-worth false = equal-at 16 (λ d. digit (letter false d)) (λ d. d) tt
-
-pub inside : (low high c : ℕ) → within low high c ≡ true → (low ≤ c) × (c ≤ high)
-inside low high c e =
-    let both : _ = both-hold (leb low c) (leb c high) e in
-    (leb-true low c (both .0), leb-true c high (both .1))
 
 number-letter : (c : ℕ) → (48 ≤ c) × (c ≤ 57) → c ≡ letter false (c - 48)
 number-letter c h =

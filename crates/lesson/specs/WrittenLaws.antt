@@ -2,7 +2,8 @@
 use mathlib.Core.List.{[], _∷_}
 use mathlib.Core.Path.{_≡_, refl}
 use Rattle.base.specs.Pick.{pick}
-use Rattle.lesson.specs.Text.{digit, apart, commented, uncommented, worths, paired, digitsOf, bytesOf}
+use Rattle.text.specs.Hex.{digit}
+use Rattle.lesson.specs.Text.{apart, commented, uncommented, worths, paired, digitsOf, bytesOf}
 use Rattle.lesson.specs.Fault.{faulty, next, after, faultFrom, faultOf}
 use Rattle.lesson.specs.Cause.{finding, stoppedAt, marked, wide, alien, begins, begunFrom, begunIn}
 use Rattle.lesson.specs.Place.{onward, placeFrom, placeBehind}

@@ -1,12 +1,13 @@
 // The bytes of a text that has no fault.
 use crate::characters;
-use crate::characters::NO_DIGIT;
+use text::NO_DIGIT;
 ghost use mathlib.Core.Path.{_≡_};
 ghost use Prim.Native.Nat.{_≤_};
 ghost use lib.ListN.{length};
 ghost use lib.Seq.{sets};
 ghost use Rattle.base.specs.Pick.{pick};
-ghost use Rattle.lesson.specs.Text.{bytesOf, digitsOf, digit};
+ghost use Rattle.lesson.specs.Text.{bytesOf, digitsOf};
+ghost use Rattle.text.specs.Hex.{digit};
 
 // What the character is worth where it is a digit and no comment has it, and `NO_DIGIT` elsewhere.
 fn worth(comment: bool, c: u8) -> u8
@@ -15,7 +16,7 @@ fn worth(comment: bool, c: u8) -> u8
     if comment {
         return NO_DIGIT;
     }
-    characters::digit(c)
+    text::digit(c)
 }
 
 pub(crate) fn count_digits(text: &[u8]) -> usize

@@ -1,9 +1,9 @@
 // What a fault is told as, and where.
 use crate::Cause;
 use crate::characters;
-use crate::characters::NO_DIGIT;
 use crate::faults::Reading;
 use crate::faults::START;
+use text::NO_DIGIT;
 ghost use mathlib.Core.Path.{_≡_};
 ghost use Prim.Native.Nat.{_≤_};
 ghost use lib.ListN.{length};
@@ -55,7 +55,7 @@ fn is_wide(text: &[u8]) -> bool
 fn is_alien(c: u8) -> bool
     ensures { λ r. ⌜ r ≡ alien c ⌝ }
 {
-    if characters::digit(c) < NO_DIGIT {
+    if text::digit(c) < NO_DIGIT {
         return false;
     }
     !characters::is_apart(c)
@@ -65,7 +65,7 @@ impl Reading {
     fn begins(self, c: u8) -> bool
         ensures { λ r. ⌜ r ≡ begins self c ⌝ }
     {
-        !self.comment & (self.digits == 0) & (characters::digit(c) < NO_DIGIT)
+        !self.comment & (self.digits == 0) & (text::digit(c) < NO_DIGIT)
     }
 }
 

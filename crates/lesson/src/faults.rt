@@ -1,6 +1,6 @@
 // The first fault of a text.
 use crate::characters;
-use crate::characters::NO_DIGIT;
+use text::NO_DIGIT;
 ghost use mathlib.Core.Path.{_≡_};
 ghost use Rattle.lesson.specs.Fault.{faultOf, faulty, next};
 ghost use Rattle.lesson.specs.Fault.{after as Fault·after};
@@ -34,7 +34,7 @@ impl Reading {
         if self.comment {
             return false;
         }
-        if characters::digit(c) < NO_DIGIT {
+        if text::digit(c) < NO_DIGIT {
             return self.cut;
         }
         if characters::is_apart(c) {
@@ -62,7 +62,7 @@ impl Reading {
                 comment: true,
             };
         }
-        if characters::digit(c) < NO_DIGIT {
+        if text::digit(c) < NO_DIGIT {
             return Reading {
                 digits: self.counted(),
                 cut: self.cut,

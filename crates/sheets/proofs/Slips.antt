@@ -9,7 +9,8 @@ use Rattle.text.specs.Quoted.{quoted}
 use Rattle.text.specs.Line.{decimal, digitsWithin, capital}
 use Rattle.sheets.specs.Limits.{upTo}
 use Rattle.sheets.specs.Texts.{settingText}
-use Rattle.sheets.specs.Numbers.{worth, base, noNumbers, withDigit, withBlank, numbersAfter, numbersBehind, four}
+use Rattle.text.specs.Hex.{digit as worth}
+use Rattle.sheets.specs.Numbers.{base, noNumbers, withDigit, withBlank, numbersAfter, numbersBehind, four}
 
 -- `sheet-read`: the divisor in decimal, then the LCR byte in two capitals; it reads 0 12 1E
 high-digit-comes-first : settingText (record { answer = Done; divisor = 12; lcr = 0x1E }) ≡ 48 ∷ 32 ∷ 49 ∷ 50 ∷ 32 ∷ 49 ∷ 69 ∷ 10 ∷ []

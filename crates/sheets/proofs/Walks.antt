@@ -1,15 +1,11 @@
 -- Numbers read character by character, as a loop goes through a word.
 use Prim.Native.Nat.{ℕ, _+_, _≤_, _<_}
 use mathlib.Core.List.{List}
-use mathlib.Core.Bool.{true}
 use mathlib.Core.Path.{_≡_}
-use lib.Dec.{leb}
-use borrow.Author.Tests.{leb-true}
-use Rattle.base.specs.PickLaws.{both-hold}
 use native.Mathlib.Numerals.{add-one}
 use lib.ListN.{length, getD, drop, drop-of-length-le}
 use lib.Seq.{drop-cons}
-use Rattle.sheets.specs.Numbers.{within, numbersAfter, numbersBehind}
+use Rattle.sheets.specs.Numbers.{numbersAfter, numbersBehind}
 use Rattle.sheets.specs.declared.Numbers.{Numbers}
 
 module _ (s : Numbers) (word : List ℕ) (i : ℕ) where
@@ -18,8 +14,3 @@ module _ (s : Numbers) (word : List ℕ) (i : ℕ) where
 
   pub numbers-end : length word ≤ i → numbersBehind s (drop i word) ≡ s
   numbers-end h = rw (drop-of-length-le word h)
-
-pub inside : (low high c : ℕ) → within low high c ≡ true → (low ≤ c) × (c ≤ high)
-inside low high c h =
-    let both : _ = both-hold (leb low c) (leb c high) h in
-    (leb-true low c (both .0), leb-true c high (both .1))

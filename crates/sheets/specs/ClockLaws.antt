@@ -13,7 +13,8 @@ use Rattle.base.specs.PickLaws.{pick-false, pick-either, pick-cases, both-hold,
 use Rattle.text.specs.Line.{space, decimal}
 use Rattle.sheets.specs.Limits.{upTo}
 use Rattle.sheets.specs.LimitLaws.{up-to-less}
-use Rattle.sheets.specs.Numbers.{worth, base, noNumbers, withDigit, withBlank, numbersAfter, numbersBehind, unread, clockIn, clockOf}
+use Rattle.text.specs.Hex.{digit as worth}
+use Rattle.sheets.specs.Numbers.{base, noNumbers, withDigit, withBlank, numbersAfter, numbersBehind, unread, clockIn, clockOf}
 use Rattle.sheets.specs.FourLaws.{valued, AllDigits, Word, first-read}
 use Rattle.sheets.specs.SpelledLaws.{decimal-word, decimal-valued}
 use Rattle.sheets.specs.declared.Clock.the-variants.{Number, NoNumber}

@@ -13,7 +13,8 @@ use Rattle.base.specs.PickLaws.{pick-true, pick-false, pick-either}
 use Rattle.text.specs.Line.{space}
 use Rattle.sheets.specs.Limits.{upTo}
 use Rattle.sheets.specs.LimitLaws.{up-to-low, up-to-more, up-to-less}
-use Rattle.sheets.specs.Numbers.{worth, base, noNumbers, withDigit, withBlank, numbersAfter, numbersBehind, number, four, byte, room}
+use Rattle.text.specs.Hex.{digit as worth}
+use Rattle.sheets.specs.Numbers.{base, noNumbers, withDigit, withBlank, numbersAfter, numbersBehind, number, four, byte, room}
 use Rattle.sheets.specs.OddLaws.{behind-append, base-small}
 use Rattle.sheets.specs.declared.Numbers.{Numbers}
 

@@ -10,6 +10,7 @@ use mathlib.Core.List.{List, [], _∷_}
 use lib.Dec.{ltb, leb, eqb}
 use lib.ListN.{getD, set, replicate}
 use Rattle.base.specs.Pick.{pick}
+use Rattle.text.specs.Hex.{digit as worth}
 use Rattle.text.specs.Line.{space}
 use Rattle.sheets.specs.Limits.{upTo}
 use Rattle.sheets.specs.declared.Numbers.{Numbers}
@@ -17,13 +18,6 @@ use Rattle.sheets.specs.declared.Clock.{Clock}
 use Rattle.sheets.specs.declared.Clock.the-variants.{Number, NoNumber}
 
 -- ---- digits
-
-abbrev pub within : ℕ → ℕ → ℕ → Bool
-within low high c = leb low c && leb c high
-
--- what a digit is worth: 0 to 9, A to F, a to f; 16 for a character that is none
-unfoldable pub worth : ℕ → ℕ
-worth c = pick (within 48 57 c) (c - 48) (pick (within 65 70 c) (c - 65 + 10) (pick (within 97 102 c) (c - 97 + 10) 16))
 
 -- the LCR byte stands at place 2, counted from 0
 unfoldable pub base : ℕ → ℕ

@@ -11,7 +11,8 @@ use borrow.Author.Tests.{leb-true, leb-false, le-leb, le-ltb, ne-eqb, eqb-true}
 use Rattle.base.specs.Pick.{pick}
 use Rattle.base.specs.PickLaws.{pick-true, pick-false, pick-either, pick-cases, pick-le, either-way, both-hold}
 use Rattle.text.specs.Line.{space}
-use Rattle.sheets.specs.Numbers.{worth, base, noNumbers, spoilt, withDigit, withBlank, numbersAfter, numbersBehind, four}
+use Rattle.text.specs.Hex.{digit as worth}
+use Rattle.sheets.specs.Numbers.{base, noNumbers, spoilt, withDigit, withBlank, numbersAfter, numbersBehind, four}
 use Rattle.sheets.specs.declared.Numbers.{Numbers}
 
 pub behind-append : (s : Numbers) (a b : List ℕ) → numbersBehind s (a ++ b) ≡ numbersBehind (numbersBehind s a) b

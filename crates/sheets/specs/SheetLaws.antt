@@ -22,7 +22,8 @@ use Rattle.setting_lines.specs.declared.Setting.{Setting}
 use Rattle.setting_lines.proofs.Statements.{statements}
 use Rattle.sheets.specs.Limits.{upTo}
 use Rattle.sheets.specs.Texts.{settingText, writtenText, AtStart}
-use Rattle.sheets.specs.Numbers.{worth, base, noNumbers, withDigit, withBlank, numbersAfter, numbersBehind, four}
+use Rattle.text.specs.Hex.{digit as worth}
+use Rattle.sheets.specs.Numbers.{base, noNumbers, withDigit, withBlank, numbersAfter, numbersBehind, four}
 use Rattle.sheets.specs.Replies.{LineReply, NumbersReply}
 
 lined : Lined 0 12 0x1E

@@ -15,7 +15,8 @@ use Rattle.text.specs.Line.{letterA, numeral, decimal, capital}
 use Rattle.text.specs.DecimalLaws.{front-length}
 use Rattle.text.specs.FormLaws.{denoted, Digits, decimal-denotes, decimal-digits}
 use Rattle.sheets.specs.Limits.{upTo}
-use Rattle.sheets.specs.Numbers.{worth, noNumbers, numbersBehind}
+use Rattle.text.specs.Hex.{digit as worth}
+use Rattle.sheets.specs.Numbers.{noNumbers, numbersBehind}
 use Rattle.sheets.specs.FourLaws.{valued, AllDigits, Word, line, ReadAs, words-read}
 
 -- ---- decimal

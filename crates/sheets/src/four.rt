@@ -5,8 +5,8 @@ use crate::limits::up_to;
 ghost use mathlib.Core.Path.{_≡_};
 ghost use Prim.Native.Nat.{_+_, _*_, _≤_};
 ghost use Rattle.sheets.specs.Limits.{upTo};
-ghost use Rattle.sheets.specs.Numbers.{within, noNumbers, spoilt, withBlank, numbersAfter, unread, four};
-ghost use Rattle.sheets.specs.Numbers.{worth as Numbers·worth, base as Numbers·base};
+ghost use Rattle.sheets.specs.Numbers.{noNumbers, spoilt, withBlank, numbersAfter, unread, four};
+ghost use Rattle.sheets.specs.Numbers.{base as Numbers·base};
 ghost use Rattle.sheets.specs.Replies.{NumbersReply};
 
 // Places of the numbers, from 0.
@@ -19,31 +19,6 @@ const SPOILT: u8 = 4;
 
 // A larger room is no more use.
 const LONGEST_LINE: usize = 13;
-
-fn is_within(low: u8, high: u8, c: u8) -> bool
-    ensures { λ r. ⌜ r ≡ within low high c ⌝ }
-{
-    if c < low {
-        return false;
-    }
-    c <= high
-}
-
-// What a digit is worth; 16 of a character that is none.
-fn worth(c: u8) -> u8
-    ensures { λ r. ⌜ (r ≡ Numbers·worth c) × (r ≤ 16) ⌝ }
-{
-    if is_within(b'0', b'9', c) {
-        return c - b'0';
-    }
-    if is_within(b'A', b'F', c) {
-        return c - b'A' + 10;
-    }
-    if is_within(b'a', b'f', c) {
-        return c - b'a' + 10;
-    }
-    16
-}
 
 fn base(place: u8) -> u8
     ensures { λ r. ⌜ (r ≡ Numbers·base place) × (r ≤ 16) ⌝ }
@@ -107,7 +82,7 @@ impl Numbers {
             return self.with_blank();
         }
         let base = base(self.place);
-        let digit = worth(c);
+        let digit = text::digit(c);
         if base <= digit {
             return self.spoilt();
         }

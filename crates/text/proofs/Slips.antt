@@ -6,6 +6,7 @@ use mathlib.Core.Path.{_≡_, refl}
 use Rattle.base.specs.Pick as base
 use Rattle.base.specs.Answers as answers
 use Rattle.base.specs.declared.Answer.the-variants.{Refused}
+use Rattle.text.specs.Hex.{digit}
 use Rattle.text.specs.Line.{digitsWithin, decimal, capital, outputDigit, line, room}
 
 -- the text of a line; it opens what a line is made of
@@ -22,3 +23,8 @@ line-of-a-refusal = refl
 ten-bytes-are-room : room (line 0 (Refused 4) false) (0 ∷ 0 ∷ 0 ∷ 0 ∷ 0 ∷ 0 ∷ 0 ∷ 0 ∷ 0 ∷ 0 ∷ []) 0 ≡ true
 unfolding text
 ten-bytes-are-room = refl
+
+-- `letter-worth`, of lessons
+small-a-is-10 : digit 97 ≡ 10
+unfolding digit base.pick
+small-a-is-10 = refl

@@ -1,4 +1,6 @@
 pub mod Quoted
+pub mod Hex
+pub mod HexLaws
 pub mod Line
 pub mod Front
 pub mod StoreLaws

@@ -1,7 +1,8 @@
 use native.Mathlib.Nat.{zero-add}
 use Rattle.lesson.proofs.Walks.{worth, digit-on, digit-past, digits-end, digitsFrom}
 use lib.ListN.{getD, length}
-use Rattle.lesson.specs.Text.{digit, digitsOf}
+use Rattle.text.specs.Hex.{digit}
+use Rattle.lesson.specs.Text.{digitsOf}
 use Rattle.base.specs.Pick.{pick}
 use mathlib.Core.Path.{refl, sym, ap, _∙_, _≡_}
 use Prim.Native.Nat.{_+_, _≤_, _-_}

@@ -1,6 +1,6 @@
 use Rattle.lesson.proofs.Walks.{worth, Putting, put-start, put-past, put-first, put-second, put-room, put-end}
 use lib.ListN.{getD, length}
-use Rattle.lesson.specs.Text.{digit}
+use Rattle.text.specs.Hex.{digit}
 use Rattle.base.specs.Pick.{pick}
 use mathlib.Core.Path.{refl, ap, _∙_, _≡_}
 use borrow.Author.Needs.{needs}

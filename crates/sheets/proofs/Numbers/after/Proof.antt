@@ -19,15 +19,15 @@ returns-2 c = simp (← c .with-blank .ensures, eq-eqb _ _ (c .before .if2 .take
 base-requires : tie.Need-base-requires
 base-requires c κs = search needs
 
-worth-requires : tie.Need-worth-requires
-worth-requires c κs = search needs
+digit-requires : tie.Need-digit-requires
+digit-requires c κs = search needs
 
 spoilt-requires : tie.Need-spoilt-requires
 spoilt-requires c κs = search needs
 
 returns-3 : tie.Need-returns-3
 unfolding numbersAfter
-returns-3 c = simp (← c .spoilt .ensures, ← c .before .before .worth .ensures .0, ← c .before .before .before .base .ensures .0, le-ltb _ _ (c .before .if3 .taken), le-leb _ _ (c .before .if3 .taken), ne-eqb _ _ (c .before .before .before .before .if2 .left), lt-ltb _ _ (c .before .before .before .before .before .if1 .left), lt-leb _ _ (c .before .before .before .before .before .if1 .left), pick-true, pick-false)
+returns-3 c = simp (← c .spoilt .ensures, ← c .before .before .digit .ensures .0, ← c .before .before .before .base .ensures .0, le-ltb _ _ (c .before .if3 .taken), le-leb _ _ (c .before .if3 .taken), ne-eqb _ _ (c .before .before .before .before .if2 .left), lt-ltb _ _ (c .before .before .before .before .before .if1 .left), lt-leb _ _ (c .before .before .before .before .before .if1 .left), pick-true, pick-false)
 
 cast-at : tie.Need-cast-at
 cast-at c = search needs
@@ -49,7 +49,7 @@ element-write-self c = search needs
 
 returns-4 : tie.Need-returns-4
 unfolding numbersAfter withDigit
-returns-4 c = simp (← c .with-digit .ensures, ← c .before .before .before .worth .ensures .0, ← c .before .before .before .before .base .ensures .0, lt-ltb _ _ (c .before .before .if3 .left), lt-leb _ _ (c .before .before .if3 .left), ne-eqb _ _ (c .before .before .before .before .before .if2 .left), lt-ltb _ _ (c .before .before .before .before .before .before .if1 .left), lt-leb _ _ (c .before .before .before .before .before .before .if1 .left), pick-true, pick-false)
+returns-4 c = simp (← c .with-digit .ensures, ← c .before .before .before .digit .ensures .0, ← c .before .before .before .before .base .ensures .0, lt-ltb _ _ (c .before .before .if3 .left), lt-leb _ _ (c .before .before .if3 .left), ne-eqb _ _ (c .before .before .before .before .before .if2 .left), lt-ltb _ _ (c .before .before .before .before .before .before .if1 .left), lt-leb _ _ (c .before .before .before .before .before .before .if1 .left), pick-true, pick-false)
 
 pub after-spec : {M : Type 1} → statement M
 after-spec =
@@ -59,7 +59,7 @@ after-spec =
     with-blank-requires
     returns-2
     base-requires
-    worth-requires
+    digit-requires
     spoilt-requires
     returns-3
     cast-at

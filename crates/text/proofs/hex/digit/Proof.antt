@@ -1,11 +1,11 @@
-use Rattle.sheets.proofs.Walks.{inside}
-use Rattle.sheets.specs.Numbers.{worth}
+use Rattle.text.specs.HexLaws.{inside}
+use Rattle.text.specs.Hex.{digit}
 use Rattle.base.specs.PickLaws.{pick-true, pick-false}
 use native.Mathlib.Omega.{arith}
 use mathlib.Core.Path.{sym, _∙_}
 use borrow.Author.Needs.{needs}
-use Rattle.sheets.proofs.four.worth.Statement.{statement}
-use Rattle.sheets.proofs.four.worth.Tie as tie
+use Rattle.text.proofs.hex.digit.Statement.{statement}
+use Rattle.text.proofs.hex.digit.Tie as tie
 
 is-within-requires : tie.Need-is-within-requires
 is-within-requires c κs = search needs
@@ -14,7 +14,7 @@ sub-result : tie.Need-sub-result
 sub-result c = omega (arith, inside 48 57 (c .before .before .args .c) (sym (c .before .is-within .ensures) ∙ c .if1 .taken))
 
 returns : tie.Need-returns
-unfolding worth
+unfolding digit
 returns c = (
   sym (pick-true _ _ _ (sym (c .before .is-within .ensures) ∙ c .if1 .taken)),
   omega (arith, inside 48 57 (c .before .before .args .c) (sym (c .before .is-within .ensures) ∙ c .if1 .taken)),
@@ -30,7 +30,7 @@ add-result : tie.Need-add-result
 add-result c = search needs
 
 returns-2 : tie.Need-returns-2
-unfolding worth
+unfolding digit
 returns-2 c = (
   sym (pick-false _ _ _ (sym (c .before .before .before .is-within .ensures) ∙ c .before .before .if1 .left) ∙ pick-true _ _ _ (sym (c .before .is-within2 .ensures) ∙ c .if2 .taken)),
   omega (arith, inside 65 70 (c .before .before .before .before .args .c) (sym (c .before .is-within2 .ensures) ∙ c .if2 .taken)),
@@ -46,21 +46,21 @@ add-result-2 : tie.Need-add-result-2
 add-result-2 c = search needs
 
 returns-3 : tie.Need-returns-3
-unfolding worth
+unfolding digit
 returns-3 c = (
   sym (pick-false _ _ _ (sym (c .before .before .before .before .before .is-within .ensures) ∙ c .before .before .before .before .if1 .left) ∙ pick-false _ _ _ (sym (c .before .before .before .is-within2 .ensures) ∙ c .before .before .if2 .left) ∙ pick-true _ _ _ (sym (c .before .is-within3 .ensures) ∙ c .if3 .taken)),
   omega (arith, inside 97 102 (c .before .before .before .before .before .before .args .c) (sym (c .before .is-within3 .ensures) ∙ c .if3 .taken)),
 )
 
 returns-4 : tie.Need-returns-4
-unfolding worth
+unfolding digit
 returns-4 c = (
   sym (pick-false _ _ _ (sym (c .before .before .before .before .before .is-within .ensures) ∙ c .before .before .before .before .if1 .left) ∙ pick-false _ _ _ (sym (c .before .before .before .is-within2 .ensures) ∙ c .before .before .if2 .left) ∙ pick-false _ _ _ (sym (c .before .is-within3 .ensures) ∙ c .if3 .left)),
   omega arith,
 )
 
-pub worth-spec : {M : Type 1} → statement M
-worth-spec =
+pub digit-spec : {M : Type 1} → statement M
+digit-spec =
     tie.close
     (tie.spec
     is-within-requires
