@@ -5,3 +5,7 @@ pub mod Refusals
 pub mod WrittenLaws
 pub mod ReadLaws
 pub mod RefusalLaws
+pub mod Fields
+pub mod BackLaws
+pub mod FieldLaws
+pub mod RestoredLaws
