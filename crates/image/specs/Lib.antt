@@ -9,3 +9,8 @@ pub mod Fields
 pub mod BackLaws
 pub mod FieldLaws
 pub mod RestoredLaws
+pub mod Items
+pub mod ItemLaws
+pub mod Numbers
+pub mod ThereAndBack
+pub mod Statements
