@@ -20,6 +20,9 @@
 /* A place past every end, and in the buffer once cut to 16 bits. */
 #define FAR 65536U
 
+/* Places with 8 bytes behind them, and fewer, and none. */
+#define NEAR_END (BUFFER_BYTES - 8U)
+
 const struct trial image_trials[IMAGE_TRIALS] = {
     {101, 20000, 0, 0}, {102, 20000, 0, 0}, {103, 20000, 0, 0}, {104, 20000, 0, 0},
     {105, 20000, 0, 0}, {106, 20000, 0, 0}, {107, 20000, 0, 0}, {108, 20000, 0, 0},
@@ -111,6 +114,7 @@ static struct lending damage_lending(unsigned way, unsigned spot, unsigned place
     case 0: return (struct lending){place + spot, place};
     case 1: return (struct lending){BUFFER_BYTES, place + spot};
     case 2: return (struct lending){BUFFER_BYTES, FAR + spot};
+    case 3: return (struct lending){BUFFER_BYTES, NEAR_END + spot % 16U};
     default: return (struct lending){BUFFER_BYTES, place};
     }
 }
