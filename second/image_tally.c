@@ -4,6 +4,8 @@
 #include <stdbool.h>
 #include <stdio.h>
 
+#define DAMAGES_LEAST 200000U
+
 #define GROUND_WORDS(name, words) words,
 static const char *const ground_words[] = {GROUND_ITEMS(GROUND_WORDS)};
 
@@ -42,11 +44,16 @@ void image_tally_damage(struct image_tally *tally, const struct damage *damage)
     }
 }
 
-/* Not 0 if the number is. */
-static int print_item(uint64_t number, const char *before, const char *words)
+/* Not 0 if there are fewer than there are to be; at least one is to be. */
+static int print_some(uint64_t number, uint64_t least, const char *before, const char *words)
 {
     printf("%10" PRIu64 "  %s%s\n", number, before, words);
-    return number == 0 ? 1 : 0;
+    return number == 0 || number < least ? 1 : 0;
+}
+
+static int print_item(uint64_t number, const char *before, const char *words)
+{
+    return print_some(number, 1, before, words);
 }
 
 static uint64_t least_wounded(const struct image_tally *tally)
@@ -60,9 +67,10 @@ static uint64_t least_wounded(const struct image_tally *tally)
 
 int image_tally_print(const struct image_tally *tally)
 {
-    int result = print_item(tally->stops, "saved benches, ", "stops")
-                 | print_item(tally->damages, "saved benches, ", "damaged images")
-                 | print_item(tally->read, "damaged images, ", "read")
+    int result = print_item(tally->stops, "stops with a saved bench", "")
+                 | print_some(tally->damages, DAMAGES_LEAST, "damaged images", "")
+                 | print_item(tally->read, "damaged images ", "read")
+                 | print_some(tally->written_back, tally->read, "damaged images ", "written back as read")
                  | print_item(tally->too_short_for_header, "refusal 12, ", "below 5 bytes")
                  | print_item(tally->too_short_for_version, "refusal 12, ", "shorter than its version")
                  | print_item(tally->wrong_mark, "refusal 13", "")
@@ -70,5 +78,5 @@ int image_tally_print(const struct image_tally *tally)
                  | print_item(tally->no_bench, "refusal 15", "");
     for (unsigned i = 0; i < GROUNDS; i += 1)
         result |= print_item(tally->alone[i], "refusal 15, alone to blame: ", ground_words[i]);
-    return result | print_item(least_wounded(tally), "damages ", "of the byte that has the fewest of its own");
+    return result | print_item(least_wounded(tally), "wounds ", "of the byte that has the fewest of its own");
 }

@@ -11,12 +11,13 @@ struct image_tally {
     uint64_t stops;
     uint64_t damages;
     uint64_t read;
+    uint64_t written_back; /* as they were read */
     uint64_t too_short_for_header;
     uint64_t too_short_for_version;
     uint64_t wrong_mark;
     uint64_t unknown_version;
     uint64_t no_bench;
-    uint64_t alone[GROUNDS];      /* the ground was the only one */
+    uint64_t alone[GROUNDS];       /* the ground was the only one */
     uint64_t wounded[IMAGE_BYTES]; /* the byte was the only one, and all was lent */
 };
 
@@ -32,7 +33,8 @@ struct damage {
 
 void image_tally_damage(struct image_tally *tally, const struct damage *damage);
 
-/* Prints it; not 0 if something is not reached. */
+/* Prints it; not 0 if something is not reached, if there are fewer damaged
+   images than there are to be, or if one was written back otherwise than read. */
 int image_tally_print(const struct image_tally *tally);
 
 #endif

@@ -130,26 +130,40 @@ static unsigned wound_once_or_twice(struct image_trial *trial, uint8_t *image)
     return IMAGE_BYTES;
 }
 
-static enum refusal restore_damaged(struct image_trial *trial, const struct kept *kept)
+/* The copy of the image is damaged and restored. */
+static enum refusal restore_damaged(struct image_trial *trial, struct kept *copy)
 {
-    struct buffer copy = kept->buffer;
-    unsigned position = wound_once_or_twice(trial, copy.bytes + kept->place);
+    unsigned position = wound_once_or_twice(trial, copy->buffer.bytes + copy->place);
     unsigned way = pick(trial, 24);
-    struct lending lending = damage_lending(way, pick_spot(&trial->picker), kept->place);
-    enum refusal refusal = image_restore(&trial->other, copy.bytes, lending.length, lending.place);
+    struct lending lending = damage_lending(way, pick_spot(&trial->picker), copy->place);
+    const uint8_t *bytes = copy->buffer.bytes;
+    enum refusal refusal = image_restore(&trial->other, bytes, lending.length, lending.place);
     if (trial->tally != NULL)
-        image_tally_damage(trial->tally, &(struct damage){copy.bytes, lending.length, lending.place,
+        image_tally_damage(trial->tally, &(struct damage){bytes, lending.length, lending.place,
                                                           position, refusal});
     return refusal;
 }
 
+/* S81: an image that is read is written back as it was, damaged or not. */
+static void compare_back(struct image_trial *trial, const struct kept *read, const struct kept *back)
+{
+    bool same = memcmp(read->buffer.bytes, back->buffer.bytes, BUFFER_BYTES) == 0;
+    if (trial->tally != NULL && same)
+        trial->tally->written_back += 1;
+}
+
 static void damage(struct image_trial *trial, const struct kept *kept, unsigned number)
 {
-    enum refusal refusal = restore_damaged(trial, kept);
+    struct kept copy = *kept;
+    enum refusal refusal = restore_damaged(trial, &copy);
+    bool is_read = refusal == REFUSAL_NONE;
     add(trial, refusal);
-    if (refusal == REFUSAL_NONE || number % KEPT_EACH == 0)
-        keep(trial, &trial->other, kept->place);
-    if (refusal == REFUSAL_NONE)
+    if (is_read || number % KEPT_EACH == 0) {
+        struct kept back = keep(trial, &trial->other, kept->place);
+        if (is_read)
+            compare_back(trial, &copy, &back);
+    }
+    if (is_read)
         ahead(trial, &trial->other, EVENTS_AFTER_DAMAGE);
 }
 
