@@ -9,6 +9,16 @@
 #define GROUND_WORDS(name, words) words,
 static const char *const ground_words[] = {GROUND_ITEMS(GROUND_WORDS)};
 
+void image_tally_stop(struct image_tally *tally, const uint8_t image[IMAGE_BYTES])
+{
+    tally->stops += 1;
+    for (unsigned i = 0; i < IMAGE_BYTES; i += 1) {
+        unsigned field = i < IMAGE_AT_SEATS ? i : IMAGE_AT_SEATS + (i - IMAGE_AT_SEATS) % IMAGE_SEAT_BYTES;
+        if (image[i] != 0)
+            tally->held[field] += 1;
+    }
+}
+
 static void tally_grounds(struct image_tally *tally, const uint8_t *image)
 {
     uint64_t grounds = image_grounds(image);
@@ -56,18 +66,20 @@ static int print_item(uint64_t number, const char *before, const char *words)
     return print_some(number, 1, before, words);
 }
 
-static uint64_t least_wounded(const struct image_tally *tally)
+static uint64_t least_of(const uint64_t *numbers, size_t count)
 {
-    uint64_t least = tally->wounded[0];
-    for (unsigned i = 1; i < IMAGE_BYTES; i += 1)
-        if (tally->wounded[i] < least)
-            least = tally->wounded[i];
+    uint64_t least = numbers[0];
+    for (size_t i = 1; i < count; i += 1)
+        if (numbers[i] < least)
+            least = numbers[i];
     return least;
 }
 
 int image_tally_print(const struct image_tally *tally)
 {
+    uint64_t held = least_of(tally->held + IMAGE_HEADER_BYTES, IMAGE_FIELD_BYTES - IMAGE_HEADER_BYTES);
     int result = print_item(tally->stops, "stops with a saved bench", "")
+                 | print_item(held, "saved benches ", "with something in the field that is most often 0")
                  | print_some(tally->damages, DAMAGES_LEAST, "damaged images", "")
                  | print_item(tally->read, "damaged images ", "read")
                  | print_some(tally->written_back, tally->read, "damaged images ", "written back as read")
@@ -78,5 +90,6 @@ int image_tally_print(const struct image_tally *tally)
                  | print_item(tally->no_bench, "refusal 15", "");
     for (unsigned i = 0; i < GROUNDS; i += 1)
         result |= print_item(tally->alone[i], "refusal 15, alone to blame: ", ground_words[i]);
-    return result | print_item(least_wounded(tally), "wounds ", "of the byte that has the fewest of its own");
+    return result | print_item(least_of(tally->wounded, IMAGE_BYTES), "wounds ",
+                               "of the byte that has the fewest of its own");
 }

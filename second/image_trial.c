@@ -176,6 +176,8 @@ static void stop(struct image_trial *trial)
     save(trial, &trial->bench, no_room(way, spot, place));
 
     struct kept kept = keep(trial, &trial->bench, place);
+    if (trial->tally != NULL)
+        image_tally_stop(trial->tally, kept.buffer.bytes + place);
     ahead(trial, &trial->bench, 1U + pick(trial, EVENTS_ON_MOST));
     if (trial->stops % 2 == 1)
         trial->bench = trial->other;
@@ -185,8 +187,6 @@ static void stop(struct image_trial *trial)
     for (unsigned i = 0; i < DAMAGES; i += 1)
         damage(trial, &kept, i);
     trial->stops += 1;
-    if (trial->tally != NULL)
-        trial->tally->stops += 1;
 }
 
 uint64_t image_trial_digest(struct trial asked, struct image_tally *tally)
