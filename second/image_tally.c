@@ -9,14 +9,20 @@
 #define GROUND_WORDS(name, words) words,
 static const char *const ground_words[] = {GROUND_ITEMS(GROUND_WORDS)};
 
+/* The same field of every seat is one. */
+static unsigned field_of(unsigned at)
+{
+    if (at < IMAGE_AT_SEATS)
+        return at;
+    return IMAGE_AT_SEATS + (at - IMAGE_AT_SEATS) % IMAGE_SEAT_BYTES;
+}
+
 void image_tally_stop(struct image_tally *tally, const uint8_t image[IMAGE_BYTES])
 {
     tally->stops += 1;
-    for (unsigned i = 0; i < IMAGE_BYTES; i += 1) {
-        unsigned field = i < IMAGE_AT_SEATS ? i : IMAGE_AT_SEATS + (i - IMAGE_AT_SEATS) % IMAGE_SEAT_BYTES;
+    for (unsigned i = 0; i < IMAGE_BYTES; i += 1)
         if (image[i] != 0)
-            tally->held[field] += 1;
-    }
+            tally->held[field_of(i)] += 1;
 }
 
 static void tally_grounds(struct image_tally *tally, const uint8_t *image)
@@ -27,11 +33,14 @@ static void tally_grounds(struct image_tally *tally, const uint8_t *image)
             tally->alone[i] += 1;
 }
 
+static bool has_bytes(const struct damage *damage, size_t bytes)
+{
+    return damage->place <= damage->length && damage->length - damage->place >= bytes;
+}
+
 static void tally_refusal_12(struct image_tally *tally, const struct damage *damage)
 {
-    bool has_header = damage->place <= damage->length
-                      && damage->length - damage->place >= IMAGE_HEADER_BYTES;
-    if (has_header)
+    if (has_bytes(damage, IMAGE_HEADER_BYTES))
         tally->too_short_for_version += 1;
     else
         tally->too_short_for_header += 1;
@@ -39,9 +48,8 @@ static void tally_refusal_12(struct image_tally *tally, const struct damage *dam
 
 void image_tally_damage(struct image_tally *tally, const struct damage *damage)
 {
-    bool all_lent = damage->place <= damage->length && damage->length - damage->place >= IMAGE_BYTES;
     tally->damages += 1;
-    if (all_lent && damage->position < IMAGE_BYTES)
+    if (has_bytes(damage, IMAGE_BYTES) && damage->position < IMAGE_BYTES)
         tally->wounded[damage->position] += 1;
     switch (damage->refusal) {
     case REFUSAL_NONE: tally->read += 1; break;
@@ -77,17 +85,19 @@ static uint64_t least_of(const uint64_t *numbers, size_t count)
 
 int image_tally_print(const struct image_tally *tally)
 {
-    uint64_t held = least_of(tally->held + IMAGE_HEADER_BYTES, IMAGE_FIELD_BYTES - IMAGE_HEADER_BYTES);
-    int result = print_item(tally->stops, "stops with a saved bench", "")
-                 | print_item(held, "saved benches ", "with something in the field that is most often 0")
-                 | print_some(tally->damages, DAMAGES_LEAST, "damaged images", "")
-                 | print_item(tally->read, "damaged images ", "read")
-                 | print_some(tally->written_back, tally->read, "damaged images ", "written back as read")
-                 | print_item(tally->too_short_for_header, "refusal 12, ", "below 5 bytes")
-                 | print_item(tally->too_short_for_version, "refusal 12, ", "shorter than its version")
-                 | print_item(tally->wrong_mark, "refusal 13", "")
-                 | print_item(tally->unknown_version, "refusal 14", "")
-                 | print_item(tally->no_bench, "refusal 15", "");
+    const uint64_t *held = tally->held + IMAGE_HEADER_BYTES;
+    uint64_t least_held = least_of(held, IMAGE_FIELD_BYTES - IMAGE_HEADER_BYTES);
+    int result = 0;
+    result |= print_item(tally->stops, "stops with a saved bench", "");
+    result |= print_item(least_held, "saved benches ", "with something in the field most often 0");
+    result |= print_some(tally->damages, DAMAGES_LEAST, "damaged images", "");
+    result |= print_item(tally->read, "damaged images ", "read");
+    result |= print_some(tally->written_back, tally->read, "damaged images ", "written back as read");
+    result |= print_item(tally->too_short_for_header, "refusal 12, ", "below 5 bytes");
+    result |= print_item(tally->too_short_for_version, "refusal 12, ", "shorter than its version");
+    result |= print_item(tally->wrong_mark, "refusal 13", "");
+    result |= print_item(tally->unknown_version, "refusal 14", "");
+    result |= print_item(tally->no_bench, "refusal 15", "");
     for (unsigned i = 0; i < GROUNDS; i += 1)
         result |= print_item(tally->alone[i], "refusal 15, alone to blame: ", ground_words[i]);
     return result | print_item(least_of(tally->wounded, IMAGE_BYTES), "wounds ",

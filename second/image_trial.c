@@ -75,7 +75,8 @@ static void add_buffer(struct image_trial *trial, const struct buffer *buffer)
     }
 }
 
-static struct buffer save(struct image_trial *trial, const struct bench *bench, struct lending lending)
+static struct buffer save(struct image_trial *trial, const struct bench *bench,
+                          struct lending lending)
 {
     struct buffer buffer;
     memset(buffer.bytes, BUFFER_FILL, BUFFER_BYTES);
@@ -145,7 +146,8 @@ static enum refusal restore_damaged(struct image_trial *trial, struct kept *copy
 }
 
 /* S81: an image that is read is written back as it was, damaged or not. */
-static void compare_back(struct image_trial *trial, const struct kept *read, const struct kept *back)
+static void compare_back(struct image_trial *trial, const struct kept *read,
+                         const struct kept *back)
 {
     bool same = memcmp(read->buffer.bytes, back->buffer.bytes, BUFFER_BYTES) == 0;
     if (trial->tally != NULL && same)

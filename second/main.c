@@ -81,9 +81,10 @@ static bool parse_trial(int count, char **words, int most, struct trial *trial)
 static int run_trials(int count, char **words)
 {
     struct trial trial;
-    if (count > 0 && strcmp(words[0], "images") == 0)
-        return parse_trial(count - 1, words + 1, 4, &trial) ? trials_run_one_of_images(trial) : RESULT_USAGE;
-    return parse_trial(count, words, 4, &trial) ? trials_run_one(trial) : RESULT_USAGE;
+    int images = count > 0 && strcmp(words[0], "images") == 0 ? 1 : 0;
+    if (!parse_trial(count - images, words + images, 4, &trial))
+        return RESULT_USAGE;
+    return images == 1 ? trials_run_one_of_images(trial) : trials_run_one(trial);
 }
 
 static int run_generate(int count, char **words)

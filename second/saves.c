@@ -30,15 +30,16 @@ bool saves_parse(int count, char **words, struct saves *saves)
 {
     *saves = (struct saves){.count = count, .words = words};
     int at = 0;
-    while (at < count)
-        if (equal(words[at], WORD_RESTORE) && count - at >= RESTORE_WORDS && saves->restore == NULL) {
-            saves->restore = words[at + 1];
-            at += RESTORE_WORDS;
-        } else if (equal(words[at], WORD_SAVE) && count - at >= SAVE_WORDS && is_moment(words[at + 1])) {
-            at += SAVE_WORDS;
-        } else {
+    while (at < count) {
+        int left = count - at;
+        bool restores = equal(words[at], WORD_RESTORE) && left >= RESTORE_WORDS;
+        bool keeps = equal(words[at], WORD_SAVE) && left >= SAVE_WORDS && is_moment(words[at + 1]);
+        if ((!restores && !keeps) || (restores && saves->restore != NULL))
             return false;
-        }
+        if (restores)
+            saves->restore = words[at + 1];
+        at += restores ? RESTORE_WORDS : SAVE_WORDS;
+    }
     return true;
 }
 
@@ -118,5 +119,6 @@ int saves_at_end(const struct saves *saves, const struct bench *bench)
 
 int saves_missed(const struct saves *saves, uint64_t records)
 {
-    return go_round(saves, &(struct round){.meant = is_missed, .take = tell_missed, .number = records});
+    struct round round = {.meant = is_missed, .take = tell_missed, .number = records};
+    return go_round(saves, &round);
 }
