@@ -92,7 +92,8 @@ int image_tally_print(const struct image_tally *tally)
     result |= print_item(least_held, "saved benches ", "with something in the field most often 0");
     result |= print_some(tally->damages, DAMAGES_LEAST, "damaged images", "");
     result |= print_item(tally->read, "damaged images ", "read");
-    result |= print_some(tally->written_back, tally->read, "damaged images ", "written back as read");
+    result |= print_some(tally->written_back, tally->read, "damaged images ",
+                         "written back as read");
     result |= print_item(tally->too_short_for_header, "refusal 12, ", "below 5 bytes");
     result |= print_item(tally->too_short_for_version, "refusal 12, ", "shorter than its version");
     result |= print_item(tally->wrong_mark, "refusal 13", "");
