@@ -2,3 +2,4 @@ pub mod Numbering
 pub mod Outside
 pub mod Returning
 pub mod Statements
+pub mod Slips
