@@ -72,6 +72,8 @@ static bool parse_trial(int count, char **words, int most, struct trial *trial)
 static int run_trials(int count, char **words)
 {
     struct trial trial;
+    if (count > 0 && strcmp(words[0], "images") == 0)
+        return parse_trial(count - 1, words + 1, 4, &trial) ? trials_run_one_of_images(trial) : RESULT_USAGE;
     return parse_trial(count, words, 4, &trial) ? trials_run_one(trial) : RESULT_USAGE;
 }
 
@@ -101,7 +103,7 @@ static const struct command commands[] = {
     {"show", " [START]", NULL, run_show},
     {"rates", "", rates_run, NULL},
     {"spoons", "", spoons_run, NULL},
-    {"trials", " [SEED COUNT [SET [START]]]", trials_run_all, run_trials},
+    {"trials", " [[images] SEED COUNT [SET [START]]]", trials_run_all, run_trials},
     {"generate", " SEED COUNT [SET]", NULL, run_generate},
     {"coverage", "", coverage_run, NULL},
     {"settings", " CLOCK", NULL, run_settings},

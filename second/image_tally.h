@@ -1,0 +1,38 @@
+#ifndef IMAGE_TALLY_H
+#define IMAGE_TALLY_H
+
+#include <stdint.h>
+
+#include "image.h"
+#include "image_grounds.h"
+
+/* What the trials of saved benches reach. */
+struct image_tally {
+    uint64_t stops;
+    uint64_t damages;
+    uint64_t read;
+    uint64_t too_short_for_header;
+    uint64_t too_short_for_version;
+    uint64_t wrong_mark;
+    uint64_t unknown_version;
+    uint64_t no_bench;
+    uint64_t alone[GROUNDS];      /* the ground was the only one */
+    uint64_t wounded[IMAGE_BYTES]; /* the byte was the only one, and all was lent */
+};
+
+/* A damaged image as it was lent, and what came of it. The position is that of
+   its only wound; IMAGE_BYTES if there were two. */
+struct damage {
+    const uint8_t *lent;
+    size_t length;
+    uint64_t place;
+    unsigned position;
+    enum refusal refusal;
+};
+
+void image_tally_damage(struct image_tally *tally, const struct damage *damage);
+
+/* Prints it; not 0 if something is not reached. */
+int image_tally_print(const struct image_tally *tally);
+
+#endif
