@@ -1,4 +1,4 @@
-// The streams that are run each time.
+// The streams that are run each time, and the trials of saved benches.
 
 pub(crate) const STREAMS: usize = 16;
 
@@ -20,4 +20,18 @@ pub(crate) const LIST: [[u64; 4]; STREAMS] = [
     [14, 200000, 0, 0],
     [15, 200000, 0, 0],
     [4294967295, 200000, 0, 0],
+];
+
+pub(crate) const IMAGE_TRIALS: usize = 8;
+
+// "Eight trials: seed, count, set, start."
+pub(crate) const IMAGE_LIST: [[u64; 4]; IMAGE_TRIALS] = [
+    [101, 20000, 0, 0],
+    [102, 20000, 0, 0],
+    [103, 20000, 0, 0],
+    [104, 20000, 0, 0],
+    [105, 20000, 0, 0],
+    [106, 20000, 0, 0],
+    [107, 20000, 0, 0],
+    [108, 20000, 0, 0],
 ];
