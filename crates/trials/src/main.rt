@@ -76,16 +76,9 @@ fn run(images: bool, seed: u64, count: u64, set: u64, start: u64) {
 }
 
 fn run_list() {
-    for i in 0..list::STREAMS {
+    for i in 0..list::TRIALS {
         let row = list::LIST[i];
-        run(false, row[0], row[1], row[2], row[3]);
-    }
-}
-
-fn run_image_list() {
-    for i in 0..list::IMAGE_TRIALS {
-        let row = list::IMAGE_LIST[i];
-        run(true, row[0], row[1], row[2], row[3]);
+        run(row[0] == list::IMAGES, row[1], row[2], row[3], row[4]);
     }
 }
 
@@ -114,7 +107,6 @@ fn main() {
     let words = os::arg_count();
     if words == 1 {
         run_list();
-        run_image_list();
     } else if words::asks_for_images() {
         run_asked(true, 2, words);
     } else {
