@@ -108,7 +108,8 @@ static uint64_t latch_grounds(const uint8_t *image)
     struct bench bench = image_fields(image);
     bool on_low = (bench.controller.latches & ~bench.controller.lines) != 0;
     bool level = block[CONTROLLER_AT_LEVEL] != 0;
-    return set_if(on_low && !level, GROUND_LATCH_EDGE) | set_if(on_low && level, GROUND_LATCH_LEVEL);
+    return set_if(on_low && !level, GROUND_LATCH_EDGE)
+           | set_if(on_low && level, GROUND_LATCH_LEVEL);
 }
 
 uint64_t image_grounds(const uint8_t image[IMAGE_BYTES])

@@ -20,6 +20,9 @@
 /* A place past every end, and in the buffer once cut to 16 bits. */
 #define FAR 65536U
 
+/* Places with 8 bytes behind them, and fewer, and none. */
+#define NEAR_END (BUFFER_BYTES - 8U)
+
 const struct trial image_trials[IMAGE_TRIALS] = {
     {101, 20000, 0, 0}, {102, 20000, 0, 0}, {103, 20000, 0, 0}, {104, 20000, 0, 0},
     {105, 20000, 0, 0}, {106, 20000, 0, 0}, {107, 20000, 0, 0}, {108, 20000, 0, 0},
@@ -72,7 +75,8 @@ static void add_buffer(struct image_trial *trial, const struct buffer *buffer)
     }
 }
 
-static struct buffer save(struct image_trial *trial, const struct bench *bench, struct lending lending)
+static struct buffer save(struct image_trial *trial, const struct bench *bench,
+                          struct lending lending)
 {
     struct buffer buffer;
     memset(buffer.bytes, BUFFER_FILL, BUFFER_BYTES);
@@ -111,6 +115,7 @@ static struct lending damage_lending(unsigned way, unsigned spot, unsigned place
     case 0: return (struct lending){place + spot, place};
     case 1: return (struct lending){BUFFER_BYTES, place + spot};
     case 2: return (struct lending){BUFFER_BYTES, FAR + spot};
+    case 3: return (struct lending){BUFFER_BYTES, NEAR_END + spot % 16U};
     default: return (struct lending){BUFFER_BYTES, place};
     }
 }
@@ -126,26 +131,41 @@ static unsigned wound_once_or_twice(struct image_trial *trial, uint8_t *image)
     return IMAGE_BYTES;
 }
 
-static enum refusal restore_damaged(struct image_trial *trial, const struct kept *kept)
+/* The copy of the image is damaged and restored. */
+static enum refusal restore_damaged(struct image_trial *trial, struct kept *copy)
 {
-    struct buffer copy = kept->buffer;
-    unsigned position = wound_once_or_twice(trial, copy.bytes + kept->place);
+    unsigned position = wound_once_or_twice(trial, copy->buffer.bytes + copy->place);
     unsigned way = pick(trial, 24);
-    struct lending lending = damage_lending(way, pick_spot(&trial->picker), kept->place);
-    enum refusal refusal = image_restore(&trial->other, copy.bytes, lending.length, lending.place);
+    struct lending lending = damage_lending(way, pick_spot(&trial->picker), copy->place);
+    const uint8_t *bytes = copy->buffer.bytes;
+    enum refusal refusal = image_restore(&trial->other, bytes, lending.length, lending.place);
     if (trial->tally != NULL)
-        image_tally_damage(trial->tally, &(struct damage){copy.bytes, lending.length, lending.place,
+        image_tally_damage(trial->tally, &(struct damage){bytes, lending.length, lending.place,
                                                           position, refusal});
     return refusal;
 }
 
+/* S81: an image that is read is written back as it was, damaged or not. */
+static void compare_back(struct image_trial *trial, const struct kept *read,
+                         const struct kept *back)
+{
+    bool same = memcmp(read->buffer.bytes, back->buffer.bytes, BUFFER_BYTES) == 0;
+    if (trial->tally != NULL && same)
+        trial->tally->written_back += 1;
+}
+
 static void damage(struct image_trial *trial, const struct kept *kept, unsigned number)
 {
-    enum refusal refusal = restore_damaged(trial, kept);
+    struct kept copy = *kept;
+    enum refusal refusal = restore_damaged(trial, &copy);
+    bool is_read = refusal == REFUSAL_NONE;
     add(trial, refusal);
-    if (refusal == REFUSAL_NONE || number % KEPT_EACH == 0)
-        keep(trial, &trial->other, kept->place);
-    if (refusal == REFUSAL_NONE)
+    if (is_read || number % KEPT_EACH == 0) {
+        struct kept back = keep(trial, &trial->other, kept->place);
+        if (is_read)
+            compare_back(trial, &copy, &back);
+    }
+    if (is_read)
         ahead(trial, &trial->other, EVENTS_AFTER_DAMAGE);
 }
 
@@ -158,6 +178,8 @@ static void stop(struct image_trial *trial)
     save(trial, &trial->bench, no_room(way, spot, place));
 
     struct kept kept = keep(trial, &trial->bench, place);
+    if (trial->tally != NULL)
+        image_tally_stop(trial->tally, kept.buffer.bytes + place);
     ahead(trial, &trial->bench, 1U + pick(trial, EVENTS_ON_MOST));
     if (trial->stops % 2 == 1)
         trial->bench = trial->other;
@@ -167,8 +189,6 @@ static void stop(struct image_trial *trial)
     for (unsigned i = 0; i < DAMAGES; i += 1)
         damage(trial, &kept, i);
     trial->stops += 1;
-    if (trial->tally != NULL)
-        trial->tally->stops += 1;
 }
 
 uint64_t image_trial_digest(struct trial asked, struct image_tally *tally)

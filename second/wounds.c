@@ -37,7 +37,9 @@ unsigned wound(struct stream *picker, uint8_t image[IMAGE_BYTES])
     const struct wound_row *row = &wound_rows[stream_draw(picker, WOUND_ROWS)];
     unsigned value = row->low + stream_draw(picker, row->most + 1U);
     if (way >= 5)
-        position = row->place >= IMAGE_AT_SEATS ? row->place + IMAGE_SEAT_BYTES * bit_or_seat : row->place;
+        position = row->place;
+    if (way >= 5 && row->place >= IMAGE_AT_SEATS)
+        position += IMAGE_SEAT_BYTES * bit_or_seat;
     switch (way) {
     case 0:
     case 1: image[position] = (uint8_t)byte; break;

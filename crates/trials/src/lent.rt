@@ -10,8 +10,10 @@ const TOO_FEW: usize = 543;
 
 const PLACES: usize = 57;
 
-// Past the end of every buffer.
+// Past the end of every buffer, and around the end of this one.
 const FAR: usize = 65536;
+
+const NEAR_END: usize = 592;
 
 pub(crate) struct Lent {
     pub length: usize,
@@ -72,6 +74,10 @@ impl Lent {
             2 => Lent {
                 length: ROOM,
                 at: FAR + spot,
+            },
+            3 => Lent {
+                length: ROOM,
+                at: NEAR_END + spot % 16,
             },
             _ => Lent::whole(p),
         }
