@@ -3,6 +3,7 @@ use crate::buffers;
 use crate::damages::Damaged;
 use crate::lent::Lent;
 use crate::lent::ROOM;
+use crate::list;
 use crate::runs::ASKED_LINES;
 use crate::runs::Run;
 use crate::spots;
@@ -12,9 +13,6 @@ use streams::advance;
 use streams::pick;
 
 const BETWEEN_STOPS: u64 = 100;
-
-// The picker's x is "4294967295 - seed" before the first event.
-const LAST_SEED: u32 = 4294967295;
 
 // The stream with its bench, the other bench, and the picker's x.
 struct Trial {
@@ -97,7 +95,7 @@ pub(crate) fn digest(seed: u32, count: u64, set: u8, bench: Bench) -> u32 {
     let mut trial = Trial {
         run: Run::start(seed, set, bench),
         other: bench,
-        x: LAST_SEED - seed,
+        x: list::LAST_SEED - seed,
     };
     for k in 0..count / BETWEEN_STOPS {
         trial = trial.on(&rows, BETWEEN_STOPS).stop(&rows, k % 2 == 1);

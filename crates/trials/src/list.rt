@@ -1,5 +1,8 @@
 // The trials that are run each time: the streams, and behind them the saved benches.
 
+// x is "0 to 4294967295", and "4294967295 - seed" is where the picks of saved benches begin.
+pub(crate) const LAST_SEED: u32 = 4294967295;
+
 pub(crate) const STREAM: u64 = 0;
 
 pub(crate) const IMAGES: u64 = 1;

@@ -17,8 +17,6 @@ mod spots;
 mod words;
 mod wounds;
 
-const LAST_SEED: u64 = 4294967295;
-
 fn print_digest(digest: u32) {
     let end = [
         b' ',
@@ -59,7 +57,7 @@ fn digest(images: bool, seed: u32, count: u64, set: u8, bench: Bench) -> u32 {
 
 // Each start is an arm; 0 is the bench "as at power-up".
 fn run(images: bool, seed: u64, count: u64, set: u64, start: u64) {
-    if seed > LAST_SEED {
+    if seed > list::LAST_SEED as u64 {
         return usage();
     }
     if set >= SETS as u64 {
