@@ -9,7 +9,6 @@ from pathlib import Path
 
 TOP = Path(__file__).resolve().parent.parent
 BENCH = TOP / "bench"
-LESSONS = sorted((TOP / "lessons").glob("*.hex"))
 LIMIT = 60
 
 # A record, and the line that it prints where it has no fault.
@@ -48,11 +47,12 @@ class Player(unittest.TestCase):
             for played in self.played:
                 played.result()
 
-    def play(self, text, status, listing, said):
+    def play(self, text, status, listing, said, options=()):
         """What it says is made from the name that the text is given."""
         name = next(self.names)
         name.write_bytes(text)
-        self.played.append(self.pool.submit(lambda: self.assertEqual(run(name), (status, listing, said(name).encode()), text)))
+        expected = status, listing, said(name).encode()
+        self.played.append(self.pool.submit(lambda: self.assertEqual(run(*options, name), expected, text)))
 
     def refused(self, text, line, column, words):
         self.play(text, 1, b"", lambda name: f"{name}:{line}:{column}: {words}; nothing was run\n")
@@ -60,5 +60,5 @@ class Player(unittest.TestCase):
     def beyond(self, text, limit):
         self.play(text, 1, b"", lambda name: f"{name}: a lesson has at most {limit}; nothing was run\n")
 
-    def runs(self, text, listing):
-        self.play(text, 0, listing, lambda name: "")
+    def runs(self, text, listing, options=()):
+        self.play(text, 0, listing, lambda name: "", options)

@@ -6,13 +6,16 @@ import subprocess
 from room import TOOLS, Room
 
 
-# Writes its line for a stream, another for each set and start; from event AT on it counts one more. What it shows names them too.
+# Writes its line for a stream, another for each set and start and for saved benches; from event AT on it counts one more. What it
+# shows names set and start too.
 PROGRAM = """\
 #!/bin/sh
 case $1 in
 generate) i=0; while [ $i -lt $3 ]; do echo record $i ${4:+of set $4}; i=$((i + 1)); done ;;
 show) sed "s/\$/${2:+from start $2}/" ;;
-*) [ "$1" = trials ] && shift; echo $1 $2 $(($1 * 1000 + $2 + ($2 > AT) + ${3:-0} * 100000 + ${4:-0} * 1000000)) ;;
+*) [ "$1" = trials ] && shift
+    saved=0; [ "$1" = images ] && { saved=1; shift; }
+    echo $1 $2 $(($1 * 1000 + $2 + ($2 > AT) + ${3:-0} * 100000 + ${4:-0} * 1000000 + saved * 10000000)) ;;
 esac
 """
 
@@ -61,6 +64,20 @@ class Trials(Room):
         self.script("target/bin/trials", PROGRAM.replace("AT", "1000000").replace("${4:-0}", "0"))
         self.assertEqual(self.run_it("3", "100", "2", "5")[0], 1)
 
+    def test_saved_benches_reach_both_programs(self):
+        status, said = self.run_it("images", "3-4", "250", "2", "5")
+        self.assertEqual((status, said), (0, ["3 250 15203250", "4 250 15204250", "500 events and 4 stops, no difference"]))
+        self.script("target/bin/trials", PROGRAM.replace("AT", "1000000").replace("saved=1", "saved=0"))
+        self.assertEqual(self.run_it("images", "3", "250")[0], 1)
+
+    def test_stop_behind_the_first_difference_is_told(self):
+        for at, told in ((99, True), (150, False), (199, True)):
+            self.programs(at, 1000000)
+            status, said = self.run_it("images", "3", "300")
+            self.assertEqual((status, said[-1].startswith("There is a stop behind it")), (1, told), at)
+            self.assertTrue(said[0].startswith(f"The digests differ from record {at} on"))
+        self.assertFalse(self.run_it("3", "300")[1][-1].startswith("There is a stop"))
+
     def test_faults_are_no_agreement(self):
         self.assertEqual(self.run_it("3", "100", FAULT="1")[0], 2)
         self.script("target/bin/trials", "#!/bin/sh\nexit 0\n")
@@ -75,5 +92,5 @@ class Trials(Room):
 
     def test_words_that_are_not_understood(self):
         for words in ((), ("3",), ("5-3", "100"), ("4294967296", "1"), ("3", "-1"), ("x", "1"), ("3", "1", "x"),
-                      ("3", "1", "0", "0", "0")):
+                      ("3", "1", "0", "0", "0"), ("images",), ("images", "3"), ("3", "1", "images"), ("image", "3", "1")):
             self.assertEqual(self.run_it(*words)[0], 2)

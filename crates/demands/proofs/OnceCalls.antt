@@ -232,6 +232,8 @@ pub streams-once : (M : Type 1) → StreamsOnce M
 streams-once M =
     record {
       streams·Stream·start = value _ refl (λ κ a v w. refl);
+      streams·advance = value _ refl (λ κ a v w. refl);
+      streams·pick = told _ refl (λ κ a r s v w p q. (p .0 ∙ sym (q .0), refl));
       streams·add = value _ refl (λ κ a v w. refl);
       streams·outcome-mark = value _ refl (λ κ a v w. refl);
       streams·place-mark = value _ refl (λ κ a v w. refl);

@@ -216,10 +216,12 @@ pub record ImageOnce (M : Type 1) : Type 2 where
 pub record LessonOnce (M : Type 1) : Type 2 where
   pub lesson·read : Once M lesson.read.ended lesson.read.clauses lesson.read.spec
 
--- ---- streams: the trials' digest
+-- ---- streams: the trials' draws and digest
 
 pub record StreamsOnce (M : Type 1) : Type 2 where
   pub streams·Stream·start : Once M streams.Stream.start.ended streams.Stream.start.clauses streams.Stream.start.spec
+  pub streams·advance : Once M streams.advance.ended streams.advance.clauses streams.advance.spec
+  pub streams·pick : Once M streams.pick.ended streams.pick.clauses streams.pick.spec
   pub streams·add : Once M streams.add.ended streams.add.clauses streams.add.spec
   pub streams·outcome-mark : Once M streams.outcome_mark.ended streams.outcome_mark.clauses streams.outcome_mark.spec
   pub streams·place-mark : Once M streams.place_mark.ended streams.place_mark.clauses streams.place_mark.spec

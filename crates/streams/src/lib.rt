@@ -1,9 +1,9 @@
 // The streams of events that second/TRIALS.md describes, written from that page alone, and the digest of what a bench answers
 // to them. A stream does not look at the bench.
+mod asked;
 mod columns;
 mod digest;
 mod draws;
-mod records;
 mod rows;
 mod scripts;
 mod sets;
@@ -12,6 +12,8 @@ mod steps;
 pub use digest::add;
 pub use digest::outcome_mark;
 pub use digest::place_mark;
+pub use draws::advance;
+pub use draws::pick;
 pub use rows::script_rows;
 pub use sets::SETS;
 ghost use mathlib.Core.Path.{_≡_};

@@ -2,10 +2,10 @@
 use crate::Made;
 use crate::Record;
 use crate::Stream;
+use crate::asked;
 use crate::columns;
 use crate::draws::advance;
 use crate::draws::pick;
-use crate::records;
 use crate::scripts;
 use crate::sets;
 use std::num::wrapping_add_u8;
@@ -56,7 +56,7 @@ impl Stream {
         let f = advance(self.x);
         let g = advance(f);
         let h = advance(g);
-        let record = records::asked(
+        let record = asked::asked(
             row,
             self.seat,
             pick(f, 255),

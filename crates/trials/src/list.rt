@@ -1,23 +1,38 @@
-// The streams that are run each time.
+// The trials that are run each time: the streams, and behind them the saved benches.
 
-pub(crate) const STREAMS: usize = 16;
+// x is "0 to 4294967295", and "4294967295 - seed" is where the picks of saved benches begin.
+pub(crate) const LAST_SEED: u32 = 4294967295;
 
-// "Sixteen streams: seed, count, set, start." The first four are short, so that a fault in every event shows at once.
-pub(crate) const LIST: [[u64; 4]; STREAMS] = [
-    [1, 1000, 0, 0],
-    [2, 1000, 0, 0],
-    [3, 1000, 0, 0],
-    [4, 1000, 0, 0],
-    [5, 200000, 0, 0],
-    [6, 200000, 0, 0],
-    [7, 200000, 0, 0],
-    [8, 200000, 0, 0],
-    [9, 200000, 0, 0],
-    [10, 200000, 0, 0],
-    [11, 200000, 0, 0],
-    [12, 200000, 0, 0],
-    [13, 200000, 0, 0],
-    [14, 200000, 0, 0],
-    [15, 200000, 0, 0],
-    [4294967295, 200000, 0, 0],
+pub(crate) const STREAM: u64 = 0;
+
+pub(crate) const IMAGES: u64 = 1;
+
+pub(crate) const TRIALS: usize = 24;
+
+// Which kind it is, then "seed, count, set, start". The first four are short, so that a fault in every event shows at once.
+pub(crate) const LIST: [[u64; 5]; TRIALS] = [
+    [STREAM, 1, 1000, 0, 0],
+    [STREAM, 2, 1000, 0, 0],
+    [STREAM, 3, 1000, 0, 0],
+    [STREAM, 4, 1000, 0, 0],
+    [STREAM, 5, 200000, 0, 0],
+    [STREAM, 6, 200000, 0, 0],
+    [STREAM, 7, 200000, 0, 0],
+    [STREAM, 8, 200000, 0, 0],
+    [STREAM, 9, 200000, 0, 0],
+    [STREAM, 10, 200000, 0, 0],
+    [STREAM, 11, 200000, 0, 0],
+    [STREAM, 12, 200000, 0, 0],
+    [STREAM, 13, 200000, 0, 0],
+    [STREAM, 14, 200000, 0, 0],
+    [STREAM, 15, 200000, 0, 0],
+    [STREAM, 4294967295, 200000, 0, 0],
+    [IMAGES, 101, 20000, 0, 0],
+    [IMAGES, 102, 20000, 0, 0],
+    [IMAGES, 103, 20000, 0, 0],
+    [IMAGES, 104, 20000, 0, 0],
+    [IMAGES, 105, 20000, 0, 0],
+    [IMAGES, 106, 20000, 0, 0],
+    [IMAGES, 107, 20000, 0, 0],
+    [IMAGES, 108, 20000, 0, 0],
 ];

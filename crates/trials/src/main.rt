@@ -1,17 +1,21 @@
 // Runs streams of events over the proved bench and prints a line for each: seed and count in decimal, the digest in eight hex
-// capitals. With no argument, the list of second/TRIALS.md; with SEED and COUNT, and SET and START where they are not 0, that stream
-// alone.
+// capitals. With no argument, both lists of second/TRIALS.md; with SEED and COUNT, and SET and START where they are not 0, that stream
+// alone; with `images` before them, as a trial of saved benches.
 use bench::Bench;
 use libc::STDERR_FILENO;
 use libc::STDOUT_FILENO;
-use numbers::Number;
 use streams::SETS;
+use words::Number;
 
+mod buffers;
+mod damages;
+mod images;
+mod lent;
 mod list;
-mod numbers;
 mod runs;
-
-const LAST_SEED: u64 = 4294967295;
+mod spots;
+mod words;
+mod wounds;
 
 fn print_digest(digest: u32) {
     let end = [
@@ -32,7 +36,7 @@ fn print_digest(digest: u32) {
 fn usage() {
     io::write_all(
         STDERR_FILENO,
-        b"usage: trials [SEED COUNT [SET [START]]], with SEED below 4294967296, SET and START of second/TRIALS.md\n",
+        b"usage: trials [[images] SEED COUNT [SET [START]]], with SEED below 4294967296, SET and START of second/TRIALS.md\n",
     );
 }
 
@@ -43,9 +47,17 @@ fn print_line(seed: u64, count: u64, digest: u32) {
     print_digest(digest);
 }
 
+// Over the bench that the trial starts from.
+fn digest(images: bool, seed: u32, count: u64, set: u8, bench: Bench) -> u32 {
+    if images {
+        return images::digest(seed, count, set, bench);
+    }
+    runs::digest(seed, count, set, bench)
+}
+
 // Each start is an arm; 0 is the bench "as at power-up".
-fn run(seed: u64, count: u64, set: u64, start: u64) {
-    if seed > LAST_SEED {
+fn run(images: bool, seed: u64, count: u64, set: u64, start: u64) {
+    if seed > list::LAST_SEED as u64 {
         return usage();
     }
     if set >= SETS as u64 {
@@ -55,40 +67,47 @@ fn run(seed: u64, count: u64, set: u64, start: u64) {
         0 => print_line(
             seed,
             count,
-            runs::digest(seed as u32, count, set as u8, Bench::power_up()),
+            digest(images, seed as u32, count, set as u8, Bench::power_up()),
         ),
         _ => usage(),
     }
 }
 
 fn run_list() {
-    for i in 0..list::STREAMS {
+    for i in 0..list::TRIALS {
         let row = list::LIST[i];
-        run(row[0], row[1], row[2], row[3]);
+        run(row[0] == list::IMAGES, row[1], row[2], row[3], row[4]);
     }
 }
 
-fn run_asked(words: usize) {
-    let Number::Whole(seed) = numbers::argument(1, words) else {
+// The numbers stand from this word on, two to four of them.
+fn run_asked(images: bool, first: u8, words: usize) {
+    let at = first as usize;
+    if (words < at + 2) | (words > at + 4) {
+        return usage();
+    }
+    let Number::Whole(seed) = words::argument(at, words) else {
         return usage();
     };
-    let Number::Whole(count) = numbers::argument(2, words) else {
+    let Number::Whole(count) = words::argument(at + 1, words) else {
         return usage();
     };
-    let Number::Whole(set) = numbers::argument(3, words) else {
+    let Number::Whole(set) = words::argument(at + 2, words) else {
         return usage();
     };
-    let Number::Whole(start) = numbers::argument(4, words) else {
+    let Number::Whole(start) = words::argument(at + 3, words) else {
         return usage();
     };
-    run(seed, count, set, start);
+    run(images, seed, count, set, start);
 }
 
 fn main() {
     let words = os::arg_count();
-    match words {
-        1 => run_list(),
-        3 | 4 | 5 => run_asked(words),
-        _ => usage(),
+    if words == 1 {
+        run_list();
+    } else if words::asks_for_images() {
+        run_asked(true, 2, words);
+    } else {
+        run_asked(false, 1, words);
     }
 }

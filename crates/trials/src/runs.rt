@@ -1,4 +1,4 @@
-// A stream over a bench, and the digest of what is seen.
+// Events of a stream over a bench, and the digest of what is seen.
 use base::Answer;
 use bench::Bench;
 use controller::Controller;
@@ -6,46 +6,71 @@ use records::Event;
 use streams::Stream;
 
 // "for line 8 it is refusal 1 and answer FFF": one line more than there are.
-const ASKED_LINES: u8 = 9;
+pub(crate) const ASKED_LINES: u8 = 9;
 
-// What is seen after an event: refusal, answer and output, and "for each line 0 to 8 in order, its place in turn".
-fn add_seen(digest: u32, answer: Answer, controller: Controller) -> u32 {
+// A stream, the bench that its events were given to, and the digest, at some point of a trial.
+pub(crate) struct Run {
+    pub stream: Stream,
+    pub bench: Bench,
+    pub sum: u32,
+}
+
+// What is seen after an event: refusal, answer and output, and "for each line 0 to 8 in order, its place in turn", as far as lines are
+// asked for.
+fn add_seen(digest: u32, answer: Answer, controller: Controller, lines: u8) -> u32 {
     let mut sum = streams::add(digest, streams::outcome_mark(answer, controller.output()));
-    for line in 0..ASKED_LINES {
+    for line in 0..lines {
         sum = streams::add(sum, streams::place_mark(controller.place(line)));
     }
     sum
 }
 
-// The bench is the one that the stream starts from. It stays where it is: an event is given the seat that it names and the controller, and
-// both are stored back; of a master reset, over seats that are all reset.
-pub(crate) fn digest(seed: u32, count: u64, set: u8, mut bench: Bench) -> u32 {
-    let rows = streams::script_rows();
-    let mut stream = Stream::start(seed, set);
-    let mut sum: u32 = 0;
-    for _ in 0..count {
-        let made = stream.next(&rows);
-        stream = made.stream;
-        let record = made.record;
-        let at = bench::chair(record.seat);
-        let seat = bench.seats[at];
-        let touched = records::step_parts(
-            seat,
-            bench.controller,
-            record.kind,
-            record.seat,
-            record.number,
-            record.value,
-        );
-        if record.kind == Event::MASTER_RESET {
-            bench.seats = bench::reset_all(bench.seats);
+impl Run {
+    pub(crate) fn start(seed: u32, set: u8, bench: Bench) -> Run {
+        Run {
+            stream: Stream::start(seed, set),
+            bench,
+            sum: 0,
         }
-        let stood = touched.seat;
-        bench.seats[at] = stood;
-        let moved = touched.controller;
-        bench.controller = moved;
-        let answer = touched.answer;
-        sum = add_seen(sum, answer, moved);
     }
-    sum
+
+    // So many events more. The bench stays where it is: an event is given the seat that it names and the controller, and both are stored
+    // back; of a master reset, over seats that are all reset.
+    pub(crate) fn on(self, rows: &[u64], count: u64, lines: u8) -> Run {
+        let mut stream = self.stream;
+        let mut bench = self.bench;
+        let mut sum = self.sum;
+        for _ in 0..count {
+            let made = stream.next(rows);
+            stream = made.stream;
+            let record = made.record;
+            let at = bench::chair(record.seat);
+            let seat = bench.seats[at];
+            let touched = records::step_parts(
+                seat,
+                bench.controller,
+                record.kind,
+                record.seat,
+                record.number,
+                record.value,
+            );
+            if record.kind == Event::MASTER_RESET {
+                bench.seats = bench::reset_all(bench.seats);
+            }
+            let stood = touched.seat;
+            bench.seats[at] = stood;
+            let moved = touched.controller;
+            bench.controller = moved;
+            let answer = touched.answer;
+            sum = add_seen(sum, answer, moved, lines);
+        }
+        Run { stream, bench, sum }
+    }
+}
+
+// The bench is the one that the stream starts from.
+pub(crate) fn digest(seed: u32, count: u64, set: u8, bench: Bench) -> u32 {
+    let rows = streams::script_rows();
+    let run = Run::start(seed, set, bench).on(&rows, count, ASKED_LINES);
+    run.sum
 }

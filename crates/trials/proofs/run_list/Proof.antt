@@ -7,7 +7,7 @@ abbrev Inv-loop : tie.InvT-loop
 Inv-loop i₀ i = Unit
 
 abbrev μ-loop : tie.MeasureT-loop
-μ-loop i₀ i = 16 - i
+μ-loop i₀ i = 24 - i
 
 loop-holds : tie.Need-loop-holds Inv-loop μ-loop
 loop-holds c = search needs
@@ -29,6 +29,9 @@ array-read-run-3 c = search needs
 
 array-read-run-4 : tie.Need-array-read-run-4 Inv-loop μ-loop
 array-read-run-4 c = search needs
+
+array-read-run-5 : tie.Need-array-read-run-5 Inv-loop μ-loop
+array-read-run-5 c = search needs
 
 run-requires : tie.Need-run-requires Inv-loop μ-loop
 run-requires c κs = search needs
@@ -58,6 +61,7 @@ run-list-spec =
     array-read-run-2
     array-read-run-3
     array-read-run-4
+    array-read-run-5
     run-requires
     add-i
     loop-less

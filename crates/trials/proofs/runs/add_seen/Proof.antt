@@ -4,10 +4,10 @@ use Rattle.trials.proofs.runs.add_seen.Statement.{statement}
 use Rattle.trials.proofs.runs.add_seen.Tie as tie
 
 abbrev Inv-loop : tie.InvT-loop
-Inv-loop digest controller sum₀ line₀ sum line = Unit
+Inv-loop digest controller lines sum₀ line₀ sum line = Unit
 
 abbrev μ-loop : tie.MeasureT-loop
-μ-loop digest controller sum₀ line₀ sum line = 9 - line
+μ-loop digest controller lines sum₀ line₀ sum line = lines - line
 
 output-requires : tie.Need-output-requires Inv-loop μ-loop
 output-requires c κs = search needs

@@ -2,8 +2,8 @@ use Prim.Native.Nat.{ℕ, _*_, _≤_}
 use native.Mathlib.Nat.{mul-le-mul}
 use native.Mathlib.Omega.{arith}
 use borrow.Author.Needs.{needs}
-use Rattle.streams.proofs.records.value_of.Statement.{statement}
-use Rattle.streams.proofs.records.value_of.Tie as tie
+use Rattle.streams.proofs.asked.value_of.Statement.{statement}
+use Rattle.streams.proofs.asked.value_of.Tie as tie
 
 -- the product of two bytes
 product : (a b : ℕ) → a ≤ 255 → b ≤ 255 → a * b ≤ 255 * 255

@@ -1,4 +1,4 @@
-// The numbers that the program is given.
+// The words that the program is given, and the numbers among them.
 
 pub(crate) enum Number {
     Whole(u64),
@@ -27,6 +27,13 @@ fn decimal(text: &[u8]) -> Number {
         n = n * 10 + (digit - b'0') as u64;
     }
     Number::Whole(n)
+}
+
+// Whether the first word is `images`.
+pub(crate) fn asks_for_images() -> bool {
+    let mut text = [0u8; 20];
+    let n = os::arg(1, &mut text);
+    check::same(&text[..n], b"images")
 }
 
 // One that is left out is 0. The words are those of the command line, the program's name among them.

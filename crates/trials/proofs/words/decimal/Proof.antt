@@ -1,8 +1,8 @@
 use Prim.Native.Nat.{_≤_, _-_}
 use borrow.Author.Needs.{needs}
 use lib.ListN.{length}
-use Rattle.trials.proofs.numbers.decimal.Statement.{statement}
-use Rattle.trials.proofs.numbers.decimal.Tie as tie
+use Rattle.trials.proofs.words.decimal.Statement.{statement}
+use Rattle.trials.proofs.words.decimal.Tie as tie
 
 abbrev Inv-loop : tie.InvT-loop
 Inv-loop text n₀ i₀ i-end n i = i-end ≤ length text

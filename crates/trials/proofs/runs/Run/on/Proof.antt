@@ -1,27 +1,18 @@
 use Prim.Native.Nat.{_-_, _<_}
 use native.Mathlib.Omega.{arith}
 use borrow.Author.Needs.{needs}
-use Rattle.trials.proofs.runs.digest.Statement.{statement}
-use Rattle.trials.proofs.runs.digest.Tie as tie
+use Rattle.trials.proofs.runs.Run.on.Statement.{statement}
+use Rattle.trials.proofs.runs.Run.on.Tie as tie
 
 -- the count is a number of 64 bits, so that the one after a number below it is
 abbrev Inv-loop : tie.InvT-loop
-Inv-loop seed count set bench₀ rows stream₀ sum₀ counter₀ bench stream sum counter = count < 18446744073709551616
+Inv-loop rows count lines stream₀ bench₀ sum₀ counter₀ stream bench sum counter = count < 18446744073709551616
 
 abbrev μ-loop : tie.MeasureT-loop
-μ-loop seed count set bench₀ rows stream₀ sum₀ counter₀ bench stream sum counter = count - counter
-
-script-rows-requires : tie.Need-script-rows-requires Inv-loop μ-loop
-script-rows-requires c κs = search needs
-
-start-requires : tie.Need-start-requires Inv-loop μ-loop
-start-requires c κs = search needs
+μ-loop rows count lines stream₀ bench₀ sum₀ counter₀ stream bench sum counter = count - counter
 
 loop-holds : tie.Need-loop-holds Inv-loop μ-loop
 loop-holds c = search needs
-
-slice-aggregate-next : tie.Need-slice-aggregate-next Inv-loop μ-loop
-slice-aggregate-next c = search needs
 
 next-requires : tie.Need-next-requires Inv-loop μ-loop
 next-requires c κs = search needs
@@ -62,16 +53,13 @@ loop-again c = search needs
 returns : tie.Need-returns Inv-loop μ-loop
 returns c = search needs
 
-pub digest-spec : {M : Type 1} → statement M
-digest-spec =
+pub on-spec : {M : Type 1} → statement M
+on-spec =
     tie.close
     (tie.spec
     Inv-loop
     μ-loop
-    script-rows-requires
-    start-requires
     loop-holds
-    slice-aggregate-next
     next-requires
     chair-requires
     mul-seat
