@@ -1,0 +1,4 @@
+pub mod Moments
+pub mod Words
+pub mod Saves
+pub mod SameLaws
