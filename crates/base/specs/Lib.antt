@@ -8,5 +8,6 @@ pub mod PickLaws
 pub mod EveryLaws
 pub mod BitLaws
 pub mod ListLaws
+pub mod StoreLaws
 pub mod RefusalLaws
 pub mod AnswerLaws

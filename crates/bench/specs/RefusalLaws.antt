@@ -7,8 +7,8 @@ use lib.Dec.{eqb}
 use lib.ListN.{take, drop}
 use Rattle.base.specs.Pick.{pick}
 use Rattle.base.specs.PickLaws.{pick-true, pick-false, never}
-use Rattle.base.specs.Refusals.{refusalOrder, firstOf, refusalBy}
-use Rattle.base.specs.RefusalLaws.{follows, follows-parts, firstHeld, in-order, held-behind}
+use Rattle.base.specs.Refusals.{refusalOrder, firstOf, refusalBy, firstHeld}
+use Rattle.base.specs.RefusalLaws.{follows, follows-parts, in-order, held-behind}
 use Rattle.registers.specs.declared.SeatEvent.the-variants.{Read, Write, Arrival, Levels, Time}
 use Rattle.registers.specs.Refusals as registers
 use Rattle.controller.specs.Refusals as controller

@@ -22,7 +22,7 @@ use Rattle.bench.specs.declared.Bench.{Bench}
 use Rattle.text.specs.Front.{front, lineAfter, rest}
 use Rattle.text.specs.Line.{longest, Put, Puts}
 use Rattle.text.specs.LineLaws.{line-some, puts-after}
-use Rattle.text.specs.StoreLaws.{sets-append}
+use Rattle.base.specs.StoreLaws.{sets-append}
 use Rattle.listing.specs.Run.{lineOf, listing, answered, fits, numberEnd, recordsOf, Runs}
 use Rattle.listing.specs.RunLaws.{listing-parts, record-count, record-inside}
 use Rattle.listing.specs.Places.{roomAt, recordCount}

@@ -7,8 +7,8 @@ use native.Mathlib.Omega.{arith}
 use lib.ListN.{take, drop}
 use borrow.Author.Tests.{lt-ltb, le-ltb, le-leb, lt-leb}
 use Rattle.base.specs.Pick.{pick}
-use Rattle.base.specs.Refusals.{Ground, refusalOrder, firstOf, refusalBy}
-use Rattle.base.specs.RefusalLaws.{follows, follows-parts, firstHeld, in-order}
+use Rattle.base.specs.Refusals.{Ground, refusalOrder, firstOf, refusalBy, firstHeld}
+use Rattle.base.specs.RefusalLaws.{follows, follows-parts, in-order}
 use Rattle.records.specs.Events.{Record, whole, short, seatCount, earlyGrounds, early}
 
 -- "The order is 4, 3, 1, 2": the first three are decoding's

@@ -8,8 +8,8 @@ use borrow.Author.Tests.{lt-ltb, le-ltb, leb-true, leb-false}
 use Rattle.base.specs.Pick.{pick}
 use Rattle.base.specs.PickLaws.{pick-true, pick-false, either-way, never}
 use Rattle.base.specs.Bits.{bit}
-use Rattle.base.specs.Refusals.{refusalOrder}
-use Rattle.base.specs.RefusalLaws.{follows, firstHeld, in-order, noneHolds, none-given}
+use Rattle.base.specs.Refusals.{refusalOrder, firstHeld}
+use Rattle.base.specs.RefusalLaws.{follows, in-order, noneHolds, none-given}
 use Rattle.registers.specs.declared.Settings.{Settings}
 use Rattle.registers.specs.declared.SeatEvent.{SeatEvent}
 use Rattle.registers.specs.declared.SeatEvent.the-variants.{Read, Write, Arrival, Levels, Time}

@@ -230,7 +230,7 @@ impl Settings {
         }
     }
 
-    fn fcr_kept(byte: u8) -> u8
+    pub fn fcr_kept(byte: u8) -> u8
         ensures { λ r. ⌜ r ≡ fcrKept byte ⌝ }
     {
         let on = base::bit(Settings::FCR_FIFO, byte);

@@ -14,7 +14,7 @@ use Rattle.base.specs.PickLaws.{pick-false, pick-either}
 use Rattle.text.specs.Line.{numeral, decimal}
 use Rattle.text.specs.Front.{front}
 use Rattle.text.specs.DecimalLaws.{decimal-length, decimal-front}
-use Rattle.text.specs.StoreLaws.{sets-append}
+use Rattle.base.specs.StoreLaws.{sets-append}
 use Rattle.setting_lines.specs.Fields.{rateText, stopText}
 use Rattle.setting_lines.specs.Guess.{shapeBy, lineBy}
 

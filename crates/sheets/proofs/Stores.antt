@@ -9,7 +9,7 @@ use lib.ListN.{length, set, take, getD, length-append}
 use lib.Seq.{sets, sets-eq, take-suc, take-append-seam, length-take-le}
 use Rattle.text.specs.Line.{numeral, decimal}
 use Rattle.text.specs.Front.{front}
-use Rattle.text.specs.StoreLaws.{sets-append}
+use Rattle.base.specs.StoreLaws.{sets-append}
 use Rattle.text.specs.DecimalLaws.{decimal-length, decimal-front, front-length}
 use Rattle.sheets.specs.Texts.{longest, AtStart}
 

@@ -11,7 +11,7 @@ use Rattle.base.specs.Answers.{refusalOf, valueOf}
 use Rattle.base.specs.declared.Answer.{Answer}
 use Rattle.text.specs.Line.{numeral, decimal, ending}
 use Rattle.text.specs.Front.{lineAfter}
-use Rattle.text.specs.StoreLaws.{sets-append}
+use Rattle.base.specs.StoreLaws.{sets-append}
 
 -- a text stored byte by byte
 pub one-stored : (text l : List ℕ) (at i : ℕ) → i < length text

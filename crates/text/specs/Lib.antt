@@ -3,7 +3,6 @@ pub mod Hex
 pub mod HexLaws
 pub mod Line
 pub mod Front
-pub mod StoreLaws
 pub mod DecimalLaws
 pub mod LineLaws
 pub mod FormLaws

@@ -3,7 +3,7 @@ use native.Mathlib.Nat.{zero-add}
 use native.Mathlib.Omega.{arith}
 use borrow.Author.Needs.{needs}
 use lib.ListN.{length-append}
-use Rattle.text.specs.StoreLaws.{sets-append}
+use Rattle.base.specs.StoreLaws.{sets-append}
 use Rattle.setting_lines.specs.Fields.{rateText}
 use Rattle.setting_lines.specs.Guess.{shapeBy, lineBy}
 use Rattle.setting_lines.proofs.Texts.{rate-short}

@@ -2,7 +2,7 @@ use native.Mathlib.Omega.{arith}
 use native.Mathlib.Nat.{mod-eq-of-lt}
 use borrow.Author.Needs.{needs}
 use Rattle.text.specs.DecimalLaws.{decimal-small, decimal-large, length-small, length-large}
-use Rattle.text.specs.StoreLaws.{sets-append}
+use Rattle.base.specs.StoreLaws.{sets-append}
 use Prim.Native.Nat.{ℕ, _<_}
 use borrow.Fn.Kinds.{In}
 use borrow.Fn.PlainCycle.{Measures, is, falls, and}

@@ -1,0 +1,88 @@
+-- The seat that a record says.
+use Prim.Native.Nat.{ℕ, _+_}
+use mathlib.Core.Bool.{Bool, true, false, _&&_}
+use mathlib.Core.List.{List}
+use lib.ListN.{take, replicate}
+use Rattle.base.specs.ListLaws.{listed}
+use Rattle.base.specs.Pick.{pick}
+use Rattle.channel.specs.declared.Channel.{Channel}
+use Rattle.queue.specs.declared.Character.{Character}
+use Rattle.receiver.specs.declared.Receiver.{Receiver}
+use Rattle.registers.specs.declared.Settings.{Settings}
+use Rattle.seat.specs.declared.Seat.{Seat}
+use Rattle.seat.specs.Seats.{powerUp}
+use Rattle.transmitter.specs.declared.Transmitter.{Transmitter}
+use Rattle.seat_image.specs.declared.Found.{Found}
+use Rattle.seat_image.specs.Allowed.{channelGood}
+use Rattle.seat_image.specs.Places.{recordLength, at, yesAt, Ier, Fcr, Lcr, Mcr, Changes, Scratch, Levels, Dll, Dlm, Last, Overrun, Kept, Flag}
+use Rattle.seat_image.specs.Places.{Timeout, Busy, Shift, Waiting, Outgoing, Received, Arrived, Marks}
+use Rattle.seat_image.specs.Written.{hasRoom}
+
+-- the registers
+abbrev pub settingsFrom : List ℕ → Settings
+settingsFrom l =
+    record {
+      ier = at l Ier;
+      fcr = at l Fcr;
+      lcr = at l Lcr;
+      mcr = at l Mcr;
+      scratch = at l Scratch;
+      dll = at l Dll;
+      dlm = at l Dlm;
+    }
+
+-- character k of those whose data stand from one place on, and their marks from another
+abbrev pub characterAt : List ℕ → ℕ → List ℕ → ℕ → ℕ → Character
+characterAt l place m marks k = record { «data» = at l (place + k); marks = at m (marks + k) }
+
+-- a queue's sixteen slots
+unfoldable pub slotsFrom : List ℕ → ℕ → List ℕ → ℕ → List Character
+slotsFrom l place m marks = listed 16 (characterAt l place m marks)
+
+-- the send side; its characters have no marks
+unfoldable pub transmitterFrom : List ℕ → Transmitter
+transmitterFrom l =
+    record {
+      queue = record { slots = slotsFrom l Outgoing (replicate 66 0) 0; count = at l Waiting };
+      busy = yesAt l Busy;
+      shift = at l Shift;
+      flag = yesAt l Flag;
+    }
+
+-- the receive side
+unfoldable pub receiverFrom : List ℕ → Receiver
+receiverFrom l =
+    record {
+      queue = record { slots = slotsFrom l Arrived l Marks; count = at l Received };
+      overrun = yesAt l Overrun;
+      kept = at l Kept;
+      timeout = at l Timeout;
+      last = at l Last;
+    }
+
+unfoldable pub channelFrom : List ℕ → Channel
+channelFrom l =
+    record {
+      settings = settingsFrom l;
+      receiver = receiverFrom l;
+      transmitter = transmitterFrom l;
+      modem = record { levels = at l Levels; changes = at l Changes };
+    }
+
+unfoldable pub seatFrom : List ℕ → Seat
+seatFrom l = record { channel = channelFrom l }
+
+-- a record says a seat where each of its conditions holds
+unfoldable pub recordGood : List ℕ → Bool
+recordGood l = channelGood l
+
+-- where there is none, a seat at power-up stands for it
+abbrev pub noneFound : Found
+noneFound = record { seat = powerUp; good = false }
+
+-- the seat of the record that a lent part begins with, or none; what stands behind the record is not looked at
+unfoldable pub found : List ℕ → Found
+found l =
+    pick (hasRoom l && recordGood (take recordLength l))
+    (record { seat = seatFrom (take recordLength l); good = true })
+    noneFound
