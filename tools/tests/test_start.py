@@ -343,10 +343,10 @@ class Stack(Start):
     def test_too_small_a_stack_is_told_for_a_long_lesson(self):
         self.write("long.hex", 65536 * "#")
         self.write("usual.hex", 65535 * "#")
-        told = "bench: the stack is limited to {} KiB here; a lesson of more than 65535 bytes needs 18944\n"
+        told = "bench: the stack is limited to {} KiB here; a lesson of more than 65535 bytes needs 19456\n"
         self.assertEqual(self.limited(8192, 8192, "long.hex"), ("8192", told.format(8192)))
-        self.assertEqual(self.limited(8192, 18943, "--", "long.hex"), ("18943", told.format(18943)))
-        self.assertEqual(self.limited(8192, 18944, "long.hex"), ("18944", ""))
+        self.assertEqual(self.limited(8192, 19455, "--", "long.hex"), ("19455", told.format(19455)))
+        self.assertEqual(self.limited(8192, 19456, "long.hex"), ("19456", ""))
         self.assertEqual(self.limited(8192, 8192, "usual.hex"), ("8192", ""))
         self.assertEqual(self.limited(8192, 8192), ("8192", ""))
 
@@ -360,7 +360,7 @@ class Signal(Start):
 
     def test_signal_is_told(self):
         for name, number in (("SEGV", 11), ("KILL", 9)):
-            told = f"bench: the program was ended by signal {number}; a long lesson needs a stack of 18944 KiB (ulimit -s)\n"
+            told = f"bench: the program was ended by signal {number}; a long lesson needs a stack of 19456 KiB (ulimit -s)\n"
             self.assertEqual(self.run_it("lesson.hex", settings={"SIGNAL": name}), (1, "", told))
 
     def test_listing_without_a_reader_is_no_fault(self):
