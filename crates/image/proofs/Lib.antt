@@ -1,0 +1,4 @@
+pub mod Numbering
+pub mod Outside
+pub mod Returning
+pub mod Statements
