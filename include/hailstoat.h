@@ -197,7 +197,10 @@ enum hailstoat_refusal {
                                  OCW3 with bit 2 set; MCR write with bit 4 set */
     HAILSTOAT_NOT_LISTED = 10, /* of hailstoat_divisor alone */
     HAILSTOAT_NO_SETTING = 11, /* of settings lines, which no function here reads or writes */
-    HAILSTOAT_NO_ROOM = 12, /* of settings lines too */
+    HAILSTOAT_NO_ROOM = 12, /* of settings lines too, and of saved benches */
+    HAILSTOAT_WRONG_MARK = 13, /* of saved benches, which no function here reads or writes */
+    HAILSTOAT_UNKNOWN_VERSION = 14, /* of saved benches too */
+    HAILSTOAT_NO_SUCH_BENCH = 15, /* of saved benches too */
 };
 
 /* A refusal in words, for a log. */
@@ -217,6 +220,9 @@ static inline const char *hailstoat_refusal_words(unsigned refusal)
     case HAILSTOAT_NOT_LISTED: return "rate or clock not in the divisor list";
     case HAILSTOAT_NO_SETTING: return "no settings line, or an LCR byte that none gives";
     case HAILSTOAT_NO_ROOM: return "lent buffer too short";
+    case HAILSTOAT_WRONG_MARK: return "wrong mark";
+    case HAILSTOAT_UNKNOWN_VERSION: return "unknown version";
+    case HAILSTOAT_NO_SUCH_BENCH: return "a saved bench that cannot be";
     default: return "no refusal that this header knows";
     }
 }

@@ -17,7 +17,7 @@ struct outcome bench_place(const struct bench *bench, unsigned line)
     return accepted(controller_place(&bench->controller, line));
 }
 
-static unsigned lines_now(const struct bench *bench)
+unsigned bench_lines(const struct bench *bench)
 {
     unsigned lines = 0;
     for (unsigned seat = 0; seat < SEATS; seat += 1)
@@ -91,6 +91,6 @@ struct outcome bench_event(struct bench *bench, struct event event)
         return refused(refusal);
     struct outcome outcome = dispatch(bench, event);
     /* "Line changes reach the controller's latches in the same event." */
-    controller_watch(&bench->controller, lines_now(bench));
+    controller_watch(&bench->controller, bench_lines(bench));
     return outcome;
 }

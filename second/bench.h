@@ -38,6 +38,9 @@ struct bench bench_at_power_up(void);
 struct outcome bench_event(struct bench *bench, struct event event);
 unsigned bench_output(const struct bench *bench);
 
+/* The seats whose line is high, seat n as bit n. */
+unsigned bench_lines(const struct bench *bench);
+
 /* "a line's place in turn (.. line above 7 gives refusal 1)" */
 struct outcome bench_place(const struct bench *bench, unsigned line);
 

@@ -3,6 +3,7 @@
 #include <inttypes.h>
 #include <stdio.h>
 
+#include "image_trial.h"
 #include "output.h"
 #include "scripts.h"
 #include "sets.h"
@@ -80,6 +81,7 @@ static bool sets_as_told(void)
 int coverage_run(void)
 {
     struct tally tally = {0};
+    struct image_tally images = {0};
     int result = 0;
     if (!sets_as_told()) {
         printf("%10u  sets whose picks are as TRIALS.md tells\n", 0U);
@@ -87,11 +89,13 @@ int coverage_run(void)
     }
     for (size_t i = 0; i < TRIALS; i += 1)
         tally_trial(&tally, trials[i]);
+    for (size_t i = 0; i < IMAGE_TRIALS; i += 1)
+        image_trial_digest(image_trials[i], &images);
     printf("%10" PRIu64 "  events\n%10" PRIu64 "  accepted\n", tally.events, tally.accepted);
     for (size_t i = 0; i < TALLY_COUNT; i += 1) {
         printf("%10" PRIu64 "  %s\n", tally.reached[i], item_words[i]);
         if (tally.reached[i] == 0)
             result = 1;
     }
-    return output_result(result);
+    return output_result(result | image_tally_print(&images));
 }

@@ -20,23 +20,38 @@ static void print_record(const uint8_t *record, size_t length)
     printf(" ");
 }
 
-int listing_run(struct bench bench, bool with_records)
+static int list(struct bench *bench, bool with_records, const struct saves *saves)
 {
     struct records records;
     uint8_t record[RECORD_BYTES];
     records_begin(&records, stdin);
 
+    int result = saves_at_start(saves, bench);
+    uint64_t number = 0;
     size_t length = records_next(&records, record);
-    for (uint64_t number = 0; length > 0; number += 1) {
+    while (length > 0) {
         /* "record of 1 to 3 bytes at the end of input" */
         bool whole = length == RECORD_BYTES;
         struct outcome outcome =
-            whole ? bench_event(&bench, record_event(record)) : refused(REFUSAL_SHORT);
+            whole ? bench_event(bench, record_event(record)) : refused(REFUSAL_SHORT);
         if (with_records)
             print_record(record, length);
-        print_line(number, outcome, bench_output(&bench));
+        print_line(number, outcome, bench_output(bench));
+        result |= saves_at_record(saves, bench, number);
+        number += 1;
         /* "It stops after refusal 4." */
         length = whole ? records_next(&records, record) : 0;
     }
-    return answers_result(0);
+    result |= saves_at_end(saves, bench);
+    return answers_result(result | saves_missed(saves, number));
+}
+
+int listing_run(struct bench bench, const struct saves *saves)
+{
+    return list(&bench, false, saves);
+}
+
+int listing_show(struct bench bench)
+{
+    return list(&bench, true, &(struct saves){0});
 }

@@ -4,10 +4,13 @@
 #include <stdbool.h>
 
 #include "bench.h"
+#include "saves.h"
 
 /* Records from standard input, given to the bench, and the listing on standard
-   output. With the records shown, each line begins with the record's bytes in
-   hex. */
-int listing_run(struct bench bench, bool with_records);
+   output; the bench is saved on the way as asked. */
+int listing_run(struct bench bench, const struct saves *saves);
+
+/* The same, each line with the record's bytes in hex before it. */
+int listing_show(struct bench bench);
 
 #endif

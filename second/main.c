@@ -4,9 +4,11 @@
 #include <string.h>
 
 #include "coverage.h"
+#include "image_file.h"
 #include "listing.h"
 #include "numbers.h"
 #include "rates.h"
+#include "saves.h"
 #include "sets.h"
 #include "sheet_agree.h"
 #include "sheet_lines.h"
@@ -27,9 +29,16 @@ struct command {
     int (*run)(int count, char **words);
 };
 
-static int run_listing(void)
+static int run_listing(int count, char **words)
 {
-    return listing_run(bench_at_power_up(), false);
+    struct saves saves;
+    struct bench bench = bench_at_power_up();
+    if (!saves_parse(count, words, &saves))
+        return RESULT_USAGE;
+    /* "where it is refused .. nothing is run and no file touched" */
+    if (saves.restore != NULL && image_file_restore(&bench, saves.restore) != 0)
+        return 1;
+    return listing_run(bench, &saves);
 }
 
 static bool parse_number(const char *word, uint64_t largest, uint64_t *number)
@@ -53,7 +62,7 @@ static int run_show(int count, char **words)
     unsigned start = 0;
     if (count > 1 || !parse_choice(count, words, STARTS, &start))
         return RESULT_USAGE;
-    return listing_run(starts[start](), true);
+    return listing_show(starts[start]());
 }
 
 /* Of the words, `most` at most. */
@@ -72,7 +81,10 @@ static bool parse_trial(int count, char **words, int most, struct trial *trial)
 static int run_trials(int count, char **words)
 {
     struct trial trial;
-    return parse_trial(count, words, 4, &trial) ? trials_run_one(trial) : RESULT_USAGE;
+    int images = count > 0 && strcmp(words[0], "images") == 0 ? 1 : 0;
+    if (!parse_trial(count - images, words + images, 4, &trial))
+        return RESULT_USAGE;
+    return images == 1 ? trials_run_one_of_images(trial) : trials_run_one(trial);
 }
 
 static int run_generate(int count, char **words)
@@ -97,11 +109,11 @@ static int run_settings_lines(int count, char **words)
 }
 
 static const struct command commands[] = {
-    {"listing", "", run_listing, NULL},
+    {"listing", " [--restore FILE] [--save-at N|start|end FILE]..", NULL, run_listing},
     {"show", " [START]", NULL, run_show},
     {"rates", "", rates_run, NULL},
     {"spoons", "", spoons_run, NULL},
-    {"trials", " [SEED COUNT [SET [START]]]", trials_run_all, run_trials},
+    {"trials", " [[images] SEED COUNT [SET [START]]]", trials_run_all, run_trials},
     {"generate", " SEED COUNT [SET]", NULL, run_generate},
     {"coverage", "", coverage_run, NULL},
     {"settings", " CLOCK", NULL, run_settings},

@@ -17,7 +17,10 @@ enum refusal {
     REFUSAL_NOT_SERVED = 9,   /* "not served: .." */
     REFUSAL_NOT_LISTED = 10,  /* "rate or clock not in the divisor list" */
     REFUSAL_NO_SETTINGS = 11, /* "any other line or an LCR byte that no line gives" */
-    REFUSAL_NO_ROOM = 12      /* "a lent buffer too short" */
+    REFUSAL_NO_ROOM = 12,     /* "a lent buffer too short"; "no room or below 5 bytes" */
+    REFUSAL_NO_MARK = 13,     /* "wrong mark" */
+    REFUSAL_NO_VERSION = 14,  /* "unknown version" */
+    REFUSAL_NO_BENCH = 15     /* "exactly for a field outside its range in document 01 .." */
 };
 
 struct outcome {

@@ -10,8 +10,7 @@ struct stream stream_begin(uint32_t seed, unsigned set)
     return (struct stream){.x = seed, .set = &sets[set]};
 }
 
-/* A number below `below`, which is 1 to 256. */
-static unsigned draw(struct stream *stream, unsigned below)
+unsigned stream_draw(struct stream *stream, unsigned below)
 {
     stream->x = (stream->x * 1664525U + 1013904223U) % 4294967296U;
     return (unsigned)(stream->x / 65536U % below);
@@ -20,11 +19,11 @@ static unsigned draw(struct stream *stream, unsigned below)
 /* TRIALS.md, step 1: a new script when the last one is done. */
 static void begin_script(struct stream *stream)
 {
-    unsigned mood_wind = draw(stream, 12);
-    unsigned mood = draw(stream, MOODS);
-    unsigned seat_wind = draw(stream, 4);
-    unsigned seat = draw(stream, SEATS);
-    unsigned pick = draw(stream, PICKS);
+    unsigned mood_wind = stream_draw(stream, 12);
+    unsigned mood = stream_draw(stream, MOODS);
+    unsigned seat_wind = stream_draw(stream, 4);
+    unsigned seat = stream_draw(stream, SEATS);
+    unsigned pick = stream_draw(stream, PICKS);
     if (mood_wind == 0)
         stream->mood = mood;
     if (seat_wind == 0)
@@ -37,9 +36,9 @@ static void begin_script(struct stream *stream)
 /* TRIALS.md, step 3: the event of a row. */
 static struct event row_event(struct stream *stream, const struct row *row)
 {
-    unsigned any = draw(stream, 256);
-    unsigned number = draw(stream, row->number_most + 1U);
-    unsigned value = draw(stream, row->value_most + 1U);
+    unsigned any = stream_draw(stream, 256);
+    unsigned number = stream_draw(stream, row->number_most + 1U);
+    unsigned value = stream_draw(stream, row->value_most + 1U);
     struct event event = {
         .kind = row->kind % SEAT_ANY,
         .seat = any,
@@ -56,9 +55,9 @@ static struct event row_event(struct stream *stream, const struct row *row)
 /* TRIALS.md, step 5: now and then one byte is replaced, or the script is left. */
 static void spoil(struct stream *stream, struct event *event)
 {
-    unsigned chance = draw(stream, ONE_IN_SPOILS);
-    const struct spoil *with = &stream->set->spoils[draw(stream, SPOILS)];
-    unsigned byte = (with->base + draw(stream, with->most + 1U)) % 256U;
+    unsigned chance = stream_draw(stream, ONE_IN_SPOILS);
+    const struct spoil *with = &stream->set->spoils[stream_draw(stream, SPOILS)];
+    unsigned byte = (with->base + stream_draw(stream, with->most + 1U)) % 256U;
     unsigned *bytes[4] = {&event->kind, &event->seat, &event->number, &event->value};
     if (chance == 0)
         *bytes[with->which] = byte;
@@ -74,7 +73,7 @@ struct event stream_next(struct stream *stream)
         begin_script(stream);
     const struct row *row = &rows[stream->row];
     if (stream->left == 0)
-        stream->left = 1U + draw(stream, row->times_most + 1U);
+        stream->left = 1U + stream_draw(stream, row->times_most + 1U);
     struct event event = row_event(stream, row);
     stream->left -= 1;
     if (stream->left == 0)

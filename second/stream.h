@@ -22,4 +22,7 @@ struct stream {
 struct stream stream_begin(uint32_t seed, unsigned set);
 struct event stream_next(struct stream *stream);
 
+/* A number below `below`, which is 1 to 256. */
+unsigned stream_draw(struct stream *stream, unsigned below);
+
 #endif

@@ -3,7 +3,8 @@
 #include <inttypes.h>
 #include <stdio.h>
 
-#include "bench.h"
+#include "digest.h"
+#include "image_trial.h"
 #include "output.h"
 #include "starts.h"
 #include "stream.h"
@@ -15,25 +16,10 @@ const struct trial trials[TRIALS] = {
     {13, 200000, 0, 0}, {14, 200000, 0, 0}, {15, 200000, 0, 0}, {4294967295, 200000, 0, 0},
 };
 
-/* TRIALS.md: the largest prime below 2 to the 31. */
-#define DIGEST_PRIME 2147483647U
-#define DIGEST_FACTOR 1000003U
-
-static uint64_t digest_add(uint64_t digest, unsigned value)
+static int print_digest(struct trial trial, uint64_t digest)
 {
-    return (digest * DIGEST_FACTOR + value + 1U) % DIGEST_PRIME;
-}
-
-static uint64_t digest_event(uint64_t digest, struct bench *bench, struct event event)
-{
-    struct outcome outcome = bench_event(bench, event);
-    unsigned refusal = (unsigned)outcome.refusal;
-    digest = digest_add(digest, refusal * 8192U + outcome.answer * 2U + bench_output(bench));
-    for (unsigned line = 0; line <= LINES; line += 1) {
-        struct outcome place = bench_place(bench, line);
-        digest = digest_add(digest, (unsigned)place.refusal * 4096U + place.answer);
-    }
-    return digest;
+    printf("%" PRIu32 " %" PRIu64 " %08" PRIX64 "\n", trial.seed, trial.count, digest);
+    return output_result(0);
 }
 
 int trials_run_one(struct trial trial)
@@ -43,17 +29,28 @@ int trials_run_one(struct trial trial)
     uint64_t digest = 0;
     for (uint64_t i = 0; i < trial.count; i += 1)
         digest = digest_event(digest, &bench, stream_next(&stream));
-    printf("%" PRIu32 " %" PRIu64 " %08" PRIX64 "\n", trial.seed, trial.count, digest);
-    return output_result(0);
+    return print_digest(trial, digest);
+}
+
+int trials_run_one_of_images(struct trial trial)
+{
+    return print_digest(trial, image_trial_digest(trial, NULL));
+}
+
+static int run_each(int (*run)(struct trial), const struct trial *list, size_t count)
+{
+    int result = 0;
+    for (size_t i = 0; i < count; i += 1)
+        if (run(list[i]) != 0)
+            result = 1;
+    return result;
 }
 
 int trials_run_all(void)
 {
-    int result = 0;
-    for (size_t i = 0; i < TRIALS; i += 1)
-        if (trials_run_one(trials[i]) != 0)
-            result = 1;
-    return result;
+    int streams = run_each(trials_run_one, trials, TRIALS);
+    int images = run_each(trials_run_one_of_images, image_trials, IMAGE_TRIALS);
+    return streams | images;
 }
 
 int trials_generate(struct trial trial)

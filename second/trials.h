@@ -16,8 +16,10 @@ struct trial {
 /* The streams that are run each time. */
 extern const struct trial trials[TRIALS];
 
-/* One stream, or all of the list: a line each of seed, count and digest. */
+/* One stream, one trial of saved benches, or all of both lists: a line each of
+   seed, count and digest. */
 int trials_run_one(struct trial trial);
+int trials_run_one_of_images(struct trial trial);
 int trials_run_all(void);
 
 /* The stream's four-byte records on standard output. */

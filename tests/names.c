@@ -179,7 +179,7 @@ static void bits_without_a_name(void)
 
 static void all_refusals_have_words(void)
 {
-    for (unsigned i = HAILSTOAT_ACCEPTED; i <= HAILSTOAT_NO_ROOM + 1; i += 1)
+    for (unsigned i = HAILSTOAT_ACCEPTED; i <= HAILSTOAT_NO_SUCH_BENCH + 1; i += 1)
         for (unsigned j = HAILSTOAT_ACCEPTED; j < i; j += 1)
             if (strcmp(hailstoat_refusal_words(i), hailstoat_refusal_words(j)) == 0)
                 fail("two refusals have the same words");

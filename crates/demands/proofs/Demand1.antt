@@ -33,9 +33,15 @@ use Rattle.bench.specs.Seats.{seat, powerUp}
 use Rattle.bench.specs.Steps.{outcome}
 use Rattle.bench.specs.OutcomeLaws.{outcome-refused, outcome-number}
 use Rattle.demands.specs.Demand1.{Listed, RefusedBy, Accepted, Answered, Unchanged, Events, Places, among, Divisors, Rates, Demand1, OnlyFFF, OneRefusal}
+use Rattle.image.specs.declared.Restored.{Restored}
+use Rattle.image.specs.RefusalLaws.{restored-none}
+use Rattle.image.specs.Refusals.{restored}
+use Rattle.demands.specs.DemandImages.{saveReasons, restoreReasons}
 use Rattle.demands.specs.DemandLines.{readReasons, writeReasons}
 use Rattle.demands.proofs.Opened.{laid-open}
-use Rattle.demands.proofs.DemandLines.{readings, writings, one-reason, a-reason}
+use Rattle.demands.proofs.DemandImages.{savings, restorings}
+use Rattle.demands.proofs.DemandLines.{readings, writings}
+use Rattle.demands.proofs.Reasons.{one-reason, a-reason}
 
 -- the number that is given is listed, where there is one
 first-listed : (order : List ℕ) (gs : List Ground) → (firstOf order gs ≡ 0 → ⊥) → Listed order (firstOf order gs) gs
@@ -149,7 +155,7 @@ back divisor clock =
         (either-way (among divisor (divisorsOf clock)))
 
 pub demand-1 : Demand1
-demand-1 = record { events = events; places = places; divisors = divisors; rates = back; readings = readings; writings = writings }
+demand-1 = record { events = events; places = places; divisors = divisors; rates = back; readings = readings; writings = writings; savings = savings; restorings = restorings }
 
 -- ---- another value: a record of no kind at power-up, a line above 7, a clock that is not there
 
@@ -175,6 +181,13 @@ only-fff =
           sym (a-reason value (writeReasons 0 0 0x83 []) (answer.Refused 11) (above 10)
           (all 0 0 0x83 [] [] (record { answer = answer.Refused 11; length = 0 })
           (inr (record { other = lines.statements .forty-bytes .others 0x83 refl; told = refl })) .0));
+      savings = λ value all.
+          sym (a-reason value (saveReasons 0 []) (answer.Refused 12) (above 11)
+          (all powerUp 0 [] [] (answer.Refused 12) (record { answer = refl; bytes = refl }) .0));
+      restorings = λ value all.
+          sym (a-reason value (restoreReasons []) (restored powerUp [] .answer)
+          (λ none. above 11 (sym (ap (λ (t : Restored). refusalOf (t .answer)) (restored-none powerUp)) ∙ none)) (all powerUp [] 0 .0))
+          ∙ ap (λ (t : Restored). valueOf (t .answer)) (restored-none powerUp);
     }
   where
     above : (n : ℕ) → suc n ≡ 0 → ⊥
@@ -209,4 +222,4 @@ module _ (order : List ℕ) (value : ℕ) (gs : List Ground) (a b : Answer) wher
   one-number (inr x) (inr y) = listed-once order gs (refusalOf a) (refusalOf b) (x .listed) (y .listed)
 
 pub one-refusal : OneRefusal
-one-refusal = record { number = one-number; reading = λ value line clock. one-reason value (readReasons line clock); writing = λ value clock divisor lcr d. one-reason value (writeReasons clock divisor lcr d); bench = λ b o p u v. (u .whole ∙ sym (v .whole), u .output ∙ sym (v .output)) }
+one-refusal = record { number = one-number; reading = λ value line clock. one-reason value (readReasons line clock); writing = λ value clock divisor lcr d. one-reason value (writeReasons clock divisor lcr d); saving = λ value at l. one-reason value (saveReasons at l); restoring = λ value p. one-reason value (restoreReasons p); bench = λ b o p u v. (u .whole ∙ sym (v .whole), u .output ∙ sym (v .output)) }

@@ -7,8 +7,8 @@ use Rattle.sheets.specs.OneLaws.{line-one, numbers-one}
 use Rattle.listing.specs.PartLaws.{runs-one}
 use Rattle.lesson.specs.Lesson.{handedOut}
 use Rattle.lesson.specs.declared.Lesson.{Lesson}
-use Rattle.demands.specs.OnceCalls.{BaseOnce, QueueOnce, RatesOnce, SettingLinesOnce, SheetsOnce, OptionsOnce, RegistersOnce, ReceiverOnce, TransmitterOnce, StatusOnce, ChannelOnce, LendingOnce, SeatOnce, RankOnce}
-use Rattle.demands.specs.OnceCalls.{ControllerOnce, RecordsOnce, BenchOnce, ListingOnce, LessonOnce, StreamsOnce, EmbedOnce}
+use Rattle.demands.specs.OnceCalls.{BaseOnce, QueueOnce, RatesOnce, SettingLinesOnce, SheetsOnce, OptionsOnce, RegistersOnce, ReceiverOnce, TransmitterOnce, StatusOnce, ChannelOnce, LendingOnce, SeatOnce, SeatImageOnce, RankOnce}
+use Rattle.demands.specs.OnceCalls.{ControllerOnce, RecordsOnce, BenchOnce, ListingOnce, ImageOnce, LessonOnce, StreamsOnce, EmbedOnce}
 use Rattle.demands.proofs.Once.{told, unasked, value}
 
 pub base-once : (M : Type 1) → BaseOnce M
@@ -27,6 +27,7 @@ pub queue-once : (M : Type 1) → QueueOnce M
 queue-once M =
     record {
       queue·Queue·empty = value _ refl (λ κ a v w. refl);
+      queue·Queue·capacity = value _ refl (λ κ a v w. refl);
       queue·Queue·accept = value _ refl (λ κ a v w. refl);
       queue·Queue·take = value _ refl (λ κ a v w. refl);
       queue·Queue·first = value _ refl (λ κ a v w. refl);
@@ -84,6 +85,7 @@ registers-once M =
       registers·Settings·register = value _ refl (λ κ a v w. refl);
       registers·Settings·changes-mode = value _ refl (λ κ a v w. refl);
       registers·Settings·write = value _ refl (λ κ a v w. refl);
+      registers·Settings·fcr-kept = value _ refl (λ κ a v w. refl);
       registers·Settings·shown = value _ refl (λ κ a v w. refl);
       registers·Settings·wire-answer = value _ refl (λ κ a v w. refl);
       registers·changes-after = value _ refl (λ κ a v w. refl);
@@ -156,6 +158,13 @@ seat-once M =
       seat·Seat·step = value _ refl (λ κ a v w. refl);
     }
 
+pub seat-image-once : (M : Type 1) → SeatImageOnce M
+seat-image-once M =
+    record {
+      seat-image·put = told _ refl (λ κ a r s v w p q. (p .answer ∙ sym (q .answer), λ i. (tt, ((p .bytes ∙ sym (q .bytes)) i, tt))));
+      seat-image·get = value _ refl (λ κ a v w. refl);
+    }
+
 pub rank-once : (M : Type 1) → RankOnce M
 rank-once M =
     record {
@@ -211,6 +220,13 @@ listing-once M =
       listing·run = told _ refl (λ κ a r s v w p q.
           let same = runs-one _ _ _ _ _ _ _ _ _ p q in
           (same .0, λ i. (tt, (tt, (tt, (tt, (same .1 i, tt)))))));
+    }
+
+pub image-once : (M : Type 1) → ImageOnce M
+image-once M =
+    record {
+      image·save = told _ refl (λ κ a r s v w p q. (p .answer ∙ sym (q .answer), λ i. (tt, ((p .bytes ∙ sym (q .bytes)) i, (tt, tt)))));
+      image·restore = value _ refl (λ κ a v w. refl);
     }
 
 pub lesson-once : (M : Type 1) → LessonOnce M

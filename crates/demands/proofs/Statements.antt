@@ -3,7 +3,9 @@ use Rattle.demands.specs.Statements.{Statements}
 use Rattle.demands.proofs.Contracts.{contracts-say}
 use Rattle.demands.proofs.Demand1.{demand-1, only-fff, one-refusal}
 use Rattle.demands.proofs.Demand2.{demand-2, demand-2-listed}
+use Rattle.demands.proofs.Demand2Items.{demand-2-items}
 use Rattle.demands.proofs.Demand3.{demand-3-bench, demand-3-from-power-up}
+use Rattle.demands.proofs.Demand3Restores.{starts-anew, demand-3-from-items}
 use Rattle.demands.proofs.SeatLedger.{seat-ledger, seat-ledger-from-power-up}
 use Rattle.demands.proofs.SheetMeant.{sheet-meant}
 use Rattle.demands.proofs.WrongPrograms.{shut-out, let-in}
@@ -21,8 +23,11 @@ statements =
       one-refusal = one-refusal;
       demand-2 = demand-2;
       demand-2-listed = demand-2-listed;
+      demand-2-items = demand-2-items;
       demand-3 = demand-3-bench;
       demand-3-from-power-up = demand-3-from-power-up;
+      starts-anew = starts-anew;
+      demand-3-from-items = demand-3-from-items;
       seat-ledger = seat-ledger;
       seat-ledger-from-power-up = seat-ledger-from-power-up;
       sheet-meant = sheet-meant;

@@ -1,4 +1,5 @@
--- Demand 1: every event, place, divisor, rate and settings line that is asked for is answered, and a refusal leaves everything just as before.
+-- Demand 1: every event, place, divisor, rate, settings line, save and restore that is asked for is answered, and a refusal leaves everything
+-- just as before.
 use Prim.Native.Nat.{ℕ}
 use mathlib.Core.Bool.{Bool, true, false, not, _&&_, _||_}
 use mathlib.Core.List.{List, [], _∷_}
@@ -19,7 +20,9 @@ use Rattle.bench.specs.declared.Outcome.{Outcome}
 use Rattle.bench.specs.Refusals.{grounds}
 use Rattle.bench.specs.Seats.{seat}
 use Rattle.bench.specs.Steps.{outcome}
-use Rattle.demands.specs.DemandLines.{AnsweredBy, readReasons, Readings, writeReasons, Writings}
+use Rattle.demands.specs.DemandImages.{saveReasons, Savings, restoreReasons, Restorings}
+use Rattle.demands.specs.DemandLines.{readReasons, Readings, writeReasons, Writings}
+use Rattle.demands.specs.Reasons.{AnsweredBy}
 
 -- the number stands, and none before it in the order does
 abbrev pub Listed : List ℕ → ℕ → List Ground → Type 0
@@ -40,7 +43,7 @@ pub record RefusedBy (order : List ℕ) (value : ℕ) (gs : List Ground) (a : An
 abbrev pub Answered : List ℕ → ℕ → List Ground → Answer → Type 0
 Answered order value gs a = Accepted gs a ⊎ RefusedBy order value gs a
 
--- ---- the entries: events, the place in turn, the divisor list both ways, settings lines both ways
+-- ---- the entries: events, the place in turn, the divisor list both ways, settings lines both ways, images both ways
 
 -- The tender: and a bench with every seat and the controller just as before
 pub record Unchanged (b : Bench) (o : Outcome) : Type 0 where
@@ -90,6 +93,8 @@ pub record Demand1 : Type 0 where
   pub rates : Rates 0xFFF
   pub readings : Readings 0xFFF
   pub writings : Writings 0xFFF
+  pub savings : Savings 0xFFF
+  pub restorings : Restorings 0xFFF
 
 -- no entry keeps the demand with another value, 000 among them
 pub record OnlyFFF : Type 0 where
@@ -99,6 +104,8 @@ pub record OnlyFFF : Type 0 where
   pub rates : (value : ℕ) → Rates value → value ≡ 0xFFF
   pub readings : (value : ℕ) → Readings value → value ≡ 0xFFF
   pub writings : (value : ℕ) → Writings value → value ≡ 0xFFF
+  pub savings : (value : ℕ) → Savings value → value ≡ 0xFFF
+  pub restorings : (value : ℕ) → Restorings value → value ≡ 0xFFF
 
 -- the demand leaves nothing of a refusal open: by one order and one list of grounds two answers that it lets through have one number, and from
 -- one bench two outcomes that it calls unchanged have one bench and one output
@@ -109,4 +116,8 @@ pub record OneRefusal : Type 0 where
       → AnsweredBy value (readReasons line clock) b → refusalOf a ≡ refusalOf b
   pub writing : (value clock divisor lcr : ℕ) (d : List ℕ) (a b : Answer) → AnsweredBy value (writeReasons clock divisor lcr d) a
       → AnsweredBy value (writeReasons clock divisor lcr d) b → refusalOf a ≡ refusalOf b
+  pub saving : (value at : ℕ) (l : List ℕ) (a b : Answer) → AnsweredBy value (saveReasons at l) a → AnsweredBy value (saveReasons at l) b
+      → refusalOf a ≡ refusalOf b
+  pub restoring : (value : ℕ) (p : List ℕ) (a b : Answer) → AnsweredBy value (restoreReasons p) a → AnsweredBy value (restoreReasons p) b
+      → refusalOf a ≡ refusalOf b
   pub bench : (b : Bench) (o p : Outcome) → Unchanged b o → Unchanged b p → (o .bench ≡ p .bench) × (o .output ≡ p .output)

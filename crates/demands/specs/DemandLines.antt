@@ -1,33 +1,15 @@
 -- Demand 1 for settings lines. What they are refused for is said of all settings, and is no test that is computed.
 use Prim.Native.Nat.{ℕ, _<_}
 use mathlib.Core.List.{List, [], _∷_}
-use mathlib.Core.Logic.{_⊎_}
 use mathlib.Core.Path.{_≡_}
 use lib.ListN.{length}
-use Rattle.base.specs.declared.Answer.{Answer}
-use Rattle.base.specs.Answers.{refusalOf, valueOf}
+use Rattle.base.specs.Answers.{refusalOf}
 use Rattle.setting_lines.specs.Reading.{NoLine, Reads}
 use Rattle.setting_lines.specs.Writing.{NoShape, Writes}
 use Rattle.setting_lines.specs.SettingRefusals.{RateMissing, DivisorMissing, Lined, lineWith}
 use Rattle.setting_lines.specs.declared.Setting.{Setting}
 use Rattle.setting_lines.specs.declared.Written.{Written}
-
--- a number, and what must hold for it
-pub record Reason : Type 1 where
-  pub number : ℕ
-  pub holds : Type 0
-
--- the first of these that holds has this number
-abbrev pub FirstOf : List Reason → ℕ → Type 0
-FirstOf [] n = ⊥
-FirstOf (r ∷ rs) n = (r .holds × (n ≡ r .number)) ⊎ ((r .holds → ⊥) × FirstOf rs n)
-
-abbrev pub NoneOf : List Reason → Type 0
-NoneOf [] = Unit
-NoneOf (r ∷ rs) = (r .holds → ⊥) × NoneOf rs
-
-abbrev pub AnsweredBy : ℕ → List Reason → Answer → Type 0
-AnsweredBy value rs a = ((refusalOf a ≡ 0) × NoneOf rs) ⊎ (FirstOf rs (refusalOf a) × (valueOf a ≡ value))
+use Rattle.demands.specs.Reasons.{Reason, AnsweredBy}
 
 -- ticket 1: "Refusals: 11 for any other line", "then 10"
 abbrev pub readReasons : List ℕ → ℕ → List Reason

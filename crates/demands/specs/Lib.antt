@@ -2,10 +2,14 @@ pub mod Starred
 pub mod Worked
 pub mod Edges
 pub mod Contracts
+pub mod Reasons
 pub mod DemandLines
+pub mod DemandImages
 pub mod Demand1
 pub mod Demand2
+pub mod Demand2Items
 pub mod Demand3
+pub mod Demand3Restores
 pub mod SeatLedger
 pub mod SheetMeant
 pub mod Once

@@ -13,11 +13,13 @@ use Rattle.status.proofs as status
 use Rattle.channel.proofs as channel
 use Rattle.lending.proofs as lending
 use Rattle.seat.proofs as seat
+use Rattle.seat_image.proofs as seat_image
 use Rattle.rank.proofs as rank
 use Rattle.controller.proofs as controller
 use Rattle.records.proofs as records
 use Rattle.bench.proofs as bench
 use Rattle.text.proofs as text
+use Rattle.image.proofs as image
 use Rattle.listing.proofs as listing
 use Rattle.lesson.proofs as lesson
 use Rattle.streams.proofs as streams
@@ -39,6 +41,7 @@ pub record BaseOnce (M : Type 1) : Type 2 where
 
 pub record QueueOnce (M : Type 1) : Type 2 where
   pub queue·Queue·empty : Once M queue.Queue.empty.ended queue.Queue.empty.clauses queue.Queue.empty.spec
+  pub queue·Queue·capacity : Once M queue.Queue.capacity.ended queue.Queue.capacity.clauses queue.Queue.capacity.spec
   pub queue·Queue·accept : Once M queue.Queue.accept.ended queue.Queue.accept.clauses queue.Queue.accept.spec
   pub queue·Queue·take : Once M queue.Queue.take.ended queue.Queue.take.clauses queue.Queue.take.spec
   pub queue·Queue·first : Once M queue.Queue.first.ended queue.Queue.first.clauses queue.Queue.first.spec
@@ -87,6 +90,7 @@ pub record RegistersOnce (M : Type 1) : Type 2 where
   pub registers·Settings·register : Once M registers.Settings.register.ended registers.Settings.register.clauses registers.Settings.register.spec
   pub registers·Settings·changes-mode : Once M registers.Settings.changes_mode.ended registers.Settings.changes_mode.clauses registers.Settings.changes_mode.spec
   pub registers·Settings·write : Once M registers.Settings.write.ended registers.Settings.write.clauses registers.Settings.write.spec
+  pub registers·Settings·fcr-kept : Once M registers.Settings.fcr_kept.ended registers.Settings.fcr_kept.clauses registers.Settings.fcr_kept.spec
   pub registers·Settings·shown : Once M registers.Settings.shown.ended registers.Settings.shown.clauses registers.Settings.shown.spec
   pub registers·Settings·wire-answer : Once M registers.Settings.wire_answer.ended registers.Settings.wire_answer.clauses registers.Settings.wire_answer.spec
   pub registers·changes-after : Once M registers.changes_after.ended registers.changes_after.clauses registers.changes_after.spec
@@ -154,6 +158,12 @@ pub record SeatOnce (M : Type 1) : Type 2 where
   pub seat·Seat·line : Once M seat.Seat.line.ended seat.Seat.line.clauses seat.Seat.line.spec
   pub seat·Seat·step : Once M seat.Seat.step.ended seat.Seat.step.clauses seat.Seat.step.spec
 
+-- ---- seat_image: a seat as a record, with the part that is lent back
+
+pub record SeatImageOnce (M : Type 1) : Type 2 where
+  pub seat-image·put : Once M seat_image.put.ended seat_image.put.clauses seat_image.put.spec
+  pub seat-image·get : Once M seat_image.get.ended seat_image.get.clauses seat_image.get.spec
+
 -- ---- rank: sets and places of lines
 
 pub record RankOnce (M : Type 1) : Type 2 where
@@ -204,6 +214,12 @@ pub record ListingOnce (M : Type 1) : Type 2 where
   pub text·put-front : Once M text.put_front.ended text.put_front.clauses text.put_front.spec
   pub text·put-after : Once M text.put_after.ended text.put_after.clauses text.put_after.spec
   pub listing·run : Once M listing.run.ended listing.run.clauses listing.run.spec
+
+-- ---- image: the whole bench as an image, with the buffer that is lent back
+
+pub record ImageOnce (M : Type 1) : Type 2 where
+  pub image·save : Once M image.save.ended image.save.clauses image.save.spec
+  pub image·restore : Once M image.restore.ended image.restore.clauses image.restore.spec
 
 -- ---- lesson: a text, with the buffer that is lent back
 

@@ -2,7 +2,9 @@
 use Rattle.demands.specs.Contracts.{ContractsSay}
 use Rattle.demands.specs.Demand1.{Demand1, OnlyFFF, OneRefusal}
 use Rattle.demands.specs.Demand2.{Demand2, Demand2Listed}
+use Rattle.demands.specs.Demand2Items.{Demand2Items}
 use Rattle.demands.specs.Demand3.{Demand3, Demand3FromPowerUp}
+use Rattle.demands.specs.Demand3Restores.{StartsAnew, Demand3FromItems}
 use Rattle.demands.specs.SeatLedger.{SeatLedger, SeatLedgerFromPowerUp}
 use Rattle.demands.specs.SheetMeant.{SheetMeant}
 use Rattle.demands.specs.WrongPrograms.{ShutOut, LetIn}
@@ -18,8 +20,11 @@ pub record Statements : Type 0 where
   pub one-refusal : OneRefusal
   pub demand-2 : Demand2
   pub demand-2-listed : Demand2Listed
+  pub demand-2-items : Demand2Items
   pub demand-3 : Demand3
   pub demand-3-from-power-up : Demand3FromPowerUp
+  pub starts-anew : StartsAnew
+  pub demand-3-from-items : Demand3FromItems
   pub seat-ledger : SeatLedger
   pub seat-ledger-from-power-up : SeatLedgerFromPowerUp
   pub sheet-meant : SheetMeant

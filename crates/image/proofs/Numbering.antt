@@ -13,7 +13,7 @@ use Rattle.base.specs.declared.Answer.the-variants.{Done, Refused}
 use Rattle.base.specs.Answers.{refusalOf}
 use Rattle.base.specs.Pick.{pick}
 use Rattle.base.specs.PickLaws.{pick-true, pick-false, either-way}
-use Rattle.base.specs.Refusals.{Ground, firstHeld}
+use Rattle.base.specs.Refusals.{Ground, NoRoom, firstHeld}
 use Rattle.bench.specs.declared.Bench.{Bench}
 use Rattle.image.specs.Layout.{imageLength}
 use Rattle.image.specs.Numbers.{Grounds, Numbers, SaveNumbers}
@@ -54,16 +54,23 @@ no-room l at short = by (leb at (length l)) refl
 pub has-room : (l : List ℕ) (at : ℕ) → at + imageLength ≤ length l → roomFor imageLength l at ≡ true
 has-room l at fits = rw (le-leb at (length l) (omega (arith, fits)), le-leb imageLength (length l - at) (omega (arith, fits)))
 
-pub save-refused : (b : Bench) (at : ℕ) (l l′ : List ℕ) (r : Answer) → Saves b at l l′ r → length l < at + imageLength → refusalOf r ≡ 12
+-- the answer is one of two
+pub refused-so : (b : Bench) (at : ℕ) (l l′ : List ℕ) (r : Answer) → Saves b at l l′ r → length l < at + imageLength → r ≡ Refused NoRoom
+refused-so b at l l′ r s short = s .answer ∙ pick-false _ _ _ (no-room l at short)
+
+pub taken-so : (b : Bench) (at : ℕ) (l l′ : List ℕ) (r : Answer) → Saves b at l l′ r → at + imageLength ≤ length l → r ≡ Done
+taken-so b at l l′ r s fits = s .answer ∙ pick-true _ _ _ (has-room l at fits)
+
+save-refused : (b : Bench) (at : ℕ) (l l′ : List ℕ) (r : Answer) → Saves b at l l′ r → length l < at + imageLength → refusalOf r ≡ 12
 unfolding refusalOf
-save-refused b at l l′ r s short = ap refusalOf (s .answer ∙ pick-false _ _ _ (no-room l at short))
+save-refused b at l l′ r s short = ap refusalOf (refused-so b at l l′ r s short)
 
 pub save-taken : (b : Bench) (at : ℕ) (l l′ : List ℕ) (r : Answer) → Saves b at l l′ r → at + imageLength ≤ length l → refusalOf r ≡ 0
 unfolding refusalOf
-save-taken b at l l′ r s fits = ap refusalOf (s .answer ∙ pick-true _ _ _ (has-room l at fits))
+save-taken b at l l′ r s fits = ap refusalOf (taken-so b at l l′ r s fits)
 
 -- a save that is not refused so had room
-unless : (n m : ℕ) → (m < n → ⊥) → n ≤ m
+pub unless : (n m : ℕ) → (m < n → ⊥) → n ≤ m
 unless n m none = ⊎-elim (λ (e : ltb m n ≡ true). absurd (none (ltb-true m n e))) (λ (e : ltb m n ≡ false). ltb-false m n e) (either-way (ltb m n))
 
 pub room-of : (b : Bench) (at : ℕ) (l l′ : List ℕ) (r : Answer) → Saves b at l l′ r → refusalOf r ≡ 0 → at + imageLength ≤ length l

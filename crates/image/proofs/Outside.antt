@@ -36,7 +36,7 @@ use Rattle.image.specs.Refusals.{marked, versionOf, controllerInRange, l
 use Rattle.image.specs.ThereAndBack.{Stretches, Placed, PowerUpImage, Outside, Stays}
 use Rattle.image.specs.Written.{header, controllerBytes, recordsOf, imageOf, roomFor, Saves}
 use Rattle.image.specs.WrittenLaws.{records-length, image-length}
-use Rattle.image.proofs.Numbering.{room-of, save-refused, save-taken}
+use Rattle.image.proofs.Numbering.{save-taken}
 
 -- ---- in its place
 

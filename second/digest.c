@@ -1,0 +1,27 @@
+#include "digest.h"
+
+/* TRIALS.md: the largest prime below 2 to the 31. */
+#define DIGEST_PRIME 2147483647U
+#define DIGEST_FACTOR 1000003U
+
+uint64_t digest_add(uint64_t digest, uint64_t value)
+{
+    return (digest * DIGEST_FACTOR + value + 1U) % DIGEST_PRIME;
+}
+
+uint64_t digest_outcome(uint64_t digest, struct bench *bench, struct event event)
+{
+    struct outcome outcome = bench_event(bench, event);
+    unsigned refusal = (unsigned)outcome.refusal;
+    return digest_add(digest, refusal * 8192U + outcome.answer * 2U + bench_output(bench));
+}
+
+uint64_t digest_event(uint64_t digest, struct bench *bench, struct event event)
+{
+    digest = digest_outcome(digest, bench, event);
+    for (unsigned line = 0; line <= LINES; line += 1) {
+        struct outcome place = bench_place(bench, line);
+        digest = digest_add(digest, (unsigned)place.refusal * 4096U + place.answer);
+    }
+    return digest;
+}

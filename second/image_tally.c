@@ -1,0 +1,106 @@
+#include "image_tally.h"
+
+#include <inttypes.h>
+#include <stdbool.h>
+#include <stdio.h>
+
+#define DAMAGES_LEAST 200000U
+
+#define GROUND_WORDS(name, words) words,
+static const char *const ground_words[] = {GROUND_ITEMS(GROUND_WORDS)};
+
+/* The same field of every seat is one. */
+static unsigned field_of(unsigned at)
+{
+    if (at < IMAGE_AT_SEATS)
+        return at;
+    return IMAGE_AT_SEATS + (at - IMAGE_AT_SEATS) % IMAGE_SEAT_BYTES;
+}
+
+void image_tally_stop(struct image_tally *tally, const uint8_t image[IMAGE_BYTES])
+{
+    tally->stops += 1;
+    for (unsigned i = 0; i < IMAGE_BYTES; i += 1)
+        if (image[i] != 0)
+            tally->held[field_of(i)] += 1;
+}
+
+static void tally_grounds(struct image_tally *tally, const uint8_t *image)
+{
+    uint64_t grounds = image_grounds(image);
+    for (unsigned i = 0; i < GROUNDS; i += 1)
+        if (grounds == UINT64_C(1) << i)
+            tally->alone[i] += 1;
+}
+
+static bool has_bytes(const struct damage *damage, size_t bytes)
+{
+    return damage->place <= damage->length && damage->length - damage->place >= bytes;
+}
+
+static void tally_refusal_12(struct image_tally *tally, const struct damage *damage)
+{
+    if (has_bytes(damage, IMAGE_HEADER_BYTES))
+        tally->too_short_for_version += 1;
+    else
+        tally->too_short_for_header += 1;
+}
+
+void image_tally_damage(struct image_tally *tally, const struct damage *damage)
+{
+    tally->damages += 1;
+    if (has_bytes(damage, IMAGE_BYTES) && damage->position < IMAGE_BYTES)
+        tally->wounded[damage->position] += 1;
+    switch (damage->refusal) {
+    case REFUSAL_NONE: tally->read += 1; break;
+    case REFUSAL_NO_ROOM: tally_refusal_12(tally, damage); break;
+    case REFUSAL_NO_MARK: tally->wrong_mark += 1; break;
+    case REFUSAL_NO_VERSION: tally->unknown_version += 1; break;
+    default:
+        tally->no_bench += 1;
+        tally_grounds(tally, damage->lent + damage->place);
+    }
+}
+
+/* Not 0 if there are fewer than there are to be; at least one is to be. */
+static int print_some(uint64_t number, uint64_t least, const char *before, const char *words)
+{
+    printf("%10" PRIu64 "  %s%s\n", number, before, words);
+    return number == 0 || number < least ? 1 : 0;
+}
+
+static int print_item(uint64_t number, const char *before, const char *words)
+{
+    return print_some(number, 1, before, words);
+}
+
+static uint64_t least_of(const uint64_t *numbers, size_t count)
+{
+    uint64_t least = numbers[0];
+    for (size_t i = 1; i < count; i += 1)
+        if (numbers[i] < least)
+            least = numbers[i];
+    return least;
+}
+
+int image_tally_print(const struct image_tally *tally)
+{
+    const uint64_t *held = tally->held + IMAGE_HEADER_BYTES;
+    uint64_t least_held = least_of(held, IMAGE_FIELD_BYTES - IMAGE_HEADER_BYTES);
+    int result = 0;
+    result |= print_item(tally->stops, "stops with a saved bench", "");
+    result |= print_item(least_held, "saved benches ", "with something in the field most often 0");
+    result |= print_some(tally->damages, DAMAGES_LEAST, "damaged images", "");
+    result |= print_item(tally->read, "damaged images ", "read");
+    result |= print_some(tally->written_back, tally->read, "damaged images ",
+                         "written back as read");
+    result |= print_item(tally->too_short_for_header, "refusal 12, ", "below 5 bytes");
+    result |= print_item(tally->too_short_for_version, "refusal 12, ", "shorter than its version");
+    result |= print_item(tally->wrong_mark, "refusal 13", "");
+    result |= print_item(tally->unknown_version, "refusal 14", "");
+    result |= print_item(tally->no_bench, "refusal 15", "");
+    for (unsigned i = 0; i < GROUNDS; i += 1)
+        result |= print_item(tally->alone[i], "refusal 15, alone to blame: ", ground_words[i]);
+    return result | print_item(least_of(tally->wounded, IMAGE_BYTES), "wounds ",
+                               "of the byte that has the fewest of its own");
+}

@@ -1,0 +1,45 @@
+#ifndef IMAGE_TALLY_H
+#define IMAGE_TALLY_H
+
+#include <stdint.h>
+
+#include "image.h"
+#include "image_grounds.h"
+
+/* The header, the controller and one seat. */
+#define IMAGE_FIELD_BYTES ((unsigned)IMAGE_AT_SEATS + (unsigned)IMAGE_SEAT_BYTES)
+
+/* What the trials of saved benches reach. */
+struct image_tally {
+    uint64_t stops;
+    uint64_t held[IMAGE_FIELD_BYTES]; /* the byte was not 0 in a saved bench, of any seat */
+    uint64_t damages;
+    uint64_t read;
+    uint64_t written_back; /* as they were read */
+    uint64_t too_short_for_header;
+    uint64_t too_short_for_version;
+    uint64_t wrong_mark;
+    uint64_t unknown_version;
+    uint64_t no_bench;
+    uint64_t alone[GROUNDS];          /* the ground was the only one */
+    uint64_t wounded[IMAGE_BYTES];    /* the byte was the only one, and all was lent */
+};
+
+/* A damaged image as it was lent, and what came of it. The position is that of
+   its only wound; IMAGE_BYTES if there were two. */
+struct damage {
+    const uint8_t *lent;
+    size_t length;
+    uint64_t place;
+    unsigned position;
+    enum refusal refusal;
+};
+
+void image_tally_stop(struct image_tally *tally, const uint8_t image[IMAGE_BYTES]);
+void image_tally_damage(struct image_tally *tally, const struct damage *damage);
+
+/* Prints it; not 0 if something is not reached, if there are fewer damaged
+   images than there are to be, or if one was written back otherwise than read. */
+int image_tally_print(const struct image_tally *tally);
+
+#endif

@@ -1,0 +1,209 @@
+#include "image_trial.h"
+
+#include <string.h>
+
+#include "digest.h"
+#include "starts.h"
+#include "stream.h"
+#include "wounds.h"
+
+#define EVENTS_BETWEEN_STOPS 100U
+#define DAMAGES 128U
+#define EVENTS_AFTER_DAMAGE 100U
+#define EVENTS_ON_MOST 64U
+#define KEPT_EACH 8U
+
+#define BUFFER_BYTES 600U
+#define BUFFER_FILL 165
+#define PLACES (BUFFER_BYTES - IMAGE_BYTES + 1U)
+
+/* A place past every end, and in the buffer once cut to 16 bits. */
+#define FAR 65536U
+
+/* Places with 8 bytes behind them, and fewer, and none. */
+#define NEAR_END (BUFFER_BYTES - 8U)
+
+const struct trial image_trials[IMAGE_TRIALS] = {
+    {101, 20000, 0, 0}, {102, 20000, 0, 0}, {103, 20000, 0, 0}, {104, 20000, 0, 0},
+    {105, 20000, 0, 0}, {106, 20000, 0, 0}, {107, 20000, 0, 0}, {108, 20000, 0, 0},
+};
+
+struct buffer {
+    uint8_t bytes[BUFFER_BYTES];
+};
+
+/* How much of a buffer is lent, and the place named in it. */
+struct lending {
+    size_t length;
+    uint64_t place;
+};
+
+struct image_trial {
+    struct stream stream;
+    struct stream picker; /* only its x is used */
+    struct bench bench;
+    struct bench other;
+    uint64_t stops;
+    uint64_t digest;
+    struct image_tally *tally;
+};
+
+/* The image of a stop. */
+struct kept {
+    struct buffer buffer;
+    unsigned place;
+};
+
+static unsigned pick(struct image_trial *trial, unsigned below)
+{
+    return stream_draw(&trial->picker, below);
+}
+
+static void add(struct image_trial *trial, uint64_t value)
+{
+    trial->digest = digest_add(trial->digest, value);
+}
+
+/* Four bytes at a time, the first the least. */
+static void add_buffer(struct image_trial *trial, const struct buffer *buffer)
+{
+    for (unsigned i = 0; i < BUFFER_BYTES; i += 4) {
+        uint64_t word = 0;
+        for (unsigned byte = 4; byte > 0; byte -= 1)
+            word = word * 256U + buffer->bytes[i + byte - 1];
+        add(trial, word);
+    }
+}
+
+static struct buffer save(struct image_trial *trial, const struct bench *bench,
+                          struct lending lending)
+{
+    struct buffer buffer;
+    memset(buffer.bytes, BUFFER_FILL, BUFFER_BYTES);
+    add(trial, image_save(bench, buffer.bytes, lending.length, lending.place));
+    add_buffer(trial, &buffer);
+    return buffer;
+}
+
+static struct kept keep(struct image_trial *trial, const struct bench *bench, unsigned place)
+{
+    return (struct kept){save(trial, bench, (struct lending){BUFFER_BYTES, place}), place};
+}
+
+static void ahead(struct image_trial *trial, struct bench *bench, unsigned events)
+{
+    struct stream copy = trial->stream;
+    for (unsigned i = 0; i < events; i += 1)
+        trial->digest = digest_outcome(trial->digest, bench, stream_next(&copy));
+}
+
+/* TRIALS.md, A stop, step 1: the ways of having no room for an image. */
+static struct lending no_room(unsigned way, unsigned spot, unsigned place)
+{
+    switch (way) {
+    case 0: return (struct lending){spot, 0};
+    case 1: return (struct lending){BUFFER_BYTES, PLACES + spot};
+    case 2: return (struct lending){BUFFER_BYTES, FAR + spot};
+    default: return (struct lending){place + IMAGE_BYTES - 1U, place};
+    }
+}
+
+/* TRIALS.md, A damage, step 2: most are lent as they are. */
+static struct lending damage_lending(unsigned way, unsigned spot, unsigned place)
+{
+    switch (way) {
+    case 0: return (struct lending){place + spot, place};
+    case 1: return (struct lending){BUFFER_BYTES, place + spot};
+    case 2: return (struct lending){BUFFER_BYTES, FAR + spot};
+    case 3: return (struct lending){BUFFER_BYTES, NEAR_END + spot % 16U};
+    default: return (struct lending){BUFFER_BYTES, place};
+    }
+}
+
+/* Gives the position of the only wound; IMAGE_BYTES if there are two. */
+static unsigned wound_once_or_twice(struct image_trial *trial, uint8_t *image)
+{
+    bool twice = pick(trial, 4) == 0;
+    unsigned position = wound(&trial->picker, image);
+    if (!twice)
+        return position;
+    wound(&trial->picker, image);
+    return IMAGE_BYTES;
+}
+
+/* The copy of the image is damaged and restored. */
+static enum refusal restore_damaged(struct image_trial *trial, struct kept *copy)
+{
+    unsigned position = wound_once_or_twice(trial, copy->buffer.bytes + copy->place);
+    unsigned way = pick(trial, 24);
+    struct lending lending = damage_lending(way, pick_spot(&trial->picker), copy->place);
+    const uint8_t *bytes = copy->buffer.bytes;
+    enum refusal refusal = image_restore(&trial->other, bytes, lending.length, lending.place);
+    if (trial->tally != NULL)
+        image_tally_damage(trial->tally, &(struct damage){bytes, lending.length, lending.place,
+                                                          position, refusal});
+    return refusal;
+}
+
+/* S81: an image that is read is written back as it was, damaged or not. */
+static void compare_back(struct image_trial *trial, const struct kept *read,
+                         const struct kept *back)
+{
+    bool same = memcmp(read->buffer.bytes, back->buffer.bytes, BUFFER_BYTES) == 0;
+    if (trial->tally != NULL && same)
+        trial->tally->written_back += 1;
+}
+
+static void damage(struct image_trial *trial, const struct kept *kept, unsigned number)
+{
+    struct kept copy = *kept;
+    enum refusal refusal = restore_damaged(trial, &copy);
+    bool is_read = refusal == REFUSAL_NONE;
+    add(trial, refusal);
+    if (is_read || number % KEPT_EACH == 0) {
+        struct kept back = keep(trial, &trial->other, kept->place);
+        if (is_read)
+            compare_back(trial, &copy, &back);
+    }
+    if (is_read)
+        ahead(trial, &trial->other, EVENTS_AFTER_DAMAGE);
+}
+
+/* TRIALS.md, A stop. */
+static void stop(struct image_trial *trial)
+{
+    unsigned way = pick(trial, 4);
+    unsigned spot = pick_spot(&trial->picker);
+    unsigned place = pick(trial, PLACES);
+    save(trial, &trial->bench, no_room(way, spot, place));
+
+    struct kept kept = keep(trial, &trial->bench, place);
+    if (trial->tally != NULL)
+        image_tally_stop(trial->tally, kept.buffer.bytes + place);
+    ahead(trial, &trial->bench, 1U + pick(trial, EVENTS_ON_MOST));
+    if (trial->stops % 2 == 1)
+        trial->bench = trial->other;
+    add(trial, image_restore(&trial->bench, kept.buffer.bytes, BUFFER_BYTES, place));
+
+    trial->other = trial->bench;
+    for (unsigned i = 0; i < DAMAGES; i += 1)
+        damage(trial, &kept, i);
+    trial->stops += 1;
+}
+
+uint64_t image_trial_digest(struct trial asked, struct image_tally *tally)
+{
+    struct image_trial trial = {
+        .stream = stream_begin(asked.seed, asked.set),
+        .picker = stream_begin(UINT32_MAX - asked.seed, asked.set),
+        .bench = starts[asked.start](),
+        .other = starts[asked.start](),
+        .tally = tally,
+    };
+    for (uint64_t i = 1; i <= asked.count; i += 1) {
+        trial.digest = digest_event(trial.digest, &trial.bench, stream_next(&trial.stream));
+        if (i % EVENTS_BETWEEN_STOPS == 0)
+            stop(&trial);
+    }
+    return trial.digest;
+}
