@@ -49,7 +49,7 @@ class Streams(Start):
     def test_standard_error_that_is_closed(self):
         self.assertEqual(self.closed("2>&-", "lesson.hex"), (0, "given lesson.hex\n", ""))
         self.assertEqual(self.asked(), ["check bench_main"])
-        self.script("target/bin/bench_main", "#!/bin/sh\necho a fault >&2\n")
+        self.script("target/bin/bench_main", "#!/bin/sh\nprintf '\\001a fault\\n' >&2\n")
         self.assertEqual(self.closed("2>&-", "lesson.hex"), (1, "", ""))
         self.assertEqual(self.closed("<&- >&- 2>&-"), (1, "", ""))
 
@@ -81,9 +81,12 @@ class Words(Start):
         for told, *wrong in (
                 ("there is no option --lesson", ("--lesson",), ("--lesson", "lesson.hex")),
                 ("there is no option -", ("-",)),
-                ("-- is followed by a lesson's name", ("--",)),
-                ("a lesson's name is empty", ("",), ("--", "")),
-                ("one lesson at a time", ("lesson.hex", "lesson.hex"), ("--", "lesson.hex", "lesson.hex"), ("", "")),
+                ("too few words behind --", ("--",), ("lesson.hex", "--")),
+                ("too few words behind --save-at", ("--save-at",), ("--save-at", "3"), ("lesson.hex", "--save-at", "end")),
+                ("too few words behind --restore", ("--restore",), ("--save-at", "3", "a", "--restore")),
+                ("a lesson's name is empty", ("",), ("--", ""), ("--save-at", "", "", "")),
+                ("one lesson at a time", ("lesson.hex", "lesson.hex"), ("--", "lesson.hex", "lesson.hex"), ("lesson.hex", ""),
+                 ("lesson.hex", "--save-at", "3", "a", "--", "lesson.hex")),
                 ("--settings is followed by a clock, and by nothing else", ("--settings",), ("--settings", "0", "1"),
                  ("--settings", "0", "lesson.hex")),
                 ("a clock is a decimal number", ("--settings", ""), ("--settings", "x"), ("--settings", "-1"), ("--settings", "+1"),
@@ -91,16 +94,18 @@ class Words(Start):
                  ("--settings", "\u0661"), ("--settings", "1\n")),
                 ("--settings-write stands alone", ("--settings-write", "0"), ("--settings-write", "")),
                 ("there is no option --settings=0", ("--settings=0",)),
-                ("one lesson at a time", ("lesson.hex", "--settings")),
+                ("--settings stands without a lesson and without options", ("lesson.hex", "--settings"), ("--save-at", "3", "a", "--settings", "0")),
+                ("--help stands without a lesson and without options", ("lesson.hex", "--help")),
+                ("there is no option --save-at=3", ("--save-at=3", "a")),
                 ("--help stands alone", ("--help", "me"), ("--help", "--settings"))):
             for words in wrong:
                 status, listing, said = self.run_it(*words)
                 self.assertEqual((status, listing), (2, ""), words)
-                self.assertTrue(said.startswith(f"bench: {told}\nusage: bench [--] LESSON >LISTING\n"), (words, said[:80]))
+                self.assertTrue(said.startswith(f"bench: {told}\nusage: bench [OPTIONS] [--] LESSON >LISTING\n"), (words, said[:80]))
 
     def test_help(self):
         status, said, _ = self.run_it("--help")
-        self.assertEqual((status, said[:34]), (0, "usage: bench [--] LESSON >LISTING\n"))
+        self.assertEqual((status, said.split("\n")[0]), (0, "usage: bench [OPTIONS] [--] LESSON >LISTING"))
         self.assertEqual(self.run_it("-h")[1], said)
 
     def test_missing_toolchain_is_told_first(self):
@@ -109,6 +114,77 @@ class Words(Start):
         status, listing, said = self.run_it("lesson.hex", settings={"PATH": path})
         self.assertEqual((status, listing), (2, ""))
         self.assertRegex(said, r"^The Rattle toolchain is missing: [^\n]* README\.md says where it belongs\.\n$")
+
+
+class Options(Start):
+    """Which word is the lesson is known by how many words follow each option; all of them go to the program."""
+
+    def setUp(self):
+        super().setUp()
+        self.built()
+        self.write("image", "BEN")
+
+    def goes(self, *words):
+        self.assertEqual(self.run_it(*words), (0, f"given {' '.join(words)}\n", ""))
+
+    def test_any_order(self):
+        save, restore = ("--save-at", "3", "saved"), ("--restore", "image")
+        for words in ((*save, "lesson.hex"), ("lesson.hex", *save), (*restore, "lesson.hex", *save, *save), ("lesson.hex", *restore),
+                      (*save, "--", "lesson.hex"), ("--", "lesson.hex", *restore)):
+            self.goes(*words)
+
+    def test_words_behind_an_option_are_no_options_and_no_lessons(self):
+        self.goes("--save-at", "--", "--restore", "lesson.hex")
+        self.goes("--save-at", "none", "none", "lesson.hex")
+
+    def test_records_without_a_lesson(self):
+        self.assertEqual(self.run_it("--restore", "image", given="ab"), (0, "given --restore image\nab", ""))
+
+    def test_saved_bench_that_cannot_be_read(self):
+        for words in (("--restore", "none"), ("--restore", "none", "lesson.hex"), ("lesson.hex", "--save-at", "3", "a", "--restore", "none")):
+            self.assertEqual(self.run_it(*words), (1, "", "none: No such file or directory\n"))
+        self.assertEqual(self.run_it("--restore", "bin"), (1, "", "bin: Is a directory\n"))
+
+    def test_nothing_is_built_for_it(self):
+        (self.root / "target/bin/bench_main").unlink()
+        self.test_saved_bench_that_cannot_be_read()
+        self.test_target_that_would_be_lost()
+        self.assertEqual(self.asked(), [])
+
+    def test_target_that_would_be_lost(self):
+        os.mkfifo(self.root / "pipe")
+        for name in ("bin", "pipe", "/dev/null"):
+            self.assertEqual(self.run_it("--save-at", "end", name, "lesson.hex"), (1, "", f"bench: {name} is no file that could be written anew\n"))
+        os.unlink(self.root / "pipe")
+
+    def test_saved_bench_through_a_pipe(self):
+        os.mkfifo(self.root / "pipe")
+        self.goes("--restore", "pipe", "lesson.hex")
+
+
+class Marks(Start):
+    """A byte before a line on standard error says what it is."""
+
+    def says(self, text, status, told):
+        for program, words in (("bench_main", ("lesson.hex",)), ("sheets_main", ("--settings-write",))):
+            self.script(f"target/bin/{program}", f"#!/bin/sh\necho listed\nprintf '{text}' >&2\n")
+            found = self.run_it(*words)
+            self.assertEqual((*found[:2], found[2].split("usage: ")[0], "usage: " in found[2]), (status, "listed\n", told, status == 2), text)
+
+    def test_fault(self):
+        self.says(r"\001a fault\n", 1, "a fault\n")
+        self.says(r"\001a fault\n\001another\n", 1, "a fault\nanother\n")
+
+    def test_wrong_words(self):
+        self.says(r"\002wrong\n", 2, "wrong\n")
+        self.says(r"\001a fault\n\002wrong\n", 2, "a fault\nwrong\n")
+
+    def test_report(self):
+        self.says(r"a report\nof two lines\n", 0, "a report\nof two lines\n")
+        self.says(r"a report\n\001a fault\n", 1, "a report\na fault\n")
+
+    def test_mark_within_a_line_is_none(self):
+        self.says(r"a \001name \002\n", 0, "a \1name \2\n")
 
 
 class Sheets(Start):
@@ -139,7 +215,7 @@ class Sheets(Start):
             self.assertEqual(self.run_it("--settings", clock, given=""), (0, f"given --settings {clock}\n", ""))
 
     def test_word_on_standard_error_is_a_fault(self):
-        self.script("target/bin/sheets_main", "#!/bin/sh\necho an answer\necho a fault >&2\n")
+        self.script("target/bin/sheets_main", "#!/bin/sh\necho an answer\nprintf '\\001a fault\\n' >&2\n")
         self.assertEqual(self.run_it("--settings-write"), (1, "an answer\n", "a fault\n"))
 
     def test_signal_is_told_without_a_hint_on_lessons(self):
@@ -267,10 +343,10 @@ class Stack(Start):
     def test_too_small_a_stack_is_told_for_a_long_lesson(self):
         self.write("long.hex", 65536 * "#")
         self.write("usual.hex", 65535 * "#")
-        told = "bench: the stack is limited to {} KiB here; a lesson of more than 65535 bytes needs 18944\n"
+        told = "bench: the stack is limited to {} KiB here; a lesson of more than 65535 bytes needs 19456\n"
         self.assertEqual(self.limited(8192, 8192, "long.hex"), ("8192", told.format(8192)))
-        self.assertEqual(self.limited(8192, 18943, "--", "long.hex"), ("18943", told.format(18943)))
-        self.assertEqual(self.limited(8192, 18944, "long.hex"), ("18944", ""))
+        self.assertEqual(self.limited(8192, 19455, "--", "long.hex"), ("19455", told.format(19455)))
+        self.assertEqual(self.limited(8192, 19456, "long.hex"), ("19456", ""))
         self.assertEqual(self.limited(8192, 8192, "usual.hex"), ("8192", ""))
         self.assertEqual(self.limited(8192, 8192), ("8192", ""))
 
@@ -284,7 +360,7 @@ class Signal(Start):
 
     def test_signal_is_told(self):
         for name, number in (("SEGV", 11), ("KILL", 9)):
-            told = f"bench: the program was ended by signal {number}; a long lesson needs a stack of 18944 KiB (ulimit -s)\n"
+            told = f"bench: the program was ended by signal {number}; a long lesson needs a stack of 19456 KiB (ulimit -s)\n"
             self.assertEqual(self.run_it("lesson.hex", settings={"SIGNAL": name}), (1, "", told))
 
     def test_listing_without_a_reader_is_no_fault(self):

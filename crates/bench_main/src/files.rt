@@ -1,5 +1,4 @@
-// What the program reads and writes.
-use libc::STDERR_FILENO;
+// What the program reads, and its room for what it writes.
 ghost use mathlib.Core.Path.{_≡_};
 ghost use Prim.Native.Nat.{_≤_};
 ghost use lib.ListN.{length};
@@ -9,10 +8,6 @@ pub(crate) fn lines() -> [u8; 524288]
     ensures { λ r. ⌜ 524288 ≡ length r ⌝ }
 {
     [0u8; 524288]
-}
-
-pub(crate) fn write_failed() {
-    io::write_all(STDERR_FILENO, b"bench: the listing could not be written\n");
 }
 
 // A read that failed is told from the end of input, at which `end` does not move.
@@ -34,4 +29,20 @@ pub(crate) fn fill(block: &mut [u8], end: usize, fd: i32) -> Filled
         failed: false,
         end: end + io::count(got, &block[end..]),
     }
+}
+
+// Reads behind `start` until the file ends, the buffer is full or a read fails.
+pub(crate) fn read_on(fd: i32, text: &mut [u8], start: usize) -> Filled
+    requires { ⌜ start ≤ length (now text) ⌝ }
+    ensures { λ r. ⌜ r .end ≤ length (now (text .entry)) ⌝ }
+{
+    let mut end = start;
+    while end < text.len() {
+        let filled = fill(&mut *text, end, fd);
+        if filled.failed | (filled.end == end) {
+            return filled;
+        }
+        end = filled.end;
+    }
+    Filled { failed: false, end }
 }

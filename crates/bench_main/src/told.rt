@@ -1,4 +1,7 @@
-// What is said where no lesson is run.
+// What is said on standard error. A byte 1 stands before each fault, a byte 2 before words that are wrong, and none before a report: by these `bench`
+// knows its status.
+use crate::words;
+use base::Answer;
 use lesson::Cause;
 use libc::STDERR_FILENO;
 
@@ -6,9 +9,74 @@ fn say(words: &[u8]) {
     io::write_all(STDERR_FILENO, words);
 }
 
-pub(crate) fn usage() {
-    say(b"usage: bench [[--] LESSON]\n");
+fn say_fault(words: &[u8]) {
+    say(b"\x01");
+    say(words);
 }
+
+// A call to the system failed, as errno has it.
+pub(crate) fn failed(what: &[u8]) {
+    say_fault(b"");
+    os::fail(what);
+}
+
+pub(crate) fn not_written() {
+    say_fault(b"bench: the listing could not be written\n");
+}
+
+pub(crate) fn input_failed() {
+    say_fault(b"bench: standard input could not be read\n");
+}
+
+// ---- words
+
+// At place 0, which no word has, one is missing behind the last.
+pub(crate) fn wrong_words(place: usize) {
+    let mut word = words::long_word();
+    let length = os::arg(place, &mut word);
+    say(b"\x02");
+    if place == 0 {
+        say(b"bench: a word is missing at the end\n");
+        return;
+    }
+    say(b"bench: not understood: ");
+    say(&word[..length]);
+    say(b"\n");
+}
+
+// ---- images
+
+fn say_why(refusal: u8) {
+    match refusal {
+        Answer::NO_ROOM => say(b"it is too short for a saved bench"),
+        Answer::WRONG_MARK => say(b"it is no saved bench"),
+        Answer::UNKNOWN_VERSION => say(b"a saved bench of a version that this one does not know"),
+        _ => say(b"a saved bench that cannot be"),
+    }
+}
+
+pub(crate) fn not_restored(path: &[u8], refusal: u8) {
+    say_fault(b"restore ");
+    io::print_decimal(STDERR_FILENO, refusal as u64);
+    say(b"\n");
+    say_fault(path);
+    say(b": ");
+    say_why(refusal);
+    say(b"; nothing was run\n");
+}
+
+pub(crate) fn missed(path: &[u8], records: u64) {
+    say_fault(path);
+    say(b": not saved; the listing has only ");
+    io::print_decimal(STDERR_FILENO, records);
+    say(b" records, numbered from 0\n");
+}
+
+pub(crate) fn long_name() {
+    say_fault(b"bench: the name of a file is too long to save in it\n");
+}
+
+// ---- lessons
 
 fn short_record(bytes: u8) {
     say(b"the record begun here has ");
@@ -28,7 +96,7 @@ fn say_cause(cause: Cause) {
 
 // The place is told as compilers tell it, so that an editor finds it.
 pub(crate) fn fault(path: &[u8], line: usize, column: usize, cause: Cause) {
-    say(path);
+    say_fault(path);
     say(b":");
     io::print_decimal(STDERR_FILENO, line as u64);
     say(b":");
@@ -39,11 +107,11 @@ pub(crate) fn fault(path: &[u8], line: usize, column: usize, cause: Cause) {
 }
 
 pub(crate) fn too_long(path: &[u8]) {
-    say(path);
+    say_fault(path);
     say(b": a lesson has at most 16777215 characters; nothing was run\n");
 }
 
 pub(crate) fn too_many(path: &[u8]) {
-    say(path);
+    say_fault(path);
     say(b": a lesson has at most 262144 records; nothing was run\n");
 }

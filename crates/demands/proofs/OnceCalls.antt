@@ -7,7 +7,7 @@ use Rattle.sheets.specs.OneLaws.{line-one, numbers-one}
 use Rattle.listing.specs.PartLaws.{runs-one}
 use Rattle.lesson.specs.Lesson.{handedOut}
 use Rattle.lesson.specs.declared.Lesson.{Lesson}
-use Rattle.demands.specs.OnceCalls.{BaseOnce, QueueOnce, RatesOnce, SettingLinesOnce, SheetsOnce, RegistersOnce, ReceiverOnce, TransmitterOnce, StatusOnce, ChannelOnce, LendingOnce, SeatOnce, SeatImageOnce, RankOnce}
+use Rattle.demands.specs.OnceCalls.{BaseOnce, QueueOnce, RatesOnce, SettingLinesOnce, SheetsOnce, OptionsOnce, RegistersOnce, ReceiverOnce, TransmitterOnce, StatusOnce, ChannelOnce, LendingOnce, SeatOnce, SeatImageOnce, RankOnce}
 use Rattle.demands.specs.OnceCalls.{ControllerOnce, RecordsOnce, BenchOnce, ListingOnce, ImageOnce, LessonOnce, StreamsOnce, EmbedOnce}
 use Rattle.demands.proofs.Once.{told, unasked, value}
 
@@ -65,6 +65,16 @@ sheets-once M =
       sheets·Numbers·reply = told _ refl (λ κ a r s v w p q.
           let one = numbers-one _ _ _ _ r s p q in (one .0, λ i. (tt, (one .1 i, tt))));
       sheets·read-clock = value _ refl (λ κ a v w. refl);
+    }
+
+pub options-once : (M : Type 1) → OptionsOnce M
+options-once M =
+    record {
+      options·Words·start = value _ refl (λ κ a v w. refl);
+      options·Words·after = value _ refl (λ κ a v w. refl);
+      options·Words·are-whole = value _ refl (λ κ a v w. refl);
+      options·Words·due = value _ refl (λ κ a v w. refl);
+      options·Words·stop = told _ refl (λ κ a r s v w p q. (p .0 ∙ sym (q .0), refl));
     }
 
 pub registers-once : (M : Type 1) → RegistersOnce M

@@ -5,6 +5,7 @@ use Rattle.queue.proofs as queue
 use Rattle.rates.proofs as rates
 use Rattle.setting_lines.proofs as setting_lines
 use Rattle.sheets.proofs as sheets
+use Rattle.options.proofs as options
 use Rattle.registers.proofs as registers
 use Rattle.receiver.proofs as receiver
 use Rattle.transmitter.proofs as transmitter
@@ -71,6 +72,15 @@ pub record SheetsOnce (M : Type 1) : Type 2 where
   pub sheets·Numbers·is-unread : Once M sheets.Numbers.is_unread.ended sheets.Numbers.is_unread.clauses sheets.Numbers.is_unread.spec
   pub sheets·Numbers·reply : Once M sheets.Numbers.reply.ended sheets.Numbers.reply.clauses sheets.Numbers.reply.spec
   pub sheets·read-clock : Once M sheets.read_clock.ended sheets.read_clock.clauses sheets.read_clock.spec
+
+-- ---- options: the program's words, one after the other, and when a save is due
+
+pub record OptionsOnce (M : Type 1) : Type 2 where
+  pub options·Words·start : Once M options.Words.start.ended options.Words.start.clauses options.Words.start.spec
+  pub options·Words·after : Once M options.Words.after.ended options.Words.after.clauses options.Words.after.spec
+  pub options·Words·are-whole : Once M options.Words.are_whole.ended options.Words.are_whole.clauses options.Words.are_whole.spec
+  pub options·Words·due : Once M options.Words.due.ended options.Words.due.clauses options.Words.due.spec
+  pub options·Words·stop : Once M options.Words.stop.ended options.Words.stop.clauses options.Words.stop.spec
 
 -- ---- registers: the settings
 

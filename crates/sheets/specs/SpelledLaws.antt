@@ -7,32 +7,27 @@ use mathlib.Core.Path.{_≡_, refl, ap, _∙_}
 use native.Mathlib.Omega.{arith}
 use lib.Dec.{ltb}
 use lib.ListN.{length}
-use borrow.Author.Tests.{le-leb}
 use Rattle.base.specs.Pick.{pick}
-use Rattle.base.specs.PickLaws.{pick-true}
 use Rattle.base.specs.EveryLaws.{equal-at}
 use Rattle.text.specs.Line.{letterA, numeral, decimal, capital}
 use Rattle.text.specs.DecimalLaws.{front-length}
 use Rattle.text.specs.FormLaws.{denoted, Digits, decimal-denotes, decimal-digits}
 use Rattle.sheets.specs.Limits.{upTo}
 use Rattle.text.specs.Hex.{digit as worth}
+use Rattle.text.specs.HexLaws.{numeral-worth}
 use Rattle.sheets.specs.Numbers.{noNumbers, numbersBehind}
 use Rattle.sheets.specs.FourLaws.{valued, AllDigits, Word, line, ReadAs, words-read}
 
 -- ---- decimal
 
-worth-decimal : (c : ℕ) → 48 ≤ c → c ≤ 57 → worth c ≡ c - 48
-unfolding worth
-worth-decimal c low high = pick-true _ _ _ (rw (le-leb 48 c low) (le-leb c 57 high))
-
 valued-denoted : (n : ℕ) (l : List ℕ) → Digits l → valued 10 n l ≡ denoted n l
 valued-denoted n [] all = refl
 valued-denoted n (c ∷ l) (low, high, all) =
-    ap (λ (w : ℕ). valued 10 (10 * n + w) l) (worth-decimal c low high) ∙ valued-denoted (10 * n + (c - 48)) l all
+    ap (λ (w : ℕ). valued 10 (10 * n + w) l) (numeral-worth c low high) ∙ valued-denoted (10 * n + (c - 48)) l all
 
 all-decimal : (l : List ℕ) → Digits l → AllDigits 10 l
 all-decimal [] all = tt
-all-decimal (c ∷ l) (low, high, all) = (omega (arith, worth-decimal c low high), all-decimal l all)
+all-decimal (c ∷ l) (low, high, all) = (omega (arith, numeral-worth c low high), all-decimal l all)
 
 pub decimal-word : (n : ℕ) → Word 10 (decimal n)
 decimal-word n = record { some = omega (arith, front-length n); digits = all-decimal (decimal n) (decimal-digits n) }

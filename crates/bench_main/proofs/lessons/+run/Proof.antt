@@ -2,25 +2,23 @@ use lib.ListN.{length-take}
 use native.Mathlib.Omega.{arith}
 use lib.Seq.{length-take-le}
 use mathlib.Core.Path.{sym}
-use Prim.Native.Nat.{ℕ, _-_, _<_}
 use borrow.Author.Needs.{needs}
-use Rattle.bench_main.proofs.lessons.is_dashes.Reads as is-dashes-reads
-use Rattle.bench_main.proofs.lessons.play_long.Reads as play-long-reads
-use Rattle.bench_main.proofs.lessons.play_text.Reads as play-text-reads
-use Rattle.bench_main.proofs.lessons.read_on.Reads as read-on-reads
-use Rattle.bench_main.proofs.told.usage.Reads as usage-reads
-use Rattle.io.proofs.buffer.Reads as buffer-reads
-use Rattle.io.proofs.large_buffer.Reads as large-buffer-reads
-use Rattle.libc.proofs.close.Reads as close-reads
-use Rattle.os.proofs.arg.Reads as arg-reads
-use Rattle.os.proofs.errno.Reads as errno-reads
-use Rattle.os.proofs.fail.Reads as fail-reads
-use Rattle.os.proofs.open_read.Reads as open-read-reads
+use Prim.Native.Nat.{ℕ, _-_, _<_}
 use borrow.Fn.Kinds.{In}
 use borrow.Fn.PlainCycle.{Measures, is, falls, and}
 use Rattle.bench_main.proofs.lessons.run.Reads as run
 use Rattle.bench_main.proofs.lessons.run.Kinds as run-kinds
 use Rattle.bench_main.proofs.lessons.+run.Lts-run as run-lts
+use Rattle.bench_main.proofs.files.read_on.Reads as read-on-reads
+use Rattle.bench_main.proofs.lessons.play_long.Reads as play-long-reads
+use Rattle.bench_main.proofs.lessons.play_text.Reads as play-text-reads
+use Rattle.bench_main.proofs.told.failed.Reads as failed-reads
+use Rattle.io.proofs.buffer.Reads as buffer-reads
+use Rattle.io.proofs.large_buffer.Reads as large-buffer-reads
+use Rattle.libc.proofs.close.Reads as close-reads
+use Rattle.os.proofs.arg.Reads as arg-reads
+use Rattle.os.proofs.errno.Reads as errno-reads
+use Rattle.os.proofs.open_read.Reads as open-read-reads
 use Rattle.bench_main.proofs.lessons.+run.{statement}
 use Rattle.bench_main.proofs.lessons.+run.Tie.{close}
 
@@ -44,14 +42,10 @@ callees t = (
   arg-reads.Learnt,
   errno-reads.Asked,
   errno-reads.Learnt,
-  fail-reads.Asked,
-  fail-reads.Learnt,
-  is-dashes-reads.Asked,
-  is-dashes-reads.Learnt,
+  failed-reads.Asked,
+  failed-reads.Learnt,
   run-below t,
   run.Post,
-  usage-reads.Asked,
-  usage-reads.Learnt,
   open-read-reads.Asked,
   open-read-reads.Learnt,
   read-on-reads.Asked,
@@ -79,26 +73,14 @@ run-arg-requires t c κs = search needs
 run-errno-requires : (t : ℕ) → run-lts.Need-errno-requires (callees t) (run-at t) run.Post
 run-errno-requires t c κs = search needs
 
-run-slice-aggregate-fail : (t : ℕ) → run-lts.Need-slice-aggregate-fail (callees t) (run-at t) run.Post
-run-slice-aggregate-fail t c = search needs
+run-slice-aggregate-failed : (t : ℕ) → run-lts.Need-slice-aggregate-failed (callees t) (run-at t) run.Post
+run-slice-aggregate-failed t c = search needs
 
-run-fail-requires : (t : ℕ) → run-lts.Need-fail-requires (callees t) (run-at t) run.Post
-run-fail-requires t c κs = search needs
+run-failed-requires : (t : ℕ) → run-lts.Need-failed-requires (callees t) (run-at t) run.Post
+run-failed-requires t c κs = search needs
 
 run-returns : (t : ℕ) → run-lts.Need-returns (callees t) (run-at t) run.Post
 run-returns t c = search needs
-
-run-array-share-prefix-path : (t : ℕ) → run-lts.Need-array-share-prefix-path (callees t) (run-at t) run.Post
-run-array-share-prefix-path t c = search needs
-
-run-slice-aggregate-name : (t : ℕ) → run-lts.Need-slice-aggregate-name (callees t) (run-at t) run.Post
-run-slice-aggregate-name t c = search needs
-
-run-is-dashes-requires : (t : ℕ) → run-lts.Need-is-dashes-requires (callees t) (run-at t) run.Post
-run-is-dashes-requires t c κs = search needs
-
-run-add-run : (t : ℕ) → run-lts.Need-add-run (callees t) (run-at t) run.Post
-run-add-run t c = search needs
 
 run-run-requires : (t : ℕ) → run-lts.Need-run-requires (callees t) (run-at t) run.Post
 run-run-requires t c κs = search needs
@@ -106,20 +88,20 @@ run-run-requires t c κs = search needs
 run-returns-2 : (t : ℕ) → run-lts.Need-returns-2 (callees t) (run-at t) run.Post
 run-returns-2 t c = search needs
 
-run-usage-requires : (t : ℕ) → run-lts.Need-usage-requires (callees t) (run-at t) run.Post
-run-usage-requires t c κs = search needs
+run-array-share-prefix-path : (t : ℕ) → run-lts.Need-array-share-prefix-path (callees t) (run-at t) run.Post
+run-array-share-prefix-path t c = search needs
 
-run-returns-3 : (t : ℕ) → run-lts.Need-returns-3 (callees t) (run-at t) run.Post
-run-returns-3 t c = search needs
+run-slice-aggregate-name : (t : ℕ) → run-lts.Need-slice-aggregate-name (callees t) (run-at t) run.Post
+run-slice-aggregate-name t c = search needs
 
 run-open-read-requires : (t : ℕ) → run-lts.Need-open-read-requires (callees t) (run-at t) run.Post
 run-open-read-requires t c κs = search needs
 
-run-fail-requires-2 : (t : ℕ) → run-lts.Need-fail-requires-2 (callees t) (run-at t) run.Post
-run-fail-requires-2 t c κs = search needs
+run-failed-requires-2 : (t : ℕ) → run-lts.Need-failed-requires-2 (callees t) (run-at t) run.Post
+run-failed-requires-2 t c κs = search needs
 
-run-returns-4 : (t : ℕ) → run-lts.Need-returns-4 (callees t) (run-at t) run.Post
-run-returns-4 t c = search needs
+run-returns-3 : (t : ℕ) → run-lts.Need-returns-3 (callees t) (run-at t) run.Post
+run-returns-3 t c = search needs
 
 run-slice-aggregate-read-on : (t : ℕ) → run-lts.Need-slice-aggregate-read-on (callees t) (run-at t) run.Post
 run-slice-aggregate-read-on t c = search needs
@@ -127,8 +109,8 @@ run-slice-aggregate-read-on t c = search needs
 run-read-on-requires : (t : ℕ) → run-lts.Need-read-on-requires (callees t) (run-at t) run.Post
 run-read-on-requires t c κs = search needs
 
-run-fail-requires-3 : (t : ℕ) → run-lts.Need-fail-requires-3 (callees t) (run-at t) run.Post
-run-fail-requires-3 t c κs = search needs
+run-failed-requires-3 : (t : ℕ) → run-lts.Need-failed-requires-3 (callees t) (run-at t) run.Post
+run-failed-requires-3 t c κs = search needs
 
 run-array-share-prefix-text : (t : ℕ) → run-lts.Need-array-share-prefix-text (callees t) (run-at t) run.Post
 run-array-share-prefix-text t c = search needs
@@ -149,12 +131,11 @@ run-play-long-requires t c κs = search needs
 run-close-requires : (t : ℕ) → run-lts.Need-close-requires (callees t) (run-at t) run.Post
 run-close-requires t c κs = search needs
 
-run-returns-5 : (t : ℕ) → run-lts.Need-returns-5 (callees t) (run-at t) run.Post
-run-returns-5 t c = search needs
+run-returns-4 : (t : ℕ) → run-lts.Need-returns-4 (callees t) (run-at t) run.Post
+run-returns-4 t c = search needs
 
 pub +run-spec : {M : Type 1} → statement M
-+run-spec =
-    close μ-run λ t. run-lts.spec (callees t)
++run-spec = close μ-run λ t. run-lts.spec (callees t)
     (run-at t)
     run.Post
     (run-buffer-requires t)
@@ -162,27 +143,23 @@ pub +run-spec : {M : Type 1} → statement M
     (run-slice-aggregate-arg t)
     (run-arg-requires t)
     (run-errno-requires t)
-    (run-slice-aggregate-fail t)
-    (run-fail-requires t)
+    (run-slice-aggregate-failed t)
+    (run-failed-requires t)
     (run-returns t)
-    (run-array-share-prefix-path t)
-    (run-slice-aggregate-name t)
-    (run-is-dashes-requires t)
-    (run-add-run t)
     (run-run-requires t)
     (run-returns-2 t)
-    (run-usage-requires t)
-    (run-returns-3 t)
+    (run-array-share-prefix-path t)
+    (run-slice-aggregate-name t)
     (run-open-read-requires t)
-    (run-fail-requires-2 t)
-    (run-returns-4 t)
+    (run-failed-requires-2 t)
+    (run-returns-3 t)
     (run-slice-aggregate-read-on t)
     (run-read-on-requires t)
-    (run-fail-requires-3 t)
+    (run-failed-requires-3 t)
     (run-array-share-prefix-text t)
     (run-slice-aggregate-play-text t)
     (run-play-text-requires t)
     (run-slice-aggregate-play-long t)
     (run-play-long-requires t)
     (run-close-requires t)
-    (run-returns-5 t)
+    (run-returns-4 t)

@@ -21,8 +21,8 @@ slice-aggregate-read-on c = search needs
 read-on-requires : tie.Need-read-on-requires
 read-on-requires c κs = search needs
 
-fail-requires : tie.Need-fail-requires
-fail-requires c κs = search needs
+failed-requires : tie.Need-failed-requires
+failed-requires c κs = search needs
 
 returns : tie.Need-returns
 returns c = search needs
@@ -55,7 +55,7 @@ play-long-spec =
     copy-requires
     slice-aggregate-read-on
     read-on-requires
-    fail-requires
+    failed-requires
     returns
     too-long-requires
     returns-2

@@ -6,8 +6,8 @@ use borrow.Author.Tests.{eqb-false}
 use lib.Dec.{T, eqb}
 use Prim.Native.Nat.{ℕ, _≤_, _-_}
 use borrow.Author.Needs.{needs}
-use Rattle.bench_main.proofs.lessons.read_on.Statement.{statement}
-use Rattle.bench_main.proofs.lessons.read_on.Tie as tie
+use Rattle.bench_main.proofs.files.read_on.Statement.{statement}
+use Rattle.bench_main.proofs.files.read_on.Tie as tie
 
 goes-on : (failed : Bool) (e end : ℕ) → (failed || eqb e end) ≡ false → e ≡ end → ⊥
 goes-on false e end h q = eqb-false e end h q

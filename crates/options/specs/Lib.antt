@@ -1,0 +1,9 @@
+pub mod Moments
+pub mod Words
+pub mod Saves
+pub mod SameLaws
+pub mod SaveMoments
+pub mod WordsRead
+pub mod SavesMade
+pub mod Examples
+pub mod Statements
