@@ -23,11 +23,11 @@ Savings value =
     (b : Bench) (at : ℕ) (l l′ : List ℕ) (r : Answer) → Saves b at l l′ r
     → AnsweredBy value (saveReasons at l) r × ((refusalOf r ≡ 0 → ⊥) → l′ ≡ l)
 
--- "the three letters `BEN`" of ticket 2 are not there
+-- ticket 2: "the three letters `BEN`": they are not there
 abbrev pub NoMark : List ℕ → Type 0
 NoMark p = take 3 p ≡ quoted "BEN" → ⊥
 
--- nor is version 1, which is the only one there is, low byte first
+-- ticket 2: "a 16-bit version (1, low byte first)": another stands there
 abbrev pub NoVersion : List ℕ → Type 0
 NoVersion p = byteAt p 3 + 256 * byteAt p 4 ≡ 1 → ⊥
 

@@ -8,7 +8,8 @@ use Rattle.bench.specs.declared.Outcome.{Outcome}
 use Rattle.bench.specs.Steps.{outcome, shown}
 use Rattle.image.specs.Refusals.{restored}
 
--- an item: a record, or a restore from the bytes of a lent slice at a named place
+-- ticket 2: "Lessons end in mid-upload.": what a lesson is made of then. An item is a record, or a restore from the bytes of a lent slice at a
+-- named place
 pub data Item : Type 0 where
   gives : Record → Item
   restores : List ℕ → ℕ → Item

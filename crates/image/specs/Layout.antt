@@ -5,12 +5,11 @@ use lib.ListN.{take, drop}
 use Rattle.records.specs.Events.{seatCount}
 use Rattle.seat_image.specs.Places.{recordLength}
 
--- ticket 2: "the three letters `BEN`, a 16-bit version (1, low byte first), the controller, then eight seat records of one fixed length"
-
--- mark and version
+-- ticket 2: "the three letters `BEN`, a 16-bit version (1, low byte first)"
 abbrev pub headerLength : ℕ
 headerLength = 5
 
+-- ticket 2: "the controller"
 abbrev pub controllerLength : ℕ
 controllerLength = 11
 
@@ -18,7 +17,7 @@ controllerLength = 11
 abbrev pub frontLength : ℕ
 frontLength = headerLength + controllerLength
 
--- where seat k's record begins
+-- ticket 2: "then eight seat records of one fixed length": where seat k's begins
 abbrev pub recordPlace : ℕ → ℕ
 recordPlace k = frontLength + recordLength * k
 
