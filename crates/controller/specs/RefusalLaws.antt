@@ -11,7 +11,7 @@ use Rattle.base.specs.PickLaws.{pick-true, pick-false, pick-cases, not-both}
 use Rattle.base.specs.declared.Answer.the-variants.{Refused}
 use Rattle.controller.specs.Signals.{Signal, levels, read, write, acknowledge}
 use Rattle.controller.specs.Refusals.{lineAbove, portAbove, notReady, notServed, grounds, refusal, placeRefusal}
-use Rattle.base.specs.Refusals.{Ground, refusalOrder, firstHeld}
+use Rattle.base.specs.Refusals.{refusalOrder, firstHeld}
 use Rattle.base.specs.RefusalLaws.{follows, in-order}
 use Rattle.controller.specs.Steps.{effect, step}
 use Rattle.controller.specs.declared.Controller.{Controller}

@@ -1,4 +1,4 @@
--- The contracts of the three entries are the definitions' results.
+-- The contracts of the entries are the definitions' results.
 use mathlib.Core.Path.{_≡_}
 use Rattle.records.specs.Events.{Record, whole, short}
 use Rattle.bench.specs.declared.Bench.{Bench}
@@ -11,4 +11,4 @@ step-says b (whole kind seat number value) o = (λ e. e, λ e. e)
 step-says b short o = (λ e. e, λ e. e)
 
 pub contracts-say : ContractsSay
-contracts-say = record { step = step-says; place = λ b n a. (λ e. e, λ e. e); divisor = λ rate clock a. (λ e. e, λ e. e) }
+contracts-say = record { step = step-says; place = λ b n a. (λ e. e, λ e. e); divisor = λ rate clock a. (λ e. e, λ e. e); restore = λ κ a e r p. p; save = λ κ a e r p. p }

@@ -1,9 +1,8 @@
 -- Demand 1 holds for settings lines, and with no other value than FFF.
 use Prim.Native.Nat.{ℕ}
-use mathlib.Core.List.{List, [], _∷_}
+use mathlib.Core.List.{List}
 use mathlib.Core.Logic.{inl, inr}
-use mathlib.Core.Path.{_≡_, ap, sym, _∙_}
-use Rattle.base.specs.declared.Answer.{Answer}
+use mathlib.Core.Path.{_≡_, ap}
 use Rattle.base.specs.declared.Answer.the-variants.{Done}
 use Rattle.base.specs.Answers.{refusalOf, valueOf}
 use Rattle.setting_lines.specs.Reading.{Reads}

@@ -15,7 +15,7 @@ use Rattle.demands.specs.Demand2.{Step, Meets}
 abbrev pub Restore : Type 0
 Restore = Bench → List ℕ → ℕ → Restored
 
--- it meets the contract of `image::restore`, for every bench, every slice and every place
+-- it meets the contract of `image::restore`, as `ContractsSay` has it, for every bench, every slice and every place
 abbrev pub MeetsRestore : Restore → Type 0
 MeetsRestore g = (b : Bench) (l : List ℕ) (at : ℕ) → g b l at ≡ restored b (drop at l)
 

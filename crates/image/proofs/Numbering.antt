@@ -13,7 +13,7 @@ use Rattle.base.specs.declared.Answer.the-variants.{Done, Refused}
 use Rattle.base.specs.Answers.{refusalOf}
 use Rattle.base.specs.Pick.{pick}
 use Rattle.base.specs.PickLaws.{pick-true, pick-false, either-way}
-use Rattle.base.specs.Refusals.{Ground, NoRoom, firstHeld}
+use Rattle.base.specs.Refusals.{NoRoom, firstHeld}
 use Rattle.bench.specs.declared.Bench.{Bench}
 use Rattle.image.specs.Layout.{imageLength}
 use Rattle.image.specs.Numbers.{Grounds, Numbers, SaveNumbers}
@@ -80,6 +80,6 @@ room-of b at l l′ r s done =
 pub save-numbers : SaveNumbers
 save-numbers =
     record {
-      refused = save-refused;
-      taken = λ b at l l′ r s enough. save-taken b at l l′ r s (unless (at + imageLength) (length l) enough);
+      refused = refused-so;
+      taken = λ b at l l′ r s enough. taken-so b at l l′ r s (unless (at + imageLength) (length l) enough);
     }

@@ -1,20 +1,19 @@
 -- What stands outside an image, and each part of it in its place.
 use Prim.Native.Nat.{ℕ, zero, suc, _+_, _-_, _*_, _<_, _≤_}
 use mathlib.Core.Bool.{Bool, true, false, _&&_}
-use mathlib.Core.List.{List, [], _∷_, _++_, append-assoc, append-nil}
+use mathlib.Core.List.{List, [], _++_, append-assoc, append-nil}
 use mathlib.Core.Logic.{⊎-elim}
 use mathlib.Core.Path.{_≡_, refl, ap, ap₂, sym, _∙_}
 use native.Mathlib.Nat.{le-of-suc-le-suc, not-suc-le-zero, eq-or-lt-of-le}
 use native.Mathlib.Omega.{arith}
-use lib.Dec.{eqb, leb, ltb}
-use lib.ListN.{length, getD, take, drop, replicate, length-append, length-drop}
-use lib.Seq.{sets, sets-eq, take-at, drop-at, drop-drop, drop-append-add, take-append-le, drop-append-le, length-take-le}
+use lib.Dec.{leb}
+use lib.ListN.{length, getD, take, drop, length-append, length-drop}
+use lib.Seq.{sets, sets-eq, take-at, drop-at, drop-append-add, take-append-le, drop-append-le, length-take-le}
 use borrow.Author.Tests.{le-leb, leb-true, le-ltb}
 use Rattle.base.specs.declared.Answer.{Answer}
-use Rattle.base.specs.Answers.{refusalOf}
 use Rattle.base.specs.Bits.{digit}
 use Rattle.base.specs.Every.{every}
-use Rattle.base.specs.ListLaws.{listed, listed-at, listed-same}
+use Rattle.base.specs.ListLaws.{listed-at, listed-same}
 use Rattle.base.specs.Pick.{pick}
 use Rattle.base.specs.PickLaws.{pick-true, pick-false, both-hold, either-way}
 use Rattle.base.specs.Refusals.{firstHeld}
@@ -22,18 +21,17 @@ use Rattle.seat.specs.declared.Seat.{Seat}
 use Rattle.seat.specs.Seats.{noSeat}
 use Rattle.records.specs.Events.{seatCount}
 use Rattle.bench.specs.declared.Bench.{Bench}
-use Rattle.bench.specs.Seats.{powerUp}
 use Rattle.seat_image.specs.declared.Found.{Found}
 use Rattle.seat_image.specs.Places.{at, recordLength}
 use Rattle.seat_image.specs.Read.{found}
-use Rattle.seat_image.specs.Written.{frontBytes, channelBytes, recordOf, hasRoom}
+use Rattle.seat_image.specs.Written.{frontBytes, channelBytes, recordOf}
 use Rattle.seat_image.specs.WrittenLaws.{record-length}
 use Rattle.image.specs.FieldLaws.{front-written}
 use Rattle.image.specs.Fields.{stretch}
 use Rattle.image.specs.Layout.{imageLength, controllerPart, recordPlace}
 use Rattle.image.specs.Read.{recordAt, seatAt, goodAt, recordsFrom, benchFrom}
-use Rattle.image.specs.Refusals.{marked, versionOf, controllerInRange, latchesAllowed, imageGood, refusal, restored}
-use Rattle.image.specs.ThereAndBack.{Stretches, Placed, PowerUpImage, Outside, Stays}
+use Rattle.image.specs.Refusals.{marked, versionOf, latchesAllowed, imageGood, refusal, restored}
+use Rattle.image.specs.ThereAndBack.{Placed, PowerUpImage, Outside, Stays}
 use Rattle.image.specs.Written.{header, controllerBytes, recordsOf, imageOf, roomFor, Saves}
 use Rattle.image.specs.WrittenLaws.{records-length, image-length}
 use Rattle.image.proofs.Numbering.{save-taken}
@@ -65,7 +63,23 @@ stretch-at b n below =
 
 pub placed : Placed
 unfolding imageOf controllerBytes
-placed b = record { whole = image-length b; header = refl; controller = refl; seats = stretch-at b }
+placed b =
+    record {
+      whole = image-length b;
+      header = refl;
+      stage-5 = refl;
+      level-6 = refl;
+      base-7 = refl;
+      first-8 = refl;
+      mask-9 = refl;
+      service-10 = refl;
+      special-11 = refl;
+      automatic-12 = refl;
+      rotation-13 = refl;
+      selected-14 = refl;
+      latches-15 = refl;
+      seats = stretch-at b;
+    }
 
 pub power-up-image : PowerUpImage
 unfolding imageOf controllerBytes recordsOf recordOf channelBytes frontBytes digit pick

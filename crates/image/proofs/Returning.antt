@@ -1,14 +1,12 @@
 -- There and back.
 use Prim.Native.Nat.{ℕ, _+_, _≤_}
-use mathlib.Core.Bool.{true}
-use mathlib.Core.List.{List, [], _++_, append-nil}
-use mathlib.Core.Path.{_≡_, refl, ap, sym, _∙_}
+use mathlib.Core.List.{List, [], _++_}
+use mathlib.Core.Path.{_≡_, ap, sym, _∙_}
 use native.Mathlib.Omega.{arith}
 use lib.ListN.{length, take, drop}
 use lib.Seq.{sets, take-at, drop-at, length-take-le}
 use borrow.Author.Tests.{ne-eqb}
 use Rattle.base.specs.declared.Answer.{Answer}
-use Rattle.base.specs.declared.Answer.the-variants.{Done}
 use Rattle.base.specs.Answers.{refusalOf}
 use Rattle.base.specs.PickLaws.{pick-true}
 use Rattle.controller.specs.Steps as controller

@@ -1,6 +1,6 @@
 -- The image of a valid bench is read back as that bench, over whatever bench it is read.
 use Prim.Native.Nat.{ℕ, zero, suc, _+_, _-_, _*_, _%_, _<_, _≤_}
-use mathlib.Core.Bool.{Bool, true, false, not, _&&_}
+use mathlib.Core.Bool.{true, _&&_}
 use mathlib.Core.List.{List, [], _∷_, _++_, append-assoc}
 use mathlib.Core.Logic.{⊎-elim}
 use mathlib.Core.Path.{_≡_, refl, ap, ap₂, sym, _∙_}
@@ -9,7 +9,7 @@ use native.Mathlib.Omega.{arith}
 use lib.Dec.{eqb, leb, ltb}
 use lib.ListN.{length, getD, take, drop, length-append}
 use lib.Seq.{sets, sets-eq, drop-at, drop-append-add, length-take-le}
-use borrow.Author.Tests.{eqb-true, eq-eqb, le-leb, leb-true, le-ltb, ltb-true}
+use borrow.Author.Tests.{le-leb, leb-true, ltb-true}
 use Rattle.base.specs.declared.Answer.the-variants.{Done}
 use Rattle.base.specs.Every.{every}
 use Rattle.base.specs.EveryLaws.{every-from}
@@ -31,7 +31,7 @@ use Rattle.seat_image.specs.Places.{recordLength}
 use Rattle.seat_image.specs.Read.{found}
 use Rattle.seat_image.specs.Written.{recordOf}
 use Rattle.seat_image.specs.WrittenLaws.{digit-yes, digit-small, found-written}
-use Rattle.image.specs.Layout.{imageLength, recordPlace}
+use Rattle.image.specs.Layout.{imageLength}
 use Rattle.image.specs.Read.{recordAt, seatAt, goodAt, recordsFrom, controllerFrom, benchFrom}
 use Rattle.image.specs.RefusalLaws.{header-taken, restored-good}
 use Rattle.image.specs.Refusals.{marked, versionOf, known, controllerInRange, latchesAllowed, imageGood, restored}

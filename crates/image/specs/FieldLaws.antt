@@ -1,5 +1,5 @@
 -- An image is good exactly if it has each row of its fields.
-use Prim.Native.Nat.{ℕ, zero, suc, _+_, _*_, _%_, _<_, _≤_}
+use Prim.Native.Nat.{ℕ, zero, suc, _+_, _%_, _<_, _≤_}
 use mathlib.Core.Bool.{Bool, true, false, not, _&&_, _||_, or-true}
 use mathlib.Core.List.{List, [], _∷_}
 use mathlib.Core.Logic.{⊎-elim}
@@ -12,11 +12,9 @@ use lib.Seq.{getD-drop}
 use borrow.Author.Tests.{eqb-true, eq-eqb, le-leb, leb-true}
 use Rattle.base.specs.Bits.{bit}
 use Rattle.base.specs.Every.{every}
-use Rattle.base.specs.EveryLaws.{every-each, every-from, equal-at}
+use Rattle.base.specs.EveryLaws.{every-each, every-from}
 use Rattle.base.specs.ListLaws.{listed, listed-length, listed-at, listed-same}
-use Rattle.base.specs.Pick.{pick}
-use Rattle.base.specs.PickLaws.{pick-true, both-hold, either-way, never}
-use Rattle.seat.specs.declared.Seat.{Seat}
+use Rattle.base.specs.PickLaws.{pick-true, both-hold, either-way}
 use Rattle.seat.specs.Seats.{noSeat, line}
 use Rattle.rank.specs.Sets.{has}
 use Rattle.rank.specs.Sets as sets
@@ -29,7 +27,7 @@ use Rattle.bench.specs.HeardLaws.{line-of-seat}
 use Rattle.bench.specs.Seats.{seat, lines}
 use Rattle.seat_image.specs.declared.Found.{Found}
 use Rattle.seat_image.specs.FieldLaws as one
-use Rattle.seat_image.specs.Fields.{byteAt, Fields}
+use Rattle.seat_image.specs.Fields.{byteAt}
 use Rattle.seat_image.specs.Places.{at, recordLength}
 use Rattle.seat_image.specs.Read.{seatFrom, recordGood, found}
 use Rattle.seat_image.specs.ReadLaws.{Well, found-well}

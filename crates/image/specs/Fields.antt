@@ -1,4 +1,5 @@
--- What refusal 15 asks of the bytes of an image, row by row: the places are numbers here, and neither the reader nor its tests are looked at.
+-- What refusal 15 asks of the bytes of an image, row by row: the places are numbers here, and the reader's tests are not looked at. For the
+-- latches a line is that of the seat which the record says.
 use Prim.Native.Nat.{ℕ, _+_, _*_, _%_, _<_, _≤_}
 use mathlib.Core.Bool.{true}
 use mathlib.Core.List.{List}

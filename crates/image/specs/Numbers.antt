@@ -6,7 +6,7 @@ use mathlib.Core.Path.{_≡_}
 use lib.Dec.{eqb, ltb}
 use lib.ListN.{length}
 use Rattle.base.specs.declared.Answer.{Answer}
-use Rattle.base.specs.Answers.{refusalOf}
+use Rattle.base.specs.declared.Answer.the-variants.{Done, Refused}
 use Rattle.bench.specs.declared.Bench.{Bench}
 use Rattle.image.specs.Refusals.{marked, versionOf, known, imageGood, refusal}
 use Rattle.image.specs.Written.{Saves}
@@ -19,7 +19,8 @@ pub record Grounds (below5 unmarked unknown shorter bad : Bool) (number : ℕ) :
   pub fifteen : eqb number 15 ≡ (not below5 && not unmarked && not unknown && not shorter && bad)
   pub none : eqb number 0 ≡ (not below5 && not unmarked && not unknown && not shorter && not bad)
 
--- ticket 2: "Refusals, in order: 12 no room or below 5 bytes, 13 wrong mark, 14 unknown version, 12 shorter than its version, 15"
+-- ticket 2: "Refusals, in order: 12 no room or below 5 bytes, 13 wrong mark, 14 unknown version, 12 shorter than its version, 15".
+-- Mark, version and rows are tests of the reader here; demand 1 says of the bytes themselves what each number is for
 abbrev pub Numbers : Type 0
 Numbers =
     (p : List ℕ)
@@ -27,5 +28,5 @@ Numbers =
 
 -- ticket 2: "12 no room": of a save that number alone, and exactly where fewer than 544 bytes stand from the place on
 pub record SaveNumbers : Type 0 where
-  pub refused : (b : Bench) (at : ℕ) (l l′ : List ℕ) (r : Answer) → Saves b at l l′ r → length l < at + 544 → refusalOf r ≡ 12
-  pub taken : (b : Bench) (at : ℕ) (l l′ : List ℕ) (r : Answer) → Saves b at l l′ r → (length l < at + 544 → ⊥) → refusalOf r ≡ 0
+  pub refused : (b : Bench) (at : ℕ) (l l′ : List ℕ) (r : Answer) → Saves b at l l′ r → length l < at + 544 → r ≡ Refused 12
+  pub taken : (b : Bench) (at : ℕ) (l l′ : List ℕ) (r : Answer) → Saves b at l l′ r → (length l < at + 544 → ⊥) → r ≡ Done

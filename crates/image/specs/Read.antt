@@ -1,6 +1,6 @@
 -- The bench that an image says: of the bytes from its place on.
 use Prim.Native.Nat.{ℕ}
-use mathlib.Core.Bool.{Bool, _&&_}
+use mathlib.Core.Bool.{Bool}
 use mathlib.Core.List.{List}
 use lib.ListN.{drop}
 use Rattle.base.specs.Every.{every}

@@ -1,5 +1,5 @@
 -- Parts of a lent slice, the eight lines, and one turn of the reader.
-use Prim.Native.Nat.{ℕ, _+_, _-_, _*_}
+use Prim.Native.Nat.{ℕ, _+_, _-_}
 use mathlib.Core.Bool.{Bool, _&&_}
 use mathlib.Core.List.{List, map}
 use mathlib.Core.Path.{_≡_, ap, ap₂, sym, _∙_}

@@ -1,15 +1,14 @@
 -- What a restore is answered, case by case as the reader meets them.
 use Prim.Native.Nat.{ℕ, _≤_, _<_}
 use mathlib.Core.Bool.{true, false, not}
-use mathlib.Core.List.{List, [], _∷_}
+use mathlib.Core.List.{List, []}
 use mathlib.Core.Path.{_≡_, refl, ap, sym, _∙_}
 use native.Mathlib.Omega.{arith}
 use lib.Dec.{eqb, ltb}
 use lib.ListN.{length}
-use borrow.Author.Tests.{eqb-true, eq-eqb, lt-ltb, le-ltb, ltb-false, not-true, not-false}
+use borrow.Author.Tests.{eq-eqb, lt-ltb, le-ltb, ltb-false, not-true, not-false}
 use Rattle.base.specs.declared.Answer.the-variants.{Done, Refused}
 use Rattle.base.specs.ListLaws.{listed}
-use Rattle.base.specs.Pick.{pick}
 use Rattle.base.specs.PickLaws.{pick-true, pick-false, both-hold}
 use Rattle.base.specs.Refusals.{NoRoom, WrongMark, UnknownVersion, NoSuchBench, firstHeld}
 use Rattle.base.specs.RefusalLaws.{none-held, held-behind}

@@ -28,8 +28,8 @@ versionOf p = at p 3 + 256 * at p 4
 abbrev pub known : ℕ → Bool
 known version = leb 1 version && leb version newest
 
--- ticket 2: "a field outside its range in document 01 (MCR to 0F, yes-or-no to 1)": none of the controller's is; its base has the low three bits
--- clear
+-- ticket 2: "a field outside its range in document 01 (MCR to 0F, yes-or-no to 1)": the controller's fields are within theirs. Its base has the low
+-- three bits clear
 unfoldable pub controllerInRange : List ℕ → Bool
 controllerInRange l =
     leb (at l Stage) 3 && leb (at l Level) 1 && eqb (at l Base % 8) 0 && leb (at l First) 7 && leb (at l Special) 1

@@ -1,23 +1,20 @@
 -- An image that is taken: the bench is a valid one, and is written back as the same bytes.
-use Prim.Native.Nat.{ℕ, zero, suc, _+_, _*_, _/_, _%_, _<_, _≤_}
-use mathlib.Core.Bool.{Bool, true, false, not, _&&_}
+use Prim.Native.Nat.{ℕ, zero, suc, _+_, _*_, _%_, _<_, _≤_}
+use mathlib.Core.Bool.{true, false, not, _&&_}
 use mathlib.Core.List.{List, [], _∷_, _++_}
 use mathlib.Core.Path.{_≡_, refl, ap, ap₂, sym, _∙_}
 use native.Mathlib.Omega.{arith}
 use lib.Dec.{eqb, leb, ltb}
-use lib.ListN.{length, take, drop, length-drop}
+use lib.ListN.{length, take, drop}
 use lib.Seq.{drop-drop, take-add, length-take-le}
-use borrow.Author.Tests.{eqb-true, eq-eqb, le-leb, leb-true, lt-ltb, ltb-false, not-true, not-false}
+use borrow.Author.Tests.{eqb-true, eq-eqb, le-leb, lt-ltb, ltb-false, not-true, not-false}
 use Rattle.base.specs.declared.Answer.the-variants.{Done, Refused}
-use Rattle.base.specs.ListLaws.{listed, listed-length, listed-at, written-out}
-use Rattle.base.specs.Pick.{pick}
+use Rattle.base.specs.ListLaws.{listed, listed-length, listed-at}
 use Rattle.base.specs.PickLaws.{pick-true, pick-false, both-hold}
-use Rattle.base.specs.Refusals.{firstHeld}
 use Rattle.base.specs.RefusalLaws.{none-held}
 use Rattle.seat.specs.declared.Seat.{Seat}
 use Rattle.seat.specs.Seats.{noSeat}
 use Rattle.seat.specs.Sound.{sound}
-use Rattle.controller.specs.Valid.{latchesHigh}
 use Rattle.controller.specs.Valid as controller
 use Rattle.records.specs.Events.{seatCount}
 use Rattle.bench.specs.declared.Bench.{Bench}
@@ -27,13 +24,12 @@ use Rattle.bench.specs.ValidLaws as bench
 use Rattle.seat_image.specs.Places.{at, recordLength}
 use Rattle.seat_image.specs.ReadLaws.{yes-digit, written-back, good-sound}
 use Rattle.seat_image.specs.Written.{recordOf}
-use Rattle.image.specs.declared.Restored.{Restored}
 use Rattle.image.specs.FieldLaws.{front-written, image-fields, well-at, block-written, three}
 use Rattle.image.specs.Fields.{ImageFields}
 use Rattle.image.specs.Layout.{imageLength, controllerPart, recordPlace}
 use Rattle.image.specs.Read.{seatAt, recordsFrom, controllerFrom, benchFrom}
-use Rattle.image.specs.RefusalLaws.{Header, header-facts, header-taken, refusal-good}
-use Rattle.image.specs.Refusals.{marked, versionOf, known, headerGrounds, bodyGrounds, grounds, latchesAllowed, imageGood, refusal, restored}
+use Rattle.image.specs.RefusalLaws.{Header}
+use Rattle.image.specs.Refusals.{marked, versionOf, known, grounds, latchesAllowed, imageGood, refusal, restored}
 use Rattle.image.specs.Written.{newest, header, controllerBytes, recordsOf, imageOf}
 
 -- what an image that is taken is
@@ -147,7 +143,7 @@ module _ (p : List ℕ) (t : Taken p) where
       let w = well-at p long (t .good) k below in
       ap sound (w .seat) ∙ good-sound _ (w .good))
 
-  -- it is as power-up and records make them
+  -- it is valid
   pub restored-valid : valid (benchFrom p) ≡ true
   unfolding benchFrom recordsFrom controllerFrom controller.valid latchesAllowed
   restored-valid =

@@ -1,5 +1,5 @@
 -- A bench saved and restored, and an image restored and saved.
-use Prim.Native.Nat.{ℕ, _+_, _*_, _<_, _≤_}
+use Prim.Native.Nat.{ℕ, _+_, _<_, _≤_}
 use mathlib.Core.Bool.{true}
 use mathlib.Core.List.{List, [], _∷_, _++_}
 use mathlib.Core.Path.{_≡_}
@@ -7,6 +7,7 @@ use lib.ListN.{length, getD, take, drop, replicate}
 use Rattle.base.specs.declared.Answer.{Answer}
 use Rattle.base.specs.declared.Answer.the-variants.{Done, Refused}
 use Rattle.base.specs.Answers.{refusalOf}
+use Rattle.base.specs.Bits.{digit}
 use Rattle.seat.specs.Seats.{noSeat}
 use Rattle.controller.specs.Steps.{placed}
 use Rattle.records.specs.Events.{Record}
@@ -17,16 +18,26 @@ use Rattle.bench.specs.Valid.{valid}
 use Rattle.seat_image.specs.Fields.{byteAt}
 use Rattle.seat_image.specs.Written.{recordOf}
 use Rattle.image.specs.Fields.{stretch}
-use Rattle.image.specs.Items.{Item, restores, itemOutcomes, afterItems}
+use Rattle.image.specs.Items.{Item, itemOutcomes, afterItems}
 use Rattle.image.specs.Refusals.{versionOf, refusal, restored}
-use Rattle.image.specs.Written.{newest, controllerBytes, imageOf, Saves}
+use Rattle.image.specs.Written.{newest, imageOf, Saves}
 
 -- ticket 2: "House format: the three letters `BEN`, a 16-bit version (1, low byte first), the controller, then eight seat records of one fixed
 -- length. Each seat record goes into its own stretch of the buffer": of every bench, valid or not
 pub record Stretches (b : Bench) : Type 0 where
   pub whole : length (imageOf b) ≡ 544
   pub header : take 5 (imageOf b) ≡ 0x42 ∷ 0x45 ∷ 0x4E ∷ 1 ∷ 0 ∷ []
-  pub controller : take 11 (drop 5 (imageOf b)) ≡ controllerBytes (b .controller)
+  pub stage-5 : byteAt (imageOf b) 5 ≡ b .controller .setup .stage
+  pub level-6 : byteAt (imageOf b) 6 ≡ digit (b .controller .setup .level)
+  pub base-7 : byteAt (imageOf b) 7 ≡ b .controller .setup .base
+  pub first-8 : byteAt (imageOf b) 8 ≡ b .controller .operation .first
+  pub mask-9 : byteAt (imageOf b) 9 ≡ b .controller .operation .mask
+  pub service-10 : byteAt (imageOf b) 10 ≡ b .controller .operation .service
+  pub special-11 : byteAt (imageOf b) 11 ≡ digit (b .controller .operation .special)
+  pub automatic-12 : byteAt (imageOf b) 12 ≡ digit (b .controller .setup .automatic)
+  pub rotation-13 : byteAt (imageOf b) 13 ≡ digit (b .controller .operation .rotation)
+  pub selected-14 : byteAt (imageOf b) 14 ≡ digit (b .controller .operation .selected)
+  pub latches-15 : byteAt (imageOf b) 15 ≡ b .controller .lines .latches
   pub seats : (n : ℕ) → n < 8 → stretch (imageOf b) n ≡ recordOf (getD (b .seats) n noSeat)
 
 abbrev pub Placed : Type 0

@@ -1,6 +1,6 @@
 -- Lines of words, option by option.
 use Prim.Native.Nat.{ℕ, suc, _<_}
-use mathlib.Core.Bool.{Bool, true, false}
+use mathlib.Core.Bool.{true, false}
 use mathlib.Core.List.{List, [], _∷_}
 use mathlib.Core.Logic.{_⊎_, inl, inr, ⊎-elim}
 use mathlib.Core.Path.{_≡_, refl, sym, ap, _∙_}
@@ -10,7 +10,7 @@ use borrow.Author.Tests.{ne-eqb}
 use Rattle.base.specs.Pick.{pick}
 use Rattle.base.specs.PickLaws.{pick-true, pick-false, either-way, not-both}
 use Rattle.text.specs.Quoted.{quoted}
-use Rattle.options.specs.Moments.{sameBytes, is, momentOf}
+use Rattle.options.specs.Moments.{sameBytes, momentOf}
 use Rattle.options.specs.SameLaws.{same-only}
 use Rattle.options.specs.Words.{option, moment, nothing, noWords, awaiting, stopped, withLesson, withImage, withMoment, dashed, optionRead, wordsAfter, wordsBehind, whole}
 use Rattle.options.specs.WordsRead.{between, OptionsRead, NotUnderstood, TableFollowed}

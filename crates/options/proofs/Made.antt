@@ -1,21 +1,17 @@
 -- Which saves are due, and where a run stops for them.
 use Prim.Native.Nat.{ℕ, _≤_, _<_}
-use mathlib.Core.Bool.{true, false}
-use mathlib.Core.Logic.{⊎-elim}
-use mathlib.Core.Path.{_≡_, refl, sym, ap, _∙_, subst}
+use mathlib.Core.Path.{_≡_, refl, _∙_}
 use native.Mathlib.Omega.{arith}
 use lib.Dec.{eqb, ltb}
 use borrow.Author.Tests.{lt-ltb, le-ltb, ltb-true, ltb-false, eq-eqb, ne-eqb}
-use Rattle.base.specs.Pick.{pick}
-use Rattle.base.specs.PickLaws.{pick-true, pick-false, pick-cases, either-way}
+use Rattle.base.specs.PickLaws.{pick-true, pick-false, pick-cases}
 use Rattle.options.specs.Words.{file}
 use Rattle.options.specs.Saves.{dueAt, dueOf, stopBehind, stopAt, stopOf}
 use Rattle.options.specs.SavesMade.{MadeOnce, NonePassed}
 use Rattle.options.specs.declared.Moment.{Moment}
 use Rattle.options.specs.declared.Moment.the-variants as moment
 use Rattle.options.specs.declared.Now.the-variants as stands
-use Rattle.options.specs.declared.Due.{Due}
-use Rattle.options.specs.declared.Due.the-variants.{No, Save, Missed}
+use Rattle.options.specs.declared.Due.the-variants.{No, Save}
 use Rattle.options.specs.declared.Words.{Words}
 
 pub made-once : MadeOnce

@@ -17,7 +17,7 @@ use Rattle.text.specs.HexLaws.{numeral-worth, worth-numeral}
 use Rattle.text.specs.DecimalLaws.{front-length}
 use Rattle.text.specs.FormLaws.{denoted, Digits, decimal-denotes, decimal-digits}
 use Rattle.options.specs.Moments.{many, sameBytes, is, withDigit, numberFrom, numberOf, momentOf}
-use Rattle.options.specs.SameLaws.{same-self, same-only}
+use Rattle.options.specs.SameLaws.{same-only}
 use Rattle.options.specs.SaveMoments.{countOf, MomentsRead, MomentsOnly}
 use Rattle.options.specs.declared.Moment.{Moment}
 use Rattle.options.specs.declared.Moment.the-variants.{Behind, End, Unread}

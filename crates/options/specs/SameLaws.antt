@@ -4,10 +4,9 @@ use mathlib.Core.Bool.{Bool, true, false}
 use mathlib.Core.List.{List, [], _∷_}
 use mathlib.Core.Logic.{⊎-elim}
 use mathlib.Core.Path.{_≡_, refl, sym, ap, _∙_}
-use native.Mathlib.Omega.{arith}
 use lib.Dec.{eqb}
 use borrow.Author.Tests.{eqb-true, eq-eqb}
-use Rattle.base.specs.PickLaws.{both-hold, either-way, never, not-both}
+use Rattle.base.specs.PickLaws.{both-hold, either-way, never}
 use Rattle.options.specs.Moments.{sameBytes}
 
 pub same-self : (word : List ℕ) → sameBytes word word ≡ true

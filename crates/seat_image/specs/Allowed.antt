@@ -10,10 +10,11 @@ use Rattle.queue.specs.Queue.{capacity}
 use Rattle.registers.specs.Registers.{fcrKept}
 use Rattle.seat_image.specs.Places.{at, Ier, Fcr, Mcr, Changes, Levels, Overrun, Kept, Flag, Timeout, Busy, Shift, Waiting, Outgoing, Received, Arrived, Marks}
 
--- of the sixteen bytes from a place on, each from the n-th on is at most this
+-- byte k from a place on is before the n-th, or at most this
 abbrev pub smallFrom : List ℕ → ℕ → ℕ → ℕ → ℕ → Bool
 smallFrom l place n most k = ltb k n || leb (at l (place + k)) most
 
+-- of the sixteen bytes from a place on, each from the n-th on is at most this
 unfoldable pub sixteenSmall : List ℕ → ℕ → ℕ → ℕ → Bool
 sixteenSmall l place n most = every 16 (smallFrom l place n most)
 
@@ -21,7 +22,8 @@ sixteenSmall l place n most = every 16 (smallFrom l place n most)
 abbrev pub fifoAt : List ℕ → Bool
 fifoAt l = bit 0 (at l Fcr)
 
--- ticket 2: "a field outside its range in document 01 (MCR to 0F, yes-or-no to 1)": of the registers; of the FCR, what it keeps of a byte
+-- ticket 2: "a field outside its range in document 01 (MCR to 0F, yes-or-no to 1)": of the registers. The FCR holds what it keeps
+-- of a byte, and nothing else
 unfoldable pub registersInRange : List ℕ → Bool
 registersInRange l =
     leb (at l Ier) 0x0F && eqb (fcrKept (at l Fcr)) (at l Fcr) && leb (at l Mcr) 0x0F && leb (at l Changes) 0x0F && leb (at l Levels) 0x0F

@@ -6,7 +6,7 @@ use mathlib.Core.Logic.{_⊎_, inl, inr, ⊎-elim}
 use mathlib.Core.Path.{_≡_, refl, ap, ap₂, sym, subst, _∙_}
 use native.Mathlib.Omega.{arith}
 use lib.Dec.{eqb, leb, ltb}
-use borrow.Author.Tests.{eqb-true, eq-eqb, le-leb, leb-true, le-ltb, ltb-false, not-true}
+use borrow.Author.Tests.{eqb-true, eq-eqb, le-leb, leb-true, le-ltb, ltb-false}
 use Rattle.base.specs.Bits.{bit, digit, bits}
 use Rattle.base.specs.EveryLaws.{every-each, every-from}
 use Rattle.base.specs.Pick.{pick}

@@ -57,7 +57,7 @@ Last = 9
 abbrev pub Overrun : ℕ
 Overrun = 10
 
--- the marks that are kept when their character is gone
+-- the kept marks, which LSR shows in 16450 mode
 abbrev pub Kept : ℕ
 Kept = 11
 

@@ -39,11 +39,15 @@ characterAt l place m marks k = record { «data» = at l (place + k); marks = at
 unfoldable pub slotsFrom : List ℕ → ℕ → List ℕ → ℕ → List Character
 slotsFrom l place m marks = listed 16 (characterAt l place m marks)
 
--- the send side; its characters have no marks
+-- characters to send have no marks
+abbrev pub unmarked : List ℕ
+unmarked = replicate 66 0
+
+-- the send side
 unfoldable pub transmitterFrom : List ℕ → Transmitter
 transmitterFrom l =
     record {
-      queue = record { slots = slotsFrom l Outgoing (replicate 66 0) 0; count = at l Waiting };
+      queue = record { slots = slotsFrom l Outgoing unmarked 0; count = at l Waiting };
       busy = yesAt l Busy;
       shift = at l Shift;
       flag = yesAt l Flag;

@@ -1,14 +1,14 @@
 -- What a good record says is a sound seat, and that seat is written back as the same bytes.
 use Prim.Native.Nat.{ℕ, zero, suc, _+_, _<_, _≤_}
-use mathlib.Core.Bool.{Bool, true, false, not, _&&_, _||_}
+use mathlib.Core.Bool.{true, false, _&&_}
 use mathlib.Core.List.{List, [], _∷_, _++_}
 use mathlib.Core.Logic.{_⊎_, inl, inr, ⊎-elim}
 use mathlib.Core.Path.{_≡_, refl, ap, sym, _∙_}
 use native.Mathlib.Omega.{arith}
-use lib.Dec.{eqb, leb, ltb}
+use lib.Dec.{eqb, ltb}
 use lib.ListN.{length, getD, take, replicate}
 use borrow.Author.Tests.{lt-ltb, leb-true, ltb-false}
-use Rattle.base.specs.Bits.{bit, digit}
+use Rattle.base.specs.Bits.{digit}
 use Rattle.base.specs.ListLaws.{listed, listed-at, listed-same, written-out}
 use Rattle.base.specs.Pick.{pick}
 use Rattle.base.specs.PickLaws.{pick-true, pick-false, both-hold, either-way, never}
@@ -20,7 +20,6 @@ use Rattle.receiver.specs.Receiver.{noneQueued}
 use Rattle.receiver.specs.Sound.{soundReceiver}
 use Rattle.receiver.specs.Sound as received
 use Rattle.receiver.specs.SoundLaws as receiver
-use Rattle.seat.specs.declared.Seat.{Seat}
 use Rattle.seat.specs.Sound.{sound}
 use Rattle.transmitter.specs.Sound.{soundTransmitter}
 use Rattle.transmitter.specs.SoundLaws as transmitter

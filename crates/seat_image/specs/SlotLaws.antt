@@ -8,11 +8,10 @@ use native.Mathlib.Nat.{le-of-suc-le-suc, not-suc-le-zero}
 use native.Mathlib.Omega.{arith}
 use lib.Dec.{eqb, leb, ltb}
 use lib.ListN.{length, getD, take, drop, replicate}
-use borrow.Author.Tests.{eqb-true, eq-eqb, le-leb, ltb-true, ltb-false, not-false}
+use borrow.Author.Tests.{eqb-true, le-leb, ltb-true, ltb-false, not-false}
 use Rattle.base.specs.Every.{every}
 use Rattle.base.specs.EveryLaws.{every-from}
 use Rattle.base.specs.ListLaws.{listed, listed-same, written-out}
-use Rattle.base.specs.Pick.{pick}
 use Rattle.base.specs.PickLaws.{pick-true, pick-false, both-hold, either-way, never}
 use Rattle.queue.specs.declared.Character.{Character}
 use Rattle.queue.specs.declared.Queue.{Queue}

@@ -1,8 +1,7 @@
 -- The record of a sound seat: it is read back as the same seat, and nothing of it is refused.
-use Prim.Native.Nat.{ℕ, _<_}
+use Prim.Native.Nat.{ℕ}
 use mathlib.Core.Bool.{Bool, true, false, _&&_, _||_, or-true}
 use mathlib.Core.List.{List, _++_}
-use mathlib.Core.Logic.{_⊎_, inl, inr}
 use mathlib.Core.Path.{_≡_, refl, ap, ap₂, sym, _∙_}
 use native.Mathlib.Omega.{arith}
 use lib.Dec.{eqb, leb, ltb}
@@ -12,20 +11,16 @@ use borrow.Author.Tests.{eqb-true, eq-eqb, le-leb}
 use Rattle.base.specs.Bits.{digit}
 use Rattle.base.specs.EveryLaws.{every-from}
 use Rattle.base.specs.Pick.{pick}
-use Rattle.base.specs.PickLaws.{pick-true, pick-false, either-way}
+use Rattle.base.specs.PickLaws.{pick-true, pick-false}
 use Rattle.channel.specs.declared.Channel.{Channel}
 use Rattle.channel.specs.Parts.{fifo}
 use Rattle.channel_laws.specs.SoundLaws as channel
-use Rattle.queue.specs.declared.Queue.{Queue}
-use Rattle.queue.specs.Queue.{capacity}
 use Rattle.receiver.specs.Receiver.{noneQueued}
 use Rattle.receiver.specs.Sound as received
 use Rattle.receiver.specs.SoundLaws as receiver
 use Rattle.seat.specs.declared.Seat.{Seat}
 use Rattle.seat.specs.Sound.{sound}
-use Rattle.transmitter.specs.declared.Transmitter.{Transmitter}
 use Rattle.transmitter.specs.SoundLaws as transmitter
-use Rattle.seat_image.specs.declared.Found.{Found}
 use Rattle.seat_image.specs.Allowed.{sixteenSmall, registersInRange, flagsInRange, marksInRange, queuesWithin, countAllowed, unusedZero, channelGood}
 use Rattle.seat_image.specs.Places.{recordLength}
 use Rattle.seat_image.specs.Read.{slotsFrom, transmitterFrom, receiverFrom, channelFrom, seatFrom, recordGood, found}

@@ -1,7 +1,7 @@
 use mathlib.Core.Bool.{false}
 use Prim.Native.Nat.{ℕ, _≤_, _-_}
 use mathlib.Core.Bool.{Bool, true, not, _||_}
-use mathlib.Core.Path.{_≡_, refl, ap, sym, _∙_}
+use mathlib.Core.Path.{_≡_, refl, sym}
 use native.Mathlib.Omega.{arith}
 use borrow.Author.Needs.{needs}
 use borrow.Author.Tests.{not-true, not-false}

@@ -1,18 +1,15 @@
 use Prim.Native.Nat.{ℕ, _≤_, _-_}
 use mathlib.Core.List.{List}
-use mathlib.Core.Path.{_≡_, refl, ap, ap₂, sym, _∙_}
+use mathlib.Core.Path.{_≡_, refl, ap, ap₂, _∙_}
 use native.Mathlib.Omega.{arith}
 use lib.ListN.{set, replicate}
 use lib.Seq.{sets}
 use borrow.Author.Needs.{needs}
 use Rattle.base.specs.ListLaws.{listed}
 use Rattle.base.specs.StoreLaws.{listed-stored}
-use Rattle.seat_image.specs.Written.{queuedByte, bytesOf}
+use Rattle.seat_image.specs.Written.{queuedByte}
 use Rattle.seat_image.proofs.writing.bytes_of.Statement.{statement}
 use Rattle.seat_image.proofs.writing.bytes_of.Tie as tie
-use Rattle.seat_image.proofs.writing.bytes_of.Reads as reads
-use Rattle.seat_image.proofs.writing.bytes_of.Lts as lts
-use Rattle.base.proofs.pick_byte.Reads as pick-byte-reads
 
 abbrev Inv-loop : tie.InvT-loop
 Inv-loop q n data₀ marks₀ k₀ «data» marks k =
