@@ -1,2 +1,4 @@
 pub mod Status
 pub mod StatusLaws
+pub mod Table
+pub mod TableLaws
