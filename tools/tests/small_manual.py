@@ -113,7 +113,37 @@ const THIRD: [u16; 1] = [3840];
 fn row(rate: u32) -> usize {
 """
 
-MANUAL = """# Manual
+CAUSES = """const CAUSES: [Row; 2] = [
+    // "0C time-out (IER bit 0)"
+    Row(LATE, Settings::IER_DATA, When::Late),
+    // "00 a change (bit 3)"
+    Row(MOVED, Settings::IER_MODEM, When::Moved),
+];
+"""
+
+CAUSES_DEFINED = """-- "0C time-out (IER bit 0); 00 a
+-- change (bit 3)"
+causes = []
+"""
+
+STATUS = f"""pub const LATE: u8 = 0x0C;
+
+{CAUSES}
+fn cause() -> u8 {{
+    CAUSES[0].0
+}}
+"""
+
+REGISTERS = """impl Settings {
+    pub const IER_DATA: u8 = 0;
+
+    pub const IER_MODEM: u8 = 3;
+}
+
+pub const MOVED: u8 = 0x00;
+"""
+
+MANUAL = f"""# Manual
 
 Numbers.
 
@@ -140,9 +170,14 @@ Numbers.
 | 000 | - | nothing | `base/Refusals.order` |
 | 001 | `END` | ends | `base/Refusals.order` |
 
-| IIR | Name | Definition |
-|---|---|---|
-| 0C | `LATE` | `base/Refusals.order` |
+| IIR | Name | Enabled by | Definition |
+|---|---|---|---|
+| 0C | `LATE` | IER bit 0 | `base/Refusals.order` |
+| 00 | `MOVED` | IER bit 3 | `base/Refusals.order` |
+| 02 | - | - | `base/Refusals.order` |
+
+```rust crates/status/src/lib.rt
+{CAUSES}```
 
 | Answer | Name | When | Definition |
 |---|---|---|---|
@@ -183,7 +218,10 @@ FILES = {
     "crates/records/src/lib.rt": RECORDS,
     "crates/records/specs/Kinds.antt": KINDS,
     "crates/registers/specs/Refusals.antt": GROUNDS,
+    "crates/registers/src/lib.rt": REGISTERS,
     "crates/rates/src/lib.rt": RATES,
+    "crates/status/src/lib.rt": STATUS,
+    "crates/status/specs/Status.antt": CAUSES_DEFINED,
     "include/hailstoat.h": HEADER,
     "docs/MANUAL.md": MANUAL,
     "docs/CHANGING.md": CHANGING,

@@ -6,6 +6,10 @@ from small_manual import FILES, HELP, KINDS
 
 check = load("before/07-names")
 
+# The rows of the small tree's table of causes, each with its words.
+LATE, LATE_ROW = '    // "0C time-out (IER bit 0)"\n', "    Row(LATE, Settings::IER_DATA, When::Late),\n"
+MOVED, MOVED_ROW = '    // "00 a change (bit 3)"\n', "    Row(MOVED, Settings::IER_MODEM, When::Moved),\n"
+
 
 class Names(Room):
     def setUp(self):
@@ -113,7 +117,7 @@ class Names(Room):
 
     def test_a_table_without_definitions(self):
         self.assertTold("docs/MANUAL.md:30: a table without a column Definition",
-                        "docs/MANUAL.md", "| IIR | Name | Definition |", "| IIR | Name | What |")
+                        "docs/MANUAL.md", "| IIR | Name | Enabled by | Definition |", "| IIR | Name | Enabled by | What |")
 
     def test_other_words_of_a_refusal(self):
         self.assertTold("refusal 1: docs/MANUAL.md says 'seat above 7', include/hailstoat.h 'seat above 8'",
@@ -130,11 +134,60 @@ class Names(Room):
             self.assertTold("the divisor list of docs/MANUAL.md is not that of crates/rates/src/lib.rt", "docs/MANUAL.md", old, new)
         self.assertTold("the divisor list of", "crates/rates/src/lib.rt", "3840", "3841")
 
+    def test_a_table_of_causes_that_the_manual_does_not_show(self):
+        manual, code = "docs/MANUAL.md", "crates/status/src/lib.rt"
+        late, moved = LATE + LATE_ROW, MOVED + MOVED_ROW
+        for file, old, new in (
+            (code, late + moved, moved + late),
+            (code, "When::Late", "When::Moved"),
+            (manual, moved, ""),
+            (manual, LATE, ""),
+            (manual, "```rust crates", "```rust ./crates"),
+        ):
+            with self.subTest(file=file, new=new):
+                self.assertTold(f"docs/MANUAL.md does not show the table of causes of {code} as it stands there", file, old, new)
+
+    def test_a_table_of_causes_that_is_laid_out_otherwise(self):
+        code = "crates/status/src/lib.rt"
+        for old, new in (
+            (MOVED + MOVED_ROW, ""),
+            (MOVED_ROW, "    // " + MOVED_ROW.lstrip()),
+            (MOVED, ""),
+            (MOVED_ROW, MOVED_ROW.replace("Settings::IER_MODEM", "3")),
+            (MOVED_ROW, MOVED_ROW.replace("\n", " // the last\n")),
+            ("const CAUSES", "const ROWS"),
+        ):
+            with self.subTest(new=new):
+                self.assertTold(f"{code}: the table of causes has not a row a line, each under its words", code, old, new)
+
+    def test_a_cause_under_the_words_of_another(self):
+        code, moved = "crates/status/src/lib.rt", "MOVED, enabled by IER_MODEM, stands under words that are not its own"
+        for file, old, new in (
+            (code, "00 a change (bit 3)", "00 a change (bit 2)"),
+            (code, "00 a change (bit 3)", "02 a change (bit 3)"),
+            (code, "00 a change (bit 3)", "00 another change (bit 3)"),
+            (code, "00 a change (bit 3)", "00 a change"),
+            ("crates/status/specs/Status.antt", "change (bit 3)", "move (bit 3)"),
+            ("crates/registers/src/lib.rt", "MOVED: u8 = 0x00", "MOVED: u8 = 0x02"),
+            ("crates/registers/src/lib.rt", "IER_MODEM: u8 = 3", "IER_MODEM: u8 = 2"),
+        ):
+            with self.subTest(file=file, new=new):
+                self.assertTold(moved, file, old, new)
+
+    def test_causes_that_are_told_otherwise_than_the_code_has_them(self):
+        late, moved = "| 0C | `LATE` | IER bit 0 | `base/Refusals.order` |\n", "| 00 | `MOVED` | IER bit 3 | `base/Refusals.order` |\n"
+        for old, new in (
+            (late + moved, moved + late), (moved, ""), (late, late + late), ("IER bit 3", "IER bit 2"), (late, late.replace("`LATE`", "-")),
+        ):
+            with self.subTest(new=new):
+                self.assertTold("the causes of docs/MANUAL.md are", "docs/MANUAL.md", old, new)
+
     def test_a_definition_that_is_not_there(self):
         self.assertTold("crates/base/specs/Refusals.antt does not define gone",
-                        "docs/MANUAL.md", "`LATE` | `base/Refusals.order`", "`LATE` | `base/Refusals.gone`")
+                        "docs/MANUAL.md", "`LATE` | IER bit 0 | `base/Refusals.order`", "`LATE` | IER bit 0 | `base/Refusals.gone`")
         self.assertTold("crates/base/specs/Gone.antt does not define order", "docs/CHANGING.md", "base/Refusals.order", "base/Gone.order")
-        self.assertTold("docs/MANUAL.md:30: no definition", "docs/MANUAL.md", "`LATE` | `base/Refusals.order`", "`LATE` | order")
+        self.assertTold("docs/MANUAL.md:30: no definition",
+                        "docs/MANUAL.md", "`LATE` | IER bit 0 | `base/Refusals.order`", "`LATE` | IER bit 0 | order")
 
     def test_a_function_that_is_not_there(self):
         self.assertTold("docs/CHANGING.md:5: crates/rates/src/lib.rt has no function rows", "docs/CHANGING.md", "`row`", "`rows`")
@@ -143,6 +196,9 @@ class Names(Room):
         self.assertTold("crates/base/specs/Refusals.antt does not have 'abbrev pub SeatAbove : ℕ'", "docs/NOTATION.md", "= 1\n", "= 2\n")
         self.assertTold("does not have", "docs/NOTATION.md", "abbrev pub", "pub")
         self.assertTold("docs/NOTATION.md quotes nothing", "docs/NOTATION.md", "```antt ", "```")
+        self.assertTold("docs/MANUAL.md: crates/status/src/lib.rt does not have 'const CAUSES: [Row; 2] = ['",
+                        "docs/MANUAL.md", "When::Late", "When::Now")
+        self.assertTold("docs/MANUAL.md quotes nothing", "docs/MANUAL.md", "```rust ", "```")
 
     def test_a_page_that_is_not_there(self):
         for page in ("docs/MANUAL.md", "docs/CHANGING.md", "docs/NOTATION.md"):
