@@ -131,7 +131,8 @@ class Speed(Room):
         self.assertEqual(asked.count(" 02 02 00 47 of 24032"), 9)
 
     def test_events_are_counted_and_timed(self):
-        rows = self.rows(self.run_it("3", "6000")[1])
+        # so many that their time stands out from what a program's start takes, on a busy machine too
+        rows = self.rows(self.run_it("3", "300000")[1])
         for way in ("the mix", "a read of LSR"):
             self.assertEqual(rows[f"{way}, instructions"], [40.0])
             self.assertGreater(rows[f"{way}, ns"][0], 40)
@@ -151,7 +152,7 @@ class Speed(Room):
         for name in ("bench_main", "trials"):
             self.script(name, PROGRAM.format("here", 60))
         commit = subprocess.run(["git", "rev-parse", "HEAD"], cwd=self.root, stdout=subprocess.PIPE, encoding="utf-8").stdout.strip()
-        status, said, asked = self.run_it("--before", "HEAD", "3", "6000")
+        status, said, asked = self.run_it("--before", "HEAD", "3", "60000")
         self.assertEqual(status, 0)
         self.assertIn("| | HEAD | bench | times | second program | ratio |\n", said)
         self.assertIn("| | HEAD | bench | times |\n", said)
