@@ -26,7 +26,7 @@ table =
     ∷ record { 0 = 0x00; 1 = 3; 2 = Change }
     ∷ []
 
--- what there is, by these settings, these two sides and these changes
+-- which conditions hold, by these settings, these two sides and these changes
 abbrev pub standing : Settings → Receiver → Transmitter → ℕ → Standing
 standing s r t changes =
     record {
@@ -37,7 +37,7 @@ standing s r t changes =
       change = someChange changes;
     }
 
--- what a row asks of it
+-- whether the one that a row asks for is among them
 abbrev pub holds : Standing → When → Bool
 holds s Trouble = s .trouble
 holds s Data = s .«data»
@@ -45,6 +45,6 @@ holds s Timeout = s .timeout
 holds s Flag = s .flag
 holds s Change = s .change
 
--- a row as a cause, by an IER and by what there is
+-- a row as a cause, by an IER and the conditions that hold
 abbrev pub asked : ℕ → Standing → Row → Cause
 asked ier stood row = record { code = row .0; enabled = bit (row .1) ier; stands = holds stood (row .2) }

@@ -16,7 +16,7 @@ pub(crate) enum When {
     Change,
 }
 
-// What there is.
+// Which of these there are.
 pub(crate) struct Standing {
     pub(crate) trouble: bool,
     pub(crate) data: bool,

@@ -51,7 +51,7 @@ module _ (ier : ℕ) (stood : Standing) (rows : List Row) (k : ℕ) where
 
 -- ---- the walk
 
--- the whole table names what the definition does, with what the calls answer for what there is
+-- the whole table names what the definition does, with what the calls answer for the conditions
 module _ (s : Settings) (r : Receiver) (t : Transmitter) (changes : ℕ) (fifo trouble reached timeout change : Bool) (least : ℕ) where
   chosen : fifo ≡ bit 0 (s .fcr) → trouble ≡ troubled fifo r → least ≡ trigger (s .fcr) → reached ≡ dataStands fifo least r
       → timeout ≡ timeoutStands r → change ≡ someChange changes
