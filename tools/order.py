@@ -17,7 +17,7 @@ def of_page(text):
     """The place of each row of a page, by the whole row and by its first cell, of which the first counts."""
     places, title = {}, NOWHERE
     for number, line in enumerate(text.splitlines()):
-        found = re.match(r"## (.*)|\| (.*?) \| `", line)
+        found = re.match(r"## (.*)|\| (.*?) \| (?:`|amended)", line)
         if found and found[1]:
             title = found[1]
         elif found and title != NOWHERE:

@@ -328,6 +328,22 @@ class Reading(Room):
         self.write("docs/amended.txt", AMENDED.replace("is blue", "is green"))
         self.fails('docs/amended.txt: ticket 2 does not say "Lamp 1 is green from now on"', *self.beside("--landed", "2"))
 
+    def test_page_tells_what_is_amended_where_document_01_says_it(self):
+        row = '| Lamp 1 is red. | amended by ticket 2: it is another colour, "Lamp 1 is blue from now on" | docs/amended.txt |'
+        self.passes(*self.beside())
+        self.assertNotIn("amends", self.page())
+        self.lands_two()
+        self.passes(*self.beside("--landed", "2"))
+        made = self.page()
+        self.assertIn("A passage of document 01 that a ticket amends", made)
+        chapter = next(part for part in made.split("\n## ") if part.startswith("Tasting spoons"))
+        self.assertIn(f"| Document 01 | Definition | File |\n|---|---|---|\n{row}\n", chapter)
+        # and it keeps its place where the document is not at hand
+        self.passes()
+        self.assertEqual(self.page(), made)
+        self.write("docs/amended.txt", AMENDED.replace("another colour", "no longer red"))
+        self.fails("docs/READING.md is out of date", "--check")
+
     def test_amended_passage_need_not_be_quoted(self):
         self.lands_two()
         self.write("docs/amended.txt", "")
