@@ -30,7 +30,7 @@ extern "C" {
 
 /* 10000 times the major number, 100 times the minor, and the patch. The major
    number changes where a program must be changed, or compiled again. */
-#define HAILSTOAT_VERSION 10000
+#define HAILSTOAT_VERSION 20000
 
 #define HAILSTOAT_SEATS 8
 #define HAILSTOAT_SLOTS 16
@@ -188,8 +188,7 @@ enum hailstoat_refusal {
     HAILSTOAT_KIND_ABOVE = 3,
     HAILSTOAT_SHORT = 4, /* of records alone */
     HAILSTOAT_NO_DIVISOR = 5,
-    HAILSTOAT_BAD_ARRIVAL = 6, /* marks above 7; data not within the word length;
-                                  parity mark with parity off; break with data not 0 */
+    HAILSTOAT_MARKS_ABOVE = 6, /* of an arrival; 16, 17 and 18 are tried right behind it */
     HAILSTOAT_LEVELS_ABOVE = 7,
     HAILSTOAT_NOT_READY = 8, /* any read, an acknowledge, a port 0 write without bit 4,
                                 or a port 1 write before any accepted ICW1 */
@@ -201,6 +200,9 @@ enum hailstoat_refusal {
     HAILSTOAT_WRONG_MARK = 13, /* of saved benches, which no function here reads or writes */
     HAILSTOAT_UNKNOWN_VERSION = 14, /* of saved benches too */
     HAILSTOAT_NO_SUCH_BENCH = 15, /* of saved benches too */
+    HAILSTOAT_BEYOND_WORD = 16, /* data with more bits than LCR bits 0 and 1 say */
+    HAILSTOAT_PARITY_UNASKED = 17, /* a parity mark while LCR bit 3 is clear */
+    HAILSTOAT_BREAK_WITH_DATA = 18, /* a break mark with data not 0 */
 };
 
 /* A refusal in words, for a log. */
@@ -213,7 +215,7 @@ static inline const char *hailstoat_refusal_words(unsigned refusal)
     case HAILSTOAT_KIND_ABOVE: return "kind above 8";
     case HAILSTOAT_SHORT: return "record cut off at the end";
     case HAILSTOAT_NO_DIVISOR: return "arrival or character time while the divisor is 0";
-    case HAILSTOAT_BAD_ARRIVAL: return "a character that cannot arrive so";
+    case HAILSTOAT_MARKS_ABOVE: return "arrival: marks above 7";
     case HAILSTOAT_LEVELS_ABOVE: return "modem levels above 15";
     case HAILSTOAT_NOT_READY: return "controller not ready";
     case HAILSTOAT_NOT_SERVED: return "not served (loopback, cascaded controllers, 8080 mode, poll)";
@@ -223,6 +225,9 @@ static inline const char *hailstoat_refusal_words(unsigned refusal)
     case HAILSTOAT_WRONG_MARK: return "wrong mark";
     case HAILSTOAT_UNKNOWN_VERSION: return "unknown version";
     case HAILSTOAT_NO_SUCH_BENCH: return "a saved bench that cannot be";
+    case HAILSTOAT_BEYOND_WORD: return "arrival: data beyond the word length";
+    case HAILSTOAT_PARITY_UNASKED: return "arrival: parity mark with parity off";
+    case HAILSTOAT_BREAK_WITH_DATA: return "arrival: break with data not 0";
     default: return "no refusal that this header knows";
     }
 }

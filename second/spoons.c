@@ -133,7 +133,7 @@ static const struct step edges[] = {
     MODEM(7, 15), {{3, 7, 0, 16}, 1, REFUSED_BY(7), 0},
     {{2, 0, 0, 0}, 1, REFUSED_BY(5), 0}, {{4, 0, 0, 0}, 1, REFUSED_BY(5), 0},
     WRITE(0, 3, 0x80), WRITE(0, 0, 1), WRITE(0, 3, 0x00),
-    ARRIVAL(0, 0, 0x1F), {{2, 0, 0, 0x20}, 1, REFUSED_BY(6), 0}, PASS(0, 1),
+    ARRIVAL(0, 0, 0x1F), {{2, 0, 0, 0x20}, 1, REFUSED_BY(16), 0}, PASS(0, 1),
 };
 
 struct spoon {

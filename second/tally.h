@@ -18,10 +18,29 @@
     ITEM(REFUSED_3, "refusal 3") \
     ITEM(REFUSED_5_ARRIVAL, "refusal 5, arrival") \
     ITEM(REFUSED_5_TIME, "refusal 5, character time") \
-    ITEM(REFUSED_6_MARKS, "refusal 6, marks above 7") \
-    ITEM(REFUSED_6_DATA, "refusal 6, data not within the word length") \
-    ITEM(REFUSED_6_PARITY, "refusal 6, parity mark alone to blame") \
-    ITEM(REFUSED_6_BREAK, "refusal 6, break alone to blame") \
+    ITEM(REFUSED_5_6, "refusal 5 where 6 holds too") \
+    ITEM(REFUSED_5_16, "refusal 5 where 16 holds too") \
+    ITEM(REFUSED_5_17, "refusal 5 where 17 holds too") \
+    ITEM(REFUSED_5_18, "refusal 5 where 18 holds too") \
+    ITEM(REFUSED_6, "refusal 6 alone") \
+    ITEM(REFUSED_6_16, "refusal 6 where 16 holds too") \
+    ITEM(REFUSED_6_17, "refusal 6 where 17 holds too") \
+    ITEM(REFUSED_6_18, "refusal 6 where 18 holds too") \
+    ITEM(REFUSED_6_16_17, "refusal 6 where 16 and 17 hold too") \
+    ITEM(REFUSED_6_16_18, "refusal 6 where 16 and 18 hold too") \
+    ITEM(REFUSED_6_17_18, "refusal 6 where 17 and 18 hold too") \
+    ITEM(REFUSED_6_16_17_18, "refusal 6 where 16, 17 and 18 hold too") \
+    ITEM(REFUSED_16, "refusal 16 alone") \
+    ITEM(REFUSED_16_17, "refusal 16 where 17 holds too") \
+    ITEM(REFUSED_16_18, "refusal 16 where 18 holds too") \
+    ITEM(REFUSED_16_17_18, "refusal 16 where 17 and 18 hold too") \
+    ITEM(REFUSED_17, "refusal 17 alone") \
+    ITEM(REFUSED_17_18, "refusal 17 where 18 holds too") \
+    ITEM(REFUSED_18, "refusal 18 alone") \
+    ITEM(PARITY_000, "parity mark refused by 17 at LCR bits 5-3 000") \
+    ITEM(PARITY_010, "parity mark refused by 17 at LCR bits 5-3 010") \
+    ITEM(PARITY_100, "parity mark refused by 17 at LCR bits 5-3 100") \
+    ITEM(PARITY_110, "parity mark refused by 17 at LCR bits 5-3 110") \
     ITEM(REFUSED_7, "refusal 7") \
     ITEM(REFUSED_8_READ, "refusal 8, read") \
     ITEM(REFUSED_8_ACKNOWLEDGE, "refusal 8, acknowledge") \
@@ -53,7 +72,17 @@
     ITEM(ARRIVAL_SIXTEENTH, "arrival fills sixteen places") \
     ITEM(WORD_5, "arrival at five bits") ITEM(WORD_6, "arrival at six bits") \
     ITEM(WORD_7, "arrival at seven bits") ITEM(WORD_8, "arrival at eight bits") \
-    ITEM(EDGE_1F, "1F arrives at five bits") ITEM(EDGE_20, "20 refused at five bits") \
+    ITEM(EDGE_1F, "1F arrives at five bits") ITEM(EDGE_3F, "3F arrives at six bits") \
+    ITEM(EDGE_7F, "7F arrives at seven bits") ITEM(EDGE_FF, "FF arrives at eight bits") \
+    ITEM(EDGE_20, "20 refused by 16 at five bits") ITEM(EDGE_40, "40 refused by 16 at six bits") \
+    ITEM(EDGE_80, "80 refused by 16 at seven bits") \
+    ITEM(EDGE_MARKS_7, "marks 7 accepted") ITEM(EDGE_MARKS_8, "marks 8 refused by 6") \
+    ITEM(PARITY_001, "parity mark accepted at LCR bits 5-3 001") \
+    ITEM(PARITY_011, "parity mark accepted at LCR bits 5-3 011") \
+    ITEM(PARITY_101, "parity mark accepted at LCR bits 5-3 101") \
+    ITEM(PARITY_111, "parity mark accepted at LCR bits 5-3 111") \
+    ITEM(EDGE_BREAK_0, "break with data 0 accepted") \
+    ITEM(EDGE_BREAK_1, "break with data 1 refused by 18") \
     ITEM(THR_REPLACES, "THR write replaces in 16450 mode") \
     ITEM(THR_DROPPED, "THR write dropped in FIFO mode") \
     ITEM(SENT, "byte sent") ITEM(SENT_CUT, "byte sent is cut") \

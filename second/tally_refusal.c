@@ -1,19 +1,70 @@
+#include <stddef.h>
+
 #include "tally.h"
+
+/* What is off with an arrival, by the numbers that it could be refused by. */
+#define OFF_6 0x1U
+#define OFF_16 0x2U
+#define OFF_17 0x4U
+#define OFF_18 0x8U
+
+static const struct {
+    enum refusal refusal;
+    unsigned off;
+    enum tally_item item;
+} arrivals[] = {
+    {REFUSAL_NO_DIVISOR, OFF_6, TALLY_REFUSED_5_6},
+    {REFUSAL_NO_DIVISOR, OFF_16, TALLY_REFUSED_5_16},
+    {REFUSAL_NO_DIVISOR, OFF_17, TALLY_REFUSED_5_17},
+    {REFUSAL_NO_DIVISOR, OFF_18, TALLY_REFUSED_5_18},
+    {REFUSAL_MARKS_ABOVE, OFF_6, TALLY_REFUSED_6},
+    {REFUSAL_MARKS_ABOVE, OFF_6 | OFF_16, TALLY_REFUSED_6_16},
+    {REFUSAL_MARKS_ABOVE, OFF_6 | OFF_17, TALLY_REFUSED_6_17},
+    {REFUSAL_MARKS_ABOVE, OFF_6 | OFF_18, TALLY_REFUSED_6_18},
+    {REFUSAL_MARKS_ABOVE, OFF_6 | OFF_16 | OFF_17, TALLY_REFUSED_6_16_17},
+    {REFUSAL_MARKS_ABOVE, OFF_6 | OFF_16 | OFF_18, TALLY_REFUSED_6_16_18},
+    {REFUSAL_MARKS_ABOVE, OFF_6 | OFF_17 | OFF_18, TALLY_REFUSED_6_17_18},
+    {REFUSAL_MARKS_ABOVE, OFF_6 | OFF_16 | OFF_17 | OFF_18, TALLY_REFUSED_6_16_17_18},
+    {REFUSAL_DATA_BEYOND, OFF_16, TALLY_REFUSED_16},
+    {REFUSAL_DATA_BEYOND, OFF_16 | OFF_17, TALLY_REFUSED_16_17},
+    {REFUSAL_DATA_BEYOND, OFF_16 | OFF_18, TALLY_REFUSED_16_18},
+    {REFUSAL_DATA_BEYOND, OFF_16 | OFF_17 | OFF_18, TALLY_REFUSED_16_17_18},
+    {REFUSAL_PARITY_OFF, OFF_17, TALLY_REFUSED_17},
+    {REFUSAL_PARITY_OFF, OFF_17 | OFF_18, TALLY_REFUSED_17_18},
+    {REFUSAL_BREAK_WITH_DATA, OFF_18, TALLY_REFUSED_18},
+};
+
+static unsigned what_is_off(const struct channel *seat, struct event event)
+{
+    unsigned off = 0;
+    if (event.number > 7)
+        off |= OFF_6;
+    if (event.value > channel_largest_character(seat))
+        off |= OFF_16;
+    if ((event.number & MARK_PARITY) != 0 && (seat->lcr & LCR_PARITY) == 0)
+        off |= OFF_17;
+    if ((event.number & MARK_BREAK) != 0 && event.value != 0)
+        off |= OFF_18;
+    return off;
+}
 
 static void tally_arrival(struct tally *tally, const struct moment *moment)
 {
+    static const unsigned first_beyond[4] = {0x20, 0x40, 0x80, 0x100};
     const struct channel *seat = &moment->before->seats[moment->event.seat];
-    unsigned marks = moment->event.number;
-    unsigned data = moment->event.value;
-    bool above = marks > 7;
-    bool too_long = data > channel_largest_character(seat);
-    bool parity = (marks & MARK_PARITY) != 0 && (seat->lcr & LCR_PARITY) == 0;
-    bool broken = (marks & MARK_BREAK) != 0 && data != 0;
-    tally_if(tally, above, TALLY_REFUSED_6_MARKS);
-    tally_if(tally, !above && too_long, TALLY_REFUSED_6_DATA);
-    tally_if(tally, !above && !too_long && !broken && parity, TALLY_REFUSED_6_PARITY);
-    tally_if(tally, !above && !too_long && broken && !parity, TALLY_REFUSED_6_BREAK);
-    tally_if(tally, data == 0x20 && (seat->lcr & 3U) == 0, TALLY_EDGE_20);
+    enum refusal refusal = moment->outcome.refusal;
+    struct event event = moment->event;
+    unsigned off = what_is_off(seat, event);
+    unsigned length = seat->lcr & 3U;
+    for (size_t i = 0; i < sizeof arrivals / sizeof arrivals[0]; i += 1)
+        tally_if(tally, refusal == arrivals[i].refusal && off == arrivals[i].off,
+                 arrivals[i].item);
+    tally_if(tally, refusal == REFUSAL_MARKS_ABOVE && event.number == 8, TALLY_EDGE_MARKS_8);
+    tally_if(tally, refusal == REFUSAL_DATA_BEYOND && event.value == first_beyond[length],
+             tally_behind(TALLY_EDGE_20, length));
+    tally_if(tally, refusal == REFUSAL_PARITY_OFF && (off & OFF_17) != 0,
+             tally_behind(TALLY_PARITY_000, seat->lcr >> 4 & 3U));
+    tally_if(tally, refusal == REFUSAL_BREAK_WITH_DATA && event.value == 1, TALLY_EDGE_BREAK_1);
 }
 
 static void tally_not_ready(struct tally *tally, const struct moment *moment)
@@ -54,7 +105,7 @@ void tally_refusal(struct tally *tally, const struct moment *moment)
     tally_if(tally, of_divisor && event.kind == KIND_CHARACTER_TIME, TALLY_REFUSED_5_TIME);
     tally_if(tally, refusal == REFUSAL_LEVELS_ABOVE, TALLY_REFUSED_7);
     tally_if(tally, refusal == REFUSAL_LEVELS_ABOVE && event.value == 16, TALLY_EDGE_LEVELS_16);
-    if (refusal == REFUSAL_BAD_ARRIVAL)
+    if (event.kind == KIND_ARRIVAL && refusal != REFUSAL_SEAT_ABOVE)
         tally_arrival(tally, moment);
     if (refusal == REFUSAL_NOT_READY)
         tally_not_ready(tally, moment);

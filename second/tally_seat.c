@@ -101,14 +101,23 @@ static bool divisor_is_1(const struct channel *seat)
 
 static void tally_arrival(struct tally *tally, const struct moment *moment)
 {
+    static const unsigned largest[4] = {0x1F, 0x3F, 0x7F, 0xFF};
     const struct channel *seat = seat_before(moment);
     bool fifo = channel_in_fifo_mode(seat);
     bool full = seat->receive.count == channel_places(seat);
+    bool parity = (seat->lcr & LCR_PARITY) != 0;
+    unsigned length = seat->lcr & 3U;
+    unsigned marks = moment->event.number;
+    unsigned data = moment->event.value;
     tally_if(tally, full && !fifo, TALLY_ARRIVAL_REPLACES);
     tally_if(tally, full && fifo, TALLY_ARRIVAL_LOST);
     tally_if(tally, seat->receive.count == PLACES_FIFO - 1, TALLY_ARRIVAL_SIXTEENTH);
-    tally_if(tally, true, tally_behind(TALLY_WORD_5, seat->lcr & 3U));
-    tally_if(tally, moment->event.value == 0x1F && (seat->lcr & 3U) == 0, TALLY_EDGE_1F);
+    tally_if(tally, true, tally_behind(TALLY_WORD_5, length));
+    tally_if(tally, data == largest[length], tally_behind(TALLY_EDGE_1F, length));
+    tally_if(tally, marks == 7, TALLY_EDGE_MARKS_7);
+    tally_if(tally, parity && (marks & MARK_PARITY) != 0,
+             tally_behind(TALLY_PARITY_001, seat->lcr >> 4 & 3U));
+    tally_if(tally, (marks & MARK_BREAK) != 0 && data == 0, TALLY_EDGE_BREAK_0);
     tally_if(tally, divisor_is_1(seat), TALLY_DIVISOR_1);
 }
 

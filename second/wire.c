@@ -2,25 +2,29 @@
    time, master reset. */
 #include "channel.h"
 
-static bool arrival_is_sound(const struct channel *channel, struct character character)
+/* "6 is now marks above 7 only; 16 data beyond the word length, 17 parity mark
+   with parity off, 18 break with data; tried in this order" */
+static enum refusal refusal_of_arrival(const struct channel *channel, struct character character)
 {
-    /* "arrival: marks above 7; data not within the word length; parity mark
-       with parity off; break with data not 0" */
     if (character.marks > 7)
-        return false;
+        return REFUSAL_MARKS_ABOVE;
     if (character.data > channel_largest_character(channel))
-        return false;
+        return REFUSAL_DATA_BEYOND;
     if ((character.marks & MARK_PARITY) != 0 && (channel->lcr & LCR_PARITY) == 0)
-        return false;
-    return (character.marks & MARK_BREAK) == 0 || character.data == 0;
+        return REFUSAL_PARITY_OFF;
+    /* Document 01: "break with data not 0" */
+    if ((character.marks & MARK_BREAK) != 0 && character.data != 0)
+        return REFUSAL_BREAK_WITH_DATA;
+    return REFUSAL_NONE;
 }
 
 struct outcome channel_arrival(struct channel *channel, struct character character)
 {
     if (channel_divisor_is_zero(channel))
         return refused(REFUSAL_NO_DIVISOR);
-    if (!arrival_is_sound(channel, character))
-        return refused(REFUSAL_BAD_ARRIVAL);
+    enum refusal refusal = refusal_of_arrival(channel, character);
+    if (refusal != REFUSAL_NONE)
+        return refused(refusal);
 
     bool fifo = channel_in_fifo_mode(channel);
     bool full = channel->receive.count == channel_places(channel);

@@ -1,4 +1,5 @@
-/* Each number of document 01's list of refusals at its edges, and their order. */
+/* Each number by which an event is refused at its edges, and their order:
+   document 01's list, and ticket 4 of document 02. */
 #include "edges.h"
 
 #include <string.h>
@@ -32,9 +33,9 @@ const struct edge edge_list[] = {
     {"arrival: divisor 1 and 0", FIVE_BITS, {2, 0, 0, 1}, {2, 1, 0, 1}, 5},
     {"character time: divisor 1 and 0", FIVE_BITS, {4, 0, 0, 0}, {4, 1, 0, 0}, 5},
     {"arrival: marks 7, 8", PARITY, {2, 0, 7, 0}, {2, 0, 8, 0}, 6},
-    {"arrival: 1F, 20 at five bits", FIVE_BITS, {2, 0, 0, 0x1F}, {2, 0, 0, 0x20}, 6},
-    {"arrival: framing mark, parity mark with parity off", EIGHT_BITS, {2, 0, 2, 0xFF}, {2, 0, 1, 0xFF}, 6},
-    {"arrival: break with data 0, 1", EIGHT_BITS, {2, 0, 4, 0}, {2, 0, 4, 1}, 6},
+    {"arrival: 1F, 20 at five bits", FIVE_BITS, {2, 0, 0, 0x1F}, {2, 0, 0, 0x20}, 16},
+    {"arrival: framing mark, parity mark with parity off", EIGHT_BITS, {2, 0, 2, 0xFF}, {2, 0, 1, 0xFF}, 17},
+    {"arrival: break with data 0, 1", EIGHT_BITS, {2, 0, 4, 0}, {2, 0, 4, 1}, 18},
     {"modem levels 15, 16", POWER_UP, {3, 0, 0, 15}, {3, 0, 0, 16}, 7},
     {"ICW4 and a read, not ready", AWAITS_ICW4, {7, 0, 1, 0x01}, {6, 0, 0, 0}, 8},
     {"ICW4 and an acknowledge, not ready", AWAITS_ICW4, {7, 0, 1, 0x01}, {8, 0, 0, 0}, 8},
@@ -48,6 +49,9 @@ const struct edge edge_list[] = {
     {"order: kind before seat and register", POWER_UP, {5, 8, 8, 0}, {9, 8, 8, 0}, 3},
     {"order: seat before register", POWER_UP, {1, 7, 7, 0x10}, {1, 8, 8, 0x10}, 1},
     {"order: divisor before marks", FIVE_BITS, {2, 0, 0, 0}, {2, 1, 8, 0xFF}, 5},
+    {"order: marks before data", FIVE_BITS, {2, 0, 0, 0x1F}, {2, 0, 13, 0x20}, 6},
+    {"order: data before parity and break", FIVE_BITS, {2, 0, 0, 0x1F}, {2, 0, 5, 0x20}, 16},
+    {"order: parity before break", FIVE_BITS, {2, 0, 4, 0}, {2, 0, 5, 1}, 17},
 };
 const size_t edge_count = sizeof edge_list / sizeof edge_list[0];
 

@@ -67,9 +67,9 @@ static void edges(void)
     for (size_t i = 0; i < edge_count; i += 1)
         if (!edge_holds(&edge_list[i])) {
             fprintf(stderr, "%s: ", edge_list[i].what);
-            fail("not as document 01 has it");
+            fail("not as the documents have it");
         }
-    printf("edges: %u; past each the refusal of document 01 and every byte as before\n", (unsigned)edge_count);
+    printf("edges: %u; past each its refusal and every byte as before\n", (unsigned)edge_count);
 }
 
 static void divisors(const char *path)

@@ -1,5 +1,5 @@
 /* The header's names for registers, bits, marks, levels and refusals: a bench
-   is worked by them alone, and answers by them as document 01 says. */
+   is worked by them alone, and answers by them as the documents say. */
 #include "names.h"
 
 #include <stdio.h>
@@ -179,7 +179,7 @@ static void bits_without_a_name(void)
 
 static void all_refusals_have_words(void)
 {
-    for (unsigned i = HAILSTOAT_ACCEPTED; i <= HAILSTOAT_NO_SUCH_BENCH + 1; i += 1)
+    for (unsigned i = HAILSTOAT_ACCEPTED; i <= HAILSTOAT_BREAK_WITH_DATA + 1; i += 1)
         for (unsigned j = HAILSTOAT_ACCEPTED; j < i; j += 1)
             if (strcmp(hailstoat_refusal_words(i), hailstoat_refusal_words(j)) == 0)
                 fail("two refusals have the same words");
@@ -188,15 +188,25 @@ static void all_refusals_have_words(void)
     is_refused("register 8", HAILSTOAT_READ_REGISTER, 8, 0, HAILSTOAT_NUMBER_ABOVE);
     is_refused("kind 9", 9, 0, 0, HAILSTOAT_KIND_ABOVE);
     is_refused("an arrival at power-up", HAILSTOAT_ARRIVAL, 0, 0, HAILSTOAT_NO_DIVISOR);
-    set_up(0);
-    is_refused("marks 8", HAILSTOAT_ARRIVAL, 8, 0, HAILSTOAT_BAD_ARRIVAL);
     is("HAILSTOAT_SHORT", HAILSTOAT_SHORT, 4);
+}
+
+static void arrivals_that_cannot_be(void)
+{
+    set_up(0);
+    writes(0, HAILSTOAT_LCR, HAILSTOAT_LCR_7_BITS);
+    is_refused("marks 8", HAILSTOAT_ARRIVAL, 8, 0x80, HAILSTOAT_MARKS_ABOVE);
+    is_refused("80 at seven bits", HAILSTOAT_ARRIVAL, HAILSTOAT_MARK_PARITY, 0x80, HAILSTOAT_BEYOND_WORD);
+    is_refused("a parity mark without parity", HAILSTOAT_ARRIVAL, HAILSTOAT_MARK_PARITY | HAILSTOAT_MARK_BREAK, 1,
+               HAILSTOAT_PARITY_UNASKED);
+    is_refused("a break with data", HAILSTOAT_ARRIVAL, HAILSTOAT_MARK_BREAK, 1, HAILSTOAT_BREAK_WITH_DATA);
 }
 
 void names_mean(void)
 {
     static void (*const parts[])(void) = {divisor_and_scratch, line_status, queues, triggers, causes, levels, sending,
-                                          modem_outputs, bits_without_a_name, all_refusals_have_words};
+                                          modem_outputs, bits_without_a_name, all_refusals_have_words,
+                                          arrivals_that_cannot_be};
     size_t count = each_from_power_up(parts, sizeof parts / sizeof parts[0]) + controller_names_mean();
-    printf("names: %zu ways to work a bench by them, each as document 01 has it\n", count);
+    printf("names: %zu ways to work a bench by them, each as the documents have it\n", count);
 }

@@ -208,7 +208,7 @@ effect-sound c (Write n byte) fine s =
     write-sound c (registerAt (divisorShown c) n) byte (register-taken n byte (both-hold (ltb n 8) _ fine .1) (divisorShown c)) s
 effect-sound c (Arrival marks byte) fine s =
     let all = both-hold (not (undivided (c .settings))) _ fine .1 in
-    let small : marks < 8 = ltb-true _ _ (both-hold _ _ (both-hold _ _ (both-hold _ _ all .0) .0) .0) in
+    let small : marks < 8 = ltb-true _ _ (both-hold (ltb marks 8) _ all .0) in
     with-receiver c _ s (heard.receive-sound (fifo c) (c .receiver) (record { «data» = byte; marks = marks }) (s .receiver) small)
 effect-sound c (Levels levels) fine s = with-modem c _ s (ltb-true levels 16 fine) (changes-small (c .modem .changes) (c .modem .levels) levels)
 effect-sound c Time fine s =

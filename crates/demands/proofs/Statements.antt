@@ -12,7 +12,7 @@ use Rattle.demands.proofs.WrongPrograms.{shut-out, let-in}
 use Rattle.demands.proofs.Needed.{needed}
 use Rattle.demands.proofs.Starred.{tasted}
 use Rattle.demands.proofs.Worked.{worked}
-use Rattle.demands.proofs.Edges.{at-the-edges}
+use Rattle.demands.proofs.Edges.{at-the-edges, by-ingredient}
 
 pub statements : Statements
 statements =
@@ -37,4 +37,5 @@ statements =
       tasted = tasted;
       worked = worked;
       at-the-edges = at-the-edges;
+      by-ingredient = by-ingredient;
     }

@@ -34,7 +34,7 @@ pub record Accepted (gs : List Ground) (a : Answer) : Type 0 where
   pub number : refusalOf a ≡ 0
   pub none : noneHolds gs ≡ true
 
--- a refused one has the number listed in document 01, and a value that the demand names
+-- a refused one has the first number of the order that stands, and a value that the demand names
 pub record RefusedBy (order : List ℕ) (value : ℕ) (gs : List Ground) (a : Answer) : Type 0 where
   pub listed : Listed order (refusalOf a) gs
   pub told : valueOf a ≡ value

@@ -11,7 +11,7 @@ use Rattle.demands.specs.WrongPrograms.{ShutOut, LetIn}
 use Rattle.demands.specs.Needed.{Needed}
 use Rattle.demands.specs.Starred.{Tasted}
 use Rattle.demands.specs.Worked.{Worked}
-use Rattle.demands.specs.Edges.{Edges}
+use Rattle.demands.specs.Edges.{Edges, Ingredients}
 
 pub record Statements : Type 0 where
   pub contracts-say : ContractsSay
@@ -34,3 +34,4 @@ pub record Statements : Type 0 where
   pub tasted : Tasted
   pub worked : Worked
   pub at-the-edges : Edges
+  pub by-ingredient : Ingredients

@@ -1,7 +1,6 @@
 -- No number of C is cut: one that is past a byte has, as 255, the outcome that it has as it is.
 use Prim.Native.Nat.{ℕ, _≤_}
 use mathlib.Core.Bool.{Bool, true, false}
-use mathlib.Core.List.{[], _∷_}
 use mathlib.Core.Logic.{⊎-elim}
 use mathlib.Core.Path.{_≡_, refl, ap, sym, _∙_}
 use native.Mathlib.Omega.{arith}
@@ -9,7 +8,8 @@ use lib.Dec.{eqb, ltb}
 use borrow.Author.Tests.{lt-ltb, ltb-true, ltb-false}
 use Rattle.base.specs.Pick.{pick}
 use Rattle.base.specs.PickLaws.{pick-true, pick-false, pick-cases, not-both, either-way}
-use Rattle.base.specs.Refusals.{firstOf, refusalBy}
+use Rattle.base.specs.Refusals.{firstOf, refusalBy, firstHeld}
+use Rattle.base.specs.RefusalLaws.{in-order}
 use Rattle.base.specs.declared.Answer.the-variants.{Refused}
 use Rattle.rates.specs.Rates.{divisorOf}
 use Rattle.rates.specs.RatesLaws.{clock-refused}
@@ -17,7 +17,8 @@ use Rattle.registers.specs.declared.SeatEvent.{SeatEvent}
 use Rattle.registers.specs.declared.SeatEvent.the-variants.{Read, Write, Arrival}
 use Rattle.registers.specs.Refusals as registers
 use Rattle.seat.specs.declared.Seat.{Seat}
-use Rattle.seat.specs.Steps.{refusal}
+use Rattle.seat.specs.Steps.{refusal, grounds}
+use Rattle.seat.specs.StepLaws.{in-turn}
 use Rattle.controller.specs.declared.Controller.{Controller}
 use Rattle.controller.specs.declared.Signalled.{Signalled}
 use Rattle.controller.specs.Signals.{Signal, read, write}
@@ -75,17 +76,20 @@ module _ (s : Seat) (c : Controller) (n v : ℕ) where
   unfolding refusal registers.grounds refusalBy firstOf pick
   register-written m past = rw (lt-ltb 7 m (omega arith))
 
+  -- by the divisor, or else by the marks, whatever else is off
   abbrev arrivalBy : Bool → ℕ
-  arrivalBy none = refusalBy (record { number = 5; holds = none } ∷ record { number = 6; holds = true } ∷ [])
+  arrivalBy none = pick none 5 6
 
   arrival-refused : (none : Bool) → eqb (arrivalBy none) 0 ≡ false
-  unfolding refusalBy firstOf pick
+  unfolding pick
   arrival-refused true = refl
   arrival-refused false = refl
 
   arrival-marks : (m : ℕ) → 255 ≤ m → refusal s (Arrival m v) ≡ arrivalBy (registers.noDivisor (s .channel .settings))
-  unfolding refusal registers.grounds
-  arrival-marks m past = rw (lt-ltb 7 m (omega arith))
+  unfolding refusal registers.grounds firstHeld
+  arrival-marks m past =
+      in-order (grounds s (Arrival m v)) (in-turn s (Arrival m v))
+      ∙ ap (pick (registers.noDivisor (s .channel .settings)) 5) (pick-true _ _ _ (lt-ltb 7 m (omega arith)))
 
   arrival-past : (m : ℕ) → 255 ≤ m → touched s c n (Arrival m v) ≡ touched s c n (Arrival 255 v)
   arrival-past m past =

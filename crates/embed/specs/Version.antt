@@ -6,7 +6,7 @@ abbrev pub versionOf : ℕ → ℕ → ℕ → ℕ
 versionOf major minor patch = major * 10000 + minor * 100 + patch
 
 abbrev major : ℕ
-major = 1
+major = 2
 
 abbrev minor : ℕ
 minor = 0

@@ -67,7 +67,7 @@ fn meet_parts(seat: Seat, controller: Controller, event: Event) -> Touched
     }
 }
 
-// "The order is 4, 3, 1, 2, then 5, 6, 7, 8, 9": a record that is no event leaves with its refusal.
+// "The order is 4, 3, 1, 2": a record that is no event leaves with its refusal.
 pub fn step_parts(
     seat: Seat,
     controller: Controller,

@@ -1,13 +1,17 @@
 -- What is right where an edit of must-fail/ goes wrong: closed statements, each false under the edit that names it.
+use Prim.Native.Nat.{ℕ}
 use mathlib.Core.Bool.{true, false}
 use mathlib.Core.Path.{_≡_, refl}
 use lib.Dec.{eqb}
 use Rattle.base.specs.Pick.{pick}
 use Rattle.base.specs.Bits.{bit, digit, bits}
+use Rattle.base.specs.Refusals.{firstOf, refusalBy}
 use Rattle.registers.specs.declared.Settings.{Settings}
+use Rattle.registers.specs.declared.SeatEvent.the-variants.{Arrival}
 use Rattle.registers.specs.Registers.{plainRegister, registerAt, kept, divisor, withDlm}
 use Rattle.registers.specs.Words.{cut}
 use Rattle.registers.specs.Modem.{changesAfter}
+use Rattle.registers.specs.Refusals.{grounds, refusal}
 
 -- every register 0
 abbrev zeros : Settings
@@ -31,3 +35,27 @@ ri-tells-its-fall = refl
 five-bits-are-1f : cut 0 0xFF ≡ 0x1F
 unfolding cut
 five-bits-are-1f = refl
+
+-- what refuses an arrival at divisor 1 and this LCR
+abbrev arriving : ℕ → ℕ → ℕ → ℕ
+arriving lcr marks byte = refusal (record { ier = 0; fcr = 0; lcr = lcr; mcr = 0; scratch = 0; dll = 1; dlm = 0 }) (Arrival marks byte)
+
+-- ticket 4: "6 is now marks above 7 only". Of `which-one`
+data-has-its-number : arriving 0 0 0x20 ≡ 16
+unfolding refusal grounds refusalBy firstOf pick bit
+data-has-its-number = refl
+
+-- ticket 4: "17 parity mark with parity off", and before a break. Of `which-one`
+parity-before-break : arriving 0 5 0x01 ≡ 17
+unfolding refusal grounds refusalBy firstOf pick bit
+parity-before-break = refl
+
+-- ticket 4: "parity mark with parity off": with LCR bit 3 it is on. Of `accepted`
+parity-is-bit-3 : arriving 8 1 0x01 ≡ 0
+unfolding refusal grounds refusalBy firstOf pick bit
+parity-is-bit-3 = refl
+
+-- ticket 4: "break with data": with data 0 it is none. Of `accepted`
+break-alone-arrives : arriving 0 4 0x00 ≡ 0
+unfolding refusal grounds refusalBy firstOf pick bit
+break-alone-arrives = refl

@@ -4,6 +4,7 @@ pub mod Modem
 pub mod Refusals
 pub mod RegisterLaws
 pub mod RefusalLaws
+pub mod ArrivalLaws
 pub mod KeptLaws
 pub mod WordLaws
 pub mod ModemLaws

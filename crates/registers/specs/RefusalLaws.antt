@@ -1,4 +1,5 @@
--- What a seat refuses, and by which number: nothing of what is accepted, and everything else.
+-- What a seat refuses, and by which number: nothing of what is accepted, and everything else. By which of its four an arrival is refused stands in
+-- ArrivalLaws.
 use Prim.Native.Nat.{ℕ, _+_, _%_, _^_, _<_}
 use mathlib.Core.Bool.{Bool, true, false, not, _&&_, _||_, and-true}
 use mathlib.Core.Path.{_≡_, refl, ap, ap₂, sym, _∙_}
@@ -6,14 +7,13 @@ use mathlib.Core.Logic.{⊎-elim}
 use lib.Dec.{ltb, leb, eqb}
 use borrow.Author.Tests.{lt-ltb, le-ltb, leb-true, leb-false}
 use Rattle.base.specs.Pick.{pick}
-use Rattle.base.specs.PickLaws.{pick-true, pick-false, either-way, never}
+use Rattle.base.specs.PickLaws.{pick-true, either-way}
 use Rattle.base.specs.Bits.{bit}
 use Rattle.base.specs.Refusals.{refusalOrder, firstHeld}
 use Rattle.base.specs.RefusalLaws.{follows, in-order, noneHolds, none-given}
 use Rattle.registers.specs.declared.Settings.{Settings}
 use Rattle.registers.specs.declared.SeatEvent.{SeatEvent}
 use Rattle.registers.specs.declared.SeatEvent.the-variants.{Read, Write, Arrival, Levels, Time}
-use Rattle.registers.specs.Words.{badArrival}
 use Rattle.registers.specs.Refusals.{noDivisor, grounds, refusal}
 use Rattle.registers.specs.RegisterLaws.{divisor-none}
 
@@ -37,33 +37,42 @@ first-held s e = in-order (grounds s e) (in-turn s e)
 abbrev pub undivided : Settings → Bool
 undivided s = eqb (s .dll) 0 && eqb (s .dlm) 0
 
+-- of a character that may arrive: its marks are below 8
+abbrev pub marksFit : ℕ → Bool
+marksFit marks = ltb marks 8
+
+-- its data are below the power of two that the word length makes
+abbrev pub dataFits : Settings → ℕ → Bool
+dataFits s byte = ltb byte (2 ^ (5 + s .lcr % 4))
+
+-- a parity mark stands only with LCR bit 3
+abbrev pub parityFits : Settings → ℕ → Bool
+parityFits s marks = not (bit 0 marks) || bit 3 (s .lcr)
+
+-- and a break mark only with data 0
+abbrev pub breakFits : ℕ → ℕ → Bool
+breakFits marks byte = not (bit 2 marks) || eqb byte 0
+
 -- what a seat accepts, told the other way round: a register below 8, and no MCR write with bit 4; levels below 16; with a divisor, a character
--- time, and an arrival with marks below 8, within the word length, whose parity mark wants parity and whose break wants data 0
+-- time, and an arrival of which all four are so
 abbrev pub accepts : Settings → SeatEvent → Bool
 accepts s (Read n) = ltb n 8
 accepts s (Write n byte) = ltb n 8 && not (eqb n 4 && bit 4 byte)
-accepts s (Arrival marks byte) =
-    not (undivided s)
-    && (ltb marks 8 && ltb byte (2 ^ (5 + s .lcr % 4)) && (not (bit 0 marks) || bit 3 (s .lcr)) && (not (bit 2 marks) || eqb byte 0))
+accepts s (Arrival marks byte) = not (undivided s) && (marksFit marks && (dataFits s byte && (parityFits s marks && breakFits marks byte)))
 accepts s (Levels levels) = ltb levels 16
 accepts s Time = not (undivided s)
 
-below : (a b : ℕ) → not (leb b a) ≡ ltb a b
+-- not at least is less
+pub below : (a b : ℕ) → not (leb b a) ≡ ltb a b
 below a b =
     ⊎-elim (λ (e : leb b a ≡ true). rw (e, le-ltb a b (leb-true b a e)))
     (λ (e : leb b a ≡ false). rw (e, lt-ltb a b (leb-false b a e))) (either-way (leb b a))
 
--- none of four conditions, the last two of which are a wish not met
-unhindered : (a b p q r s : Bool) → not (a || b || (p && not q) || (r && not s)) ≡ (not a && not b && (not p || q) && (not r || s))
-unhindered true b p q r s = refl
-unhindered false true p q r s = refl
-unhindered false false true true true true = refl
-unhindered false false true true true false = refl
-unhindered false false true true false s = refl
-unhindered false false true false r s = refl
-unhindered false false false q true true = refl
-unhindered false false false q true false = refl
-unhindered false false false q false s = refl
+-- a mark fits where it is absent, or what it needs is there
+pub fits : (mark needed : Bool) → not (mark && not needed) ≡ (not mark || needed)
+fits true true = refl
+fits true false = refl
+fits false needed = refl
 
 -- 0 exactly if no ground holds
 none-held : (s : Settings) (e : SeatEvent) → eqb (refusal s e) 0 ≡ noneHolds (grounds s e)
@@ -77,19 +86,13 @@ accepted s (Read n) = none-held s (Read n) ∙ and-true _ ∙ below n 8
 accepted s (Write n byte) = none-held s (Write n byte) ∙ ap₂ _&&_ (below n 8) (and-true _)
 accepted s (Arrival marks byte) =
     none-held s (Arrival marks byte)
-    ∙ ap₂ (λ (a b : Bool). not a && b) (divisor-none s)
-    (and-true _ ∙ unhindered (ltb 7 marks) (leb (2 ^ (5 + s .lcr % 4)) byte) (bit 0 marks) (bit 3 (s .lcr)) (bit 2 marks) (eqb byte 0)
-    ∙ (λ i. below marks 8 i && below byte (2 ^ (5 + s .lcr % 4)) i && (not (bit 0 marks) || bit 3 (s .lcr)) && (not (bit 2 marks) || eqb byte 0)))
+    ∙ (λ i.
+    not (divisor-none s i)
+    && (below marks 8 i && (below byte (2 ^ (5 + s .lcr % 4)) i && (fits (bit 0 marks) (bit 3 (s .lcr)) i && (and-true _ ∙ fits (bit 2 marks) (eqb byte 0)) i))))
 accepted s (Levels levels) = none-held s (Levels levels) ∙ and-true _ ∙ below levels 16
 accepted s Time = none-held s Time ∙ and-true _ ∙ ap not (divisor-none s)
 
 -- ---- which number refuses what
-
--- of one ground that may hold, its number where there is one at all
-only-ground : (held : Bool) (number : ℕ) → eqb (pick held number 0) 0 ≡ false → pick held number 0 ≡ number
-unfolding pick
-only-ground true number some = refl
-only-ground false number some = absurd (never (sym some))
 
 module _ (s : Settings) where
   -- "register above 7": reads and writes alike
@@ -102,14 +105,6 @@ module _ (s : Settings) where
   unfolding grounds firstHeld pick
   while-undivided none marks byte =
       let stopped : noDivisor s ≡ true = divisor-none s ∙ none in (first-held s (Arrival marks byte) ∙ pick-true _ _ _ stopped, first-held s Time ∙ pick-true _ _ _ stopped)
-
-  -- with a divisor, an arrival that is not accepted
-  pub arrival-wrong : (marks byte : ℕ) → undivided s ≡ false → accepts s (Arrival marks byte) ≡ false → refusal s (Arrival marks byte) ≡ 6
-  unfolding grounds firstHeld pick
-  arrival-wrong marks byte some wrong =
-      let bad = badArrival (s .lcr) marks byte in
-      let one : refusal s (Arrival marks byte) ≡ pick bad 6 0 = first-held s (Arrival marks byte) ∙ pick-false _ _ _ (divisor-none s ∙ some) in
-      one ∙ only-ground bad 6 (sym (ap (λ (n : ℕ). eqb n 0) one) ∙ accepted s (Arrival marks byte) ∙ wrong)
 
   -- "modem levels above 15"
   pub levels-above : (levels : ℕ) → 15 < levels → refusal s (Levels levels) ≡ 7

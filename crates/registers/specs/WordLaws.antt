@@ -18,7 +18,7 @@ pub cut-bit : (lcr byte k : ℕ) → bit k (cut lcr byte) ≡ (ltb k (5 + lcr % 
 unfolding cut
 cut-bit lcr byte k = bit-cut k (5 + lcr % 4) byte
 
--- "data not within the word length": what a cut to it would change
+-- ticket 4: "data beyond the word length": what a cut to it would change
 pub beyond-cut : (lcr byte : ℕ) → beyondWord lcr byte ≡ not (eqb (cut lcr byte) byte)
 unfolding cut
 beyond-cut lcr byte =

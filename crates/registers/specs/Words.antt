@@ -1,6 +1,6 @@
 -- The trigger, the word length, and what a character that arrives may be.
 use Prim.Native.Nat.{ℕ, _+_, _%_, _^_}
-use mathlib.Core.Bool.{Bool, not, _&&_, _||_}
+use mathlib.Core.Bool.{Bool, not, _&&_}
 use lib.Dec.{ltb, leb, eqb}
 use Rattle.base.specs.Pick.{pick}
 use Rattle.base.specs.Bits.{bit}
@@ -28,22 +28,18 @@ wireAnswer lcr busy shift = pick (bit 6 lcr) Break (pick busy (Sent (cut lcr shi
 abbrev pub parityOff : ℕ → Bool
 parityOff lcr = not (bit 3 lcr)
 
--- "arrival: marks above 7"
+-- ticket 4: "6 is now marks above 7 only"
 abbrev pub marksAbove : ℕ → Bool
 marksAbove marks = ltb 7 marks
 
--- "data not within the word length"
+-- ticket 4: "data beyond the word length"
 abbrev pub beyondWord : ℕ → ℕ → Bool
 beyondWord lcr byte = leb (2 ^ wordBits lcr) byte
 
--- "parity mark with parity off"
+-- ticket 4: "parity mark with parity off"
 abbrev pub parityUnasked : ℕ → ℕ → Bool
 parityUnasked lcr marks = bit MarkParity marks && parityOff lcr
 
--- "break with data not 0"
+-- ticket 4: "break with data", other than 0
 abbrev pub breakWithData : ℕ → ℕ → Bool
 breakWithData marks byte = bit MarkBreak marks && not (eqb byte 0)
-
--- "arrival: marks above 7; data not within the word length; parity mark with parity off; break with data not 0"
-abbrev pub badArrival : ℕ → ℕ → ℕ → Bool
-badArrival lcr marks byte = marksAbove marks || beyondWord lcr byte || parityUnasked lcr marks || breakWithData marks byte

@@ -1,6 +1,7 @@
 // The settings of a channel: its registers by name, the mode, the trigger, the divisor and the word length.
 use base::Answer;
 
+mod arrivals;
 mod modem;
 mod refusals;
 
@@ -10,7 +11,7 @@ pub use modem::modem_status;
 ghost use mathlib.Core.Path.{_≡_};
 ghost use lib.Dec.{eqb};
 ghost use Rattle.base.specs.Bits.{bit};
-ghost use Rattle.registers.specs.Words.{trigger, cut, wireAnswer, beyondWord, badArrival};
+ghost use Rattle.registers.specs.Words.{trigger, cut, wireAnswer};
 ghost use Rattle.registers.specs.Registers.{plainRegister, registerAt, fcrKept, kept, shownBy, divisor};
 ghost use Rattle.registers.specs.Modem.{differ};
 
@@ -272,27 +273,5 @@ impl Settings {
             return Answer::Sent(self.cut(shift));
         }
         Answer::Idle
-    }
-
-    fn is_beyond_word(self, byte: u8) -> bool
-        ensures { λ r. ⌜ r ≡ beyondWord (self .lcr) byte ⌝ }
-    {
-        let length = self.lcr % 4;
-        match length {
-            0 => 32 <= byte,
-            1 => 64 <= byte,
-            2 => 128 <= byte,
-            _ => false,
-        }
-    }
-
-    fn is_bad_arrival(self, marks: u8, byte: u8) -> bool
-        ensures { λ r. ⌜ r ≡ badArrival (self .lcr) marks byte ⌝ }
-    {
-        let beyond = self.is_beyond_word(byte);
-        let parity = base::bit(base::MARK_PARITY, marks);
-        let asked = base::bit(Settings::LCR_PARITY, self.lcr);
-        let broken = base::bit(base::MARK_BREAK, marks);
-        (base::ALL_MARKS < marks) | beyond | (parity & !asked) | (broken & !(byte == 0))
     }
 }

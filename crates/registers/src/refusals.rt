@@ -1,5 +1,5 @@
-// What a seat refuses, event by event, by the settings of its channel: the first number in document 01's order whose condition
-// holds, 0 for none.
+// What a seat refuses, event by event, by the settings of its channel: the first number of the order whose condition holds, 0 for
+// none.
 use crate::Register;
 use crate::SeatEvent;
 use crate::Settings;
@@ -38,8 +38,17 @@ impl Settings {
         if self.no_divisor() {
             return Answer::NO_DIVISOR;
         }
-        if self.is_bad_arrival(marks, byte) {
-            return Answer::BAD_ARRIVAL;
+        if base::ALL_MARKS < marks {
+            return Answer::MARKS_ABOVE;
+        }
+        if self.is_beyond_word(byte) {
+            return Answer::BEYOND_WORD;
+        }
+        if self.is_parity_unasked(marks) {
+            return Answer::PARITY_UNASKED;
+        }
+        if Settings::is_break_with_data(marks, byte) {
+            return Answer::BREAK_WITH_DATA;
         }
         0
     }
