@@ -26,7 +26,7 @@ unsigned bench_lines(const struct bench *bench)
     return lines;
 }
 
-/* "The order is 4, 3, 1, 2, then 5, 6, 7, 8, 9." Here 3, 1 and 2; the listing
+/* "The order is 4, 3, 1, 2": here 3, 1 and 2; the listing
    gives 4, and the channel and the controller give the rest. */
 static enum refusal refusal_by_numbers(struct event event)
 {
