@@ -12,7 +12,7 @@ use borrow.Author.Tests.{eqb-true, le-leb, ltb-true, ltb-false, not-false}
 use Rattle.base.specs.Every.{every}
 use Rattle.base.specs.EveryLaws.{every-from}
 use Rattle.base.specs.ListLaws.{listed, listed-same, written-out}
-use Rattle.base.specs.PickLaws.{pick-true, pick-false, both-hold, either-way, never}
+use Rattle.base.specs.PickLaws.{pick-true, pick-false, both-hold, either-way, neither}
 use Rattle.queue.specs.declared.Character.{Character}
 use Rattle.queue.specs.declared.Queue.{Queue}
 use Rattle.queue.specs.Queue.{noCharacter, contents, canonical, anyMarked, clear, marked}
@@ -27,10 +27,6 @@ free-slot : (m k : ℕ) → getD (replicate m noCharacter) k noCharacter ≡ noC
 free-slot zero k = refl
 free-slot (suc m) zero = refl
 free-slot (suc m) (suc k) = free-slot m k
-
-neither : (a b : Bool) → (a || b) ≡ false → (a ≡ false) × (b ≡ false)
-neither true b e = absurd (never (sym e))
-neither false b e = (refl, e)
 
 zero-of : (n : ℕ) → not (eqb n 0) ≡ false → n ≡ 0
 zero-of n e = eqb-true n 0 (not-false (eqb n 0) e)

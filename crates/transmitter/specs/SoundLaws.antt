@@ -8,7 +8,7 @@ use lib.Dec.{eqb}
 use lib.ListN.{length}
 use borrow.Author.Tests.{eqb-true, not-true}
 use Rattle.base.specs.Pick.{pick}
-use Rattle.base.specs.PickLaws.{pick-through, pick-same, both-hold, never}
+use Rattle.base.specs.PickLaws.{pick-through, pick-same, both-hold, neither}
 use Rattle.queue.specs.declared.Character.{Character}
 use Rattle.queue.specs.declared.Queue.{Queue}
 use Rattle.queue.specs.declared.Put.{Put}
@@ -62,10 +62,6 @@ unfolding flagSetIf soundTransmitter
 flag-apart fifo test t = pick-through (soundTransmitter fifo) test _ t ∙ pick-same test (soundTransmitter fifo t)
 
 -- ---- marks
-
-neither : (a b : Bool) → (a || b) ≡ false → (a ≡ false) × (b ≡ false)
-neither true b e = absurd (never (sym e))
-neither false b e = (refl, e)
 
 none-marked : (l : List Character) (byte : ℕ) → anyMarked l ≡ false → anyMarked (l ++ (toSend byte ∷ [])) ≡ false
 unfolding anyMarked
