@@ -30,7 +30,7 @@ extern "C" {
 
 /* 10000 times the major number, 100 times the minor, and the patch. The major
    number changes where a program must be changed, or compiled again. */
-#define HAILSTOAT_VERSION 20000
+#define HAILSTOAT_VERSION 20100
 
 #define HAILSTOAT_SEATS 8
 #define HAILSTOAT_SLOTS 16

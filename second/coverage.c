@@ -35,8 +35,10 @@ static void tally_moment(struct tally *tally, const struct moment *moment)
     }
     tally->accepted += 1;
     tally_if(tally, true, tally_behind(TALLY_KIND_0, moment->event.kind));
-    if (moment->event.kind <= KIND_CHARACTER_TIME)
+    if (moment->event.kind <= KIND_CHARACTER_TIME) {
         tally_seat(tally, moment);
+        tally_timeout(tally, moment);
+    }
     tally_controller(tally, moment);
 }
 

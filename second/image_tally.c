@@ -9,6 +9,8 @@
 #define GROUND_WORDS(name, words) words,
 static const char *const ground_words[] = {GROUND_ITEMS(GROUND_WORDS)};
 
+static const char *const count_words[TIMEOUT_COUNTS] = {"0", "1", "2", "3", "4"};
+
 /* The same field of every seat is one. */
 static unsigned field_of(unsigned at)
 {
@@ -17,9 +19,36 @@ static unsigned field_of(unsigned at)
     return IMAGE_AT_SEATS + (at - IMAGE_AT_SEATS) % IMAGE_SEAT_BYTES;
 }
 
+/* S113: what an arrival that is lost does to the time-out count only a saved
+   bench shows, as long as the FIFO stays full and no character time passes. */
+void image_tally_event(struct image_tally *tally, const struct moment *moment)
+{
+    struct event event = moment->event;
+    if (moment->outcome.refusal != REFUSAL_NONE || event.kind > KIND_CHARACTER_TIME)
+        return;
+    const struct channel *before = &moment->before->seats[event.seat];
+    const struct channel *after = &moment->after->seats[event.seat];
+    bool lost = event.kind == KIND_ARRIVAL && before->receive.count == PLACES_FIFO;
+    if (lost && before->timeout_count > 0)
+        tally->lost_at[event.seat] = before->timeout_count;
+    if (event.kind == KIND_CHARACTER_TIME || after->receive.count < PLACES_FIFO)
+        tally->lost_at[event.seat] = 0;
+}
+
+/* A seat emptied by a master reset, or by a new stream, is full no more. */
+static void tally_lost(struct image_tally *tally, const uint8_t image[IMAGE_BYTES])
+{
+    for (unsigned seat = 0; seat < SEATS; seat += 1) {
+        const uint8_t *record = image + IMAGE_AT_SEATS + seat * IMAGE_SEAT_BYTES;
+        if (record[SEAT_AT_RECEIVE_COUNT] == PLACES_FIFO)
+            tally->left[tally->lost_at[seat]] += 1;
+    }
+}
+
 void image_tally_stop(struct image_tally *tally, const uint8_t image[IMAGE_BYTES])
 {
     tally->stops += 1;
+    tally_lost(tally, image);
     for (unsigned i = 0; i < IMAGE_BYTES; i += 1)
         if (image[i] != 0)
             tally->held[field_of(i)] += 1;
@@ -90,6 +119,10 @@ int image_tally_print(const struct image_tally *tally)
     int result = 0;
     result |= print_item(tally->stops, "stops with a saved bench", "");
     result |= print_item(least_held, "saved benches ", "with something in the field most often 0");
+    for (unsigned i = 1; i < TIMEOUT_COUNTS; i += 1)
+        result |= print_item(tally->left[i],
+                             "saved benches after an arrival lost at time-out count ",
+                             count_words[i]);
     result |= print_some(tally->damages, DAMAGES_LEAST, "damaged images", "");
     result |= print_item(tally->read, "damaged images ", "read");
     result |= print_some(tally->written_back, tally->read, "damaged images ",

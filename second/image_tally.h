@@ -5,14 +5,20 @@
 
 #include "image.h"
 #include "image_grounds.h"
+#include "tally.h"
 
 /* The header, the controller and one seat. */
 #define IMAGE_FIELD_BYTES ((unsigned)IMAGE_AT_SEATS + (unsigned)IMAGE_SEAT_BYTES)
+
+/* "the time-out count rises, up to 4" */
+#define TIMEOUT_COUNTS 5U
 
 /* What the trials of saved benches reach. */
 struct image_tally {
     uint64_t stops;
     uint64_t held[IMAGE_FIELD_BYTES]; /* the byte was not 0 in a saved bench, of any seat */
+    unsigned lost_at[SEATS]; /* the time-out count above 0 that an arrival lost there has found */
+    uint64_t left[TIMEOUT_COUNTS]; /* saved benches with a seat as such an arrival left it */
     uint64_t damages;
     uint64_t read;
     uint64_t written_back; /* as they were read */
@@ -35,6 +41,7 @@ struct damage {
     enum refusal refusal;
 };
 
+void image_tally_event(struct image_tally *tally, const struct moment *moment);
 void image_tally_stop(struct image_tally *tally, const uint8_t image[IMAGE_BYTES]);
 void image_tally_damage(struct image_tally *tally, const struct damage *damage);
 

@@ -191,6 +191,14 @@ static void stop(struct image_trial *trial)
     trial->stops += 1;
 }
 
+/* The event is given to a copy, for the tally alone. */
+static void tally_event(const struct image_trial *trial, struct event event)
+{
+    struct bench after = trial->bench;
+    struct outcome outcome = bench_event(&after, event);
+    image_tally_event(trial->tally, &(struct moment){&trial->bench, &after, event, outcome});
+}
+
 uint64_t image_trial_digest(struct trial asked, struct image_tally *tally)
 {
     struct image_trial trial = {
@@ -201,7 +209,10 @@ uint64_t image_trial_digest(struct trial asked, struct image_tally *tally)
         .tally = tally,
     };
     for (uint64_t i = 1; i <= asked.count; i += 1) {
-        trial.digest = digest_event(trial.digest, &trial.bench, stream_next(&trial.stream));
+        struct event event = stream_next(&trial.stream);
+        if (tally != NULL)
+            tally_event(&trial, event);
+        trial.digest = digest_event(trial.digest, &trial.bench, event);
         if (i % EVENTS_BETWEEN_STOPS == 0)
             stop(&trial);
     }

@@ -1,4 +1,5 @@
-/* Each case is a list of events with what document 01 expects of them. */
+/* Each case is a list of events with what document 01, as the tickets amend it,
+   expects of them. */
 #include "spoons.h"
 
 #include <stdbool.h>
@@ -27,6 +28,7 @@ struct step {
 #define WRITE(seat, number, byte) {{1, seat, number, byte}, 1, 0x000, ANY}
 #define ARRIVAL(seat, marks, data) {{2, seat, marks, data}, 1, 0x000, ANY}
 #define ARRIVALS(seat, data, times) {{2, seat, 0, data}, times, 0x000, ANY}
+#define ARRIVAL_REFUSED(seat) {{2, seat, 8, 0}, 1, REFUSED_BY(6), ANY}
 #define MODEM(seat, levels) {{3, seat, 0, levels}, 1, 0x000, ANY}
 #define PASS(seat, times) {{4, seat, 0, 0}, times, ANSWER_IDLE, ANY}
 #define PORT_READ(port, answer) {{6, 0, port, 0}, 1, answer, ANY}
@@ -125,6 +127,19 @@ static const struct step burnt_rotation[] = {
     SET_BASE, PORT_WRITE(0, 0xA3), PLACE_OF(0, 0), PLACE_OF(7, 7), PLACE_OF(8, REFUSED_BY(1)),
 };
 
+/* Ticket 5: "an arrival leaves a count of 4 at 4 and sets a smaller one to 0",
+   and "a time-out that has happened is cleared by reading a character". The
+   trigger is 8, and 14 at the end. */
+static const struct step timeout_stays[] = {
+    SET_FIFO, WRITE(0, 1, 0x01), ARRIVALS(0, 0x55, 4), PASS(0, 3), ARRIVAL(0, 0, 0x56),
+    PASS(0, 3), READ(0, 2, 0xC1), PASS(0, 1), READ(0, 2, 0xCC),
+    ARRIVAL(0, 0, 0x57), READ(0, 2, 0xCC), READ(0, 5, 0x61), PASS(0, 1), READ(0, 2, 0xCC),
+    WRITE(0, 1, 0x00), ARRIVAL(0, 0, 0x58), WRITE(0, 1, 0x01), READ(0, 2, 0xCC),
+    READ(0, 0, 0x55), READ(0, 2, 0xC1), PASS(0, 3), ARRIVAL_REFUSED(0), READ(0, 2, 0xC1),
+    PASS(0, 1), READ(0, 2, 0xCC), ARRIVAL_REFUSED(0), READ(0, 2, 0xCC),
+    ARRIVALS(0, 0x59, 2), READ(0, 2, 0xC4), WRITE(0, 2, 0xC1), READ(0, 2, 0xCC),
+};
+
 /* "Edges: seat 7, 8; register 7, 8; port 1, 2; levels 15, 16; 1F and 20 at five
    bits; divisor 1, 0." */
 static const struct step edges[] = {
@@ -157,6 +172,7 @@ static const struct spoon spoons[] = {
     SPOON("burnt: register 1 as IER", burnt_divisor),
     SPOON("burnt: line 7 in service", burnt_spurious),
     SPOON("burnt: rotating with nothing in service", burnt_rotation),
+    SPOON("ticket 5: a time-out stays at an arrival", timeout_stays),
     SPOON("edges", edges),
 };
 

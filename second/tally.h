@@ -89,6 +89,34 @@
     ITEM(SENT_IDLE, "idle") ITEM(SENT_BREAK, "break with an idle shift register") \
     ITEM(SENT_BREAK_FULL, "break while a character leaves") \
     ITEM(TIMEOUT_4, "time-out count becomes 4") \
+    ITEM(ROOM_AT_0, "arrival with room at time-out count 0") \
+    ITEM(ROOM_AT_1, "arrival with room at time-out count 1") \
+    ITEM(ROOM_AT_2, "arrival with room at time-out count 2") \
+    ITEM(ROOM_AT_3, "arrival with room at time-out count 3") \
+    ITEM(ROOM_AT_4, "arrival with room at time-out count 4") \
+    ITEM(LOST_AT_0, "arrival lost at time-out count 0") \
+    ITEM(LOST_AT_1, "arrival lost at time-out count 1") \
+    ITEM(LOST_AT_2, "arrival lost at time-out count 2") \
+    ITEM(LOST_AT_3, "arrival lost at time-out count 3") \
+    ITEM(LOST_AT_4, "arrival lost at time-out count 4") \
+    ITEM(REFUSED_AT_1, "arrival refused at time-out count 1") \
+    ITEM(REFUSED_AT_2, "arrival refused at time-out count 2") \
+    ITEM(REFUSED_AT_3, "arrival refused at time-out count 3") \
+    ITEM(REFUSED_AT_4, "arrival refused at time-out count 4") \
+    ITEM(TIMEOUT_DISABLED, "arrival at a time-out with IER bit 0 clear") \
+    ITEM(TIMEOUT_STAYS, "arrival leaves a time-out named") \
+    ITEM(TIMEOUT_LINE_EDGE, "arrival leaves a line high by a time-out in edge mode") \
+    ITEM(TIMEOUT_LINE_LEVEL, "arrival leaves a line high by a time-out in level mode") \
+    ITEM(TIMEOUT_TO_TRIGGER, "arrival at a named time-out reaches the trigger") \
+    ITEM(LEFT_CC, "IIR CC of a time-out that an arrival left") \
+    ITEM(LEFT_C4, "IIR C4 over a time-out that an arrival left") \
+    ITEM(LEFT_LSR, "LSR read at a time-out that an arrival left") \
+    ITEM(LEFT_RBR, "RBR read clears a time-out that an arrival left") \
+    ITEM(LEFT_IER, "IER write names a time-out that an arrival left") \
+    ITEM(LEFT_TRIGGER, "FCR write with a higher trigger names a time-out that an arrival left") \
+    ITEM(LEFT_EMPTIED, "FCR write empties the queue at a time-out that an arrival left") \
+    ITEM(LEFT_ARRIVAL, "arrival at a time-out that an arrival left") \
+    ITEM(LEFT_TIME, "character time at a time-out that an arrival left") \
     ITEM(FCR_TO_FIFO, "to FIFO mode with a queue not empty") \
     ITEM(FCR_TO_16450, "to 16450 mode with a queue not empty") \
     ITEM(FCR_RECEIVE, "FCR bit 1 empties a receive queue") \
@@ -149,6 +177,7 @@ struct tally {
     uint64_t events;
     uint64_t accepted;
     uint64_t reached[TALLY_COUNT];
+    bool left[SEATS]; /* the seat's time-out stood at an arrival and stands since */
 };
 
 /* One event with the bench on both sides of it. */
@@ -166,6 +195,7 @@ enum tally_item tally_behind(enum tally_item item, unsigned further);
 
 void tally_refusal(struct tally *tally, const struct moment *moment);
 void tally_seat(struct tally *tally, const struct moment *moment);
+void tally_timeout(struct tally *tally, const struct moment *moment);
 void tally_controller(struct tally *tally, const struct moment *moment);
 
 #endif

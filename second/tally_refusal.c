@@ -65,6 +65,8 @@ static void tally_arrival(struct tally *tally, const struct moment *moment)
     tally_if(tally, refusal == REFUSAL_PARITY_OFF && (off & OFF_17) != 0,
              tally_behind(TALLY_PARITY_000, seat->lcr >> 4 & 3U));
     tally_if(tally, refusal == REFUSAL_BREAK_WITH_DATA && event.value == 1, TALLY_EDGE_BREAK_1);
+    if (seat->timeout_count > 0)
+        tally_if(tally, true, tally_behind(TALLY_REFUSED_AT_1, seat->timeout_count - 1));
 }
 
 static void tally_not_ready(struct tally *tally, const struct moment *moment)

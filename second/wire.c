@@ -38,7 +38,9 @@ struct outcome channel_arrival(struct channel *channel, struct character charact
         queue_add(&channel->receive, character);
     if (!fifo)
         channel->kept_marks |= character.marks;
-    channel->timeout_count = 0;
+    /* Ticket 5: "an arrival leaves a count of 4 at 4 and sets a smaller one to 0" */
+    if (channel->timeout_count < 4)
+        channel->timeout_count = 0;
     return accepted(0);
 }
 

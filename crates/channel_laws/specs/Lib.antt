@@ -10,6 +10,8 @@ pub mod ResetLaws
 pub mod WireLaws
 pub mod SoundLaws
 pub mod SoundStepLaws
+pub mod Lasting
+pub mod LastingLaws
 pub mod Shown
 pub mod AgainLaws
 pub mod LevelLaws

@@ -21,6 +21,7 @@ use Rattle.queue.specs.CanonicalLaws.{Holds, holds}
 use Rattle.queue.specs.AcceptLaws.{capacity-small, accept-cases}
 use Rattle.receiver.specs.Receiver.{received}
 use Rattle.receiver.specs.CallLaws.{arrive-overrun}
+use Rattle.receiver.specs.EffectLaws as effects
 use Rattle.receiver.specs.SoundLaws as heard
 use Rattle.transmitter.specs.Transmitter.{written}
 use Rattle.transmitter.specs.Sending.{toSend}
@@ -165,10 +166,16 @@ module _ (c : Channel) (marks byte : ℕ) (served : accepts (c .settings) (Arriv
       ∙ ap (bit k) (pick-false _ _ _ mode) ∙ bit-or k (c .receiver .kept) marks
       ∙ ap (λ (b : Bool). b || bit k marks) (sym (ap (bit (2 + k)) (shows-lsr c) ∙ lsr-kept c mode k less))
 
-  -- "The time-out count becomes 0."
-  pub arrival-restarts : later .receiver .timeout ≡ 0
-  unfolding received
-  arrival-restarts = ap (λ (s : Stepped). s .channel .receiver .timeout) (arrival-received c marks byte served)
+  -- ticket 5: "an arrival leaves a count of 4 at 4"
+  pub arrival-leaves-four : c .receiver .timeout ≡ 4 → later .receiver .timeout ≡ 4
+  arrival-leaves-four four =
+      ap (λ (s : Stepped). s .channel .receiver .timeout) (arrival-received c marks byte served) ∙ effects.arrival-leaves-four (fifo c) (c .receiver) arrived four
+
+  -- ticket 5: it "sets a smaller one to 0"
+  pub arrival-sets-back : c .receiver .timeout < 4 → later .receiver .timeout ≡ 0
+  arrival-sets-back less =
+      ap (λ (s : Stepped). s .channel .receiver .timeout) (arrival-received c marks byte served)
+      ∙ effects.arrival-sets-back (fifo c) (c .receiver) arrived (λ (four : c .receiver .timeout ≡ 4). omega arith)
 
   -- what arrives is not yet read: the last byte read stays; and in FIFO mode nothing is added to kept marks
   pub arrival-leaves : (later .receiver .last ≡ c .receiver .last) × (fifo c ≡ true → later .receiver .kept ≡ c .receiver .kept)

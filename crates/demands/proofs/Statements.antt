@@ -7,6 +7,7 @@ use Rattle.demands.proofs.Demand2Items.{demand-2-items}
 use Rattle.demands.proofs.Demand3.{demand-3-bench, demand-3-from-power-up}
 use Rattle.demands.proofs.Demand3Restores.{starts-anew, demand-3-from-items}
 use Rattle.demands.proofs.SeatLedger.{seat-ledger, seat-ledger-from-power-up}
+use Rattle.demands.proofs.TimeOut.{time-out-lasts, at-arrival, untouched-stays, time-out-ends}
 use Rattle.demands.proofs.SheetMeant.{sheet-meant}
 use Rattle.demands.proofs.WrongPrograms.{shut-out, let-in}
 use Rattle.demands.proofs.Needed.{needed}
@@ -30,6 +31,10 @@ statements =
       demand-3-from-items = demand-3-from-items;
       seat-ledger = seat-ledger;
       seat-ledger-from-power-up = seat-ledger-from-power-up;
+      time-out-lasts = time-out-lasts;
+      at-arrival = at-arrival;
+      untouched-stays = untouched-stays;
+      time-out-ends = time-out-ends;
       sheet-meant = sheet-meant;
       shut-out = shut-out;
       let-in = let-in;

@@ -33,7 +33,8 @@ ends f b (r ∷ rs) = ends f (f b r .bench) rs
 abbrev pub Suffices : (Step → Type 0) → Type 0
 Suffices meets = (f : Step) → meets f → (b : Bench) (rs : List Record) → (run f b rs ≡ outcomes b rs) × (ends f b rs ≡ afterAll b rs)
 
--- The tender: each event's answer, the bench after it and the interrupt output equal those that document 01 condenses
+-- The tender: each event's answer, the bench after it and the interrupt output equal those that document 01 condenses. Ticket 5: "Document 01's
+-- arrival rule and demand 2 read so from now on.", and so does `received` of the room receiver
 abbrev pub Demand2 : Type 0
 Demand2 = Suffices Meets
 

@@ -6,6 +6,7 @@ use Rattle.demands.specs.Demand2Items.{Demand2Items}
 use Rattle.demands.specs.Demand3.{Demand3, Demand3FromPowerUp}
 use Rattle.demands.specs.Demand3Restores.{StartsAnew, Demand3FromItems}
 use Rattle.demands.specs.SeatLedger.{SeatLedger, SeatLedgerFromPowerUp}
+use Rattle.demands.specs.TimeOut.{TimeOutLasts, AtArrival, Untouched, TimeOutEnds}
 use Rattle.demands.specs.SheetMeant.{SheetMeant}
 use Rattle.demands.specs.WrongPrograms.{ShutOut, LetIn}
 use Rattle.demands.specs.Needed.{Needed}
@@ -27,6 +28,10 @@ pub record Statements : Type 0 where
   pub demand-3-from-items : Demand3FromItems
   pub seat-ledger : SeatLedger
   pub seat-ledger-from-power-up : SeatLedgerFromPowerUp
+  pub time-out-lasts : TimeOutLasts
+  pub at-arrival : AtArrival
+  pub untouched-stays : Untouched
+  pub time-out-ends : TimeOutEnds
   pub sheet-meant : SheetMeant
   pub shut-out : ShutOut
   pub let-in : LetIn

@@ -30,7 +30,7 @@ const MASTER_RESET: u32 = Event::MASTER_RESET as u32;
 
 const SEATS: u32 = records::SEATS as u32;
 
-const VERSION: u32 = 20000;
+const VERSION: u32 = 20100;
 
 const BENCH_BYTES: usize = 668;
 

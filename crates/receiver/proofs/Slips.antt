@@ -2,11 +2,13 @@
 use Prim.Native.Nat.{ℕ}
 use mathlib.Core.Bool.{true, false}
 use mathlib.Core.Path.{_≡_, refl}
+use lib.ListN.{replicate}
 use Rattle.base.specs.Pick.{pick}
 use Rattle.queue.specs.declared.Character.{Character}
-use Rattle.queue.specs.Queue.{room, entered, replaced, capacity, accepted, movedDown, taken}
+use Rattle.queue.specs.declared.Queue.{Queue}
+use Rattle.queue.specs.Queue.{emptyQueue, room, entered, replaced, capacity, accepted, movedDown, taken}
 use Rattle.receiver.specs.declared.Receiver.{Receiver}
-use Rattle.receiver.specs.Receiver.{quiet, noneQueued, received, got, waited, afterModeChange, timeoutStands}
+use Rattle.receiver.specs.Receiver.{quiet, noneQueued, timeoutStands, received, got, lsrSeen, waited, afterModeChange}
 use Rattle.receiver.specs.Waiting.{waits}
 
 abbrev ch : ℕ → ℕ → Character
@@ -28,15 +30,44 @@ changed-mode-empties = refl
 
 -- "RBR read takes the oldest character and sets the time-out count to 0."
 read-counts-from-0 : got (waits true 3 two) .receiver .timeout ≡ 0
-unfolding pick room entered capacity accepted movedDown taken noneQueued received got waited waits
+unfolding pick room entered capacity accepted movedDown taken noneQueued timeoutStands received got waited waits
 read-counts-from-0 = refl
 
 -- "in FIFO mode with a character in the receive queue the time-out count rises": never in 16450 mode
 no-count-in-16450-mode : waited false (received false quiet (ch 0x41 0)) .timeout ≡ 0
-unfolding pick room entered capacity accepted noneQueued received waited
+unfolding pick room entered capacity accepted noneQueued timeoutStands received waited
 no-count-in-16450-mode = refl
 
 -- `times-out`: the fourth
 fourth-times-out : timeoutStands (waits true 4 two) ≡ true
 unfolding pick room entered capacity accepted noneQueued received waited waits timeoutStands
 fourth-times-out = refl
+
+-- ticket 5, `arrival-leaves-four`
+arrival-after-a-time-out : received true (waits true 4 two) (ch 0x43 0) .timeout ≡ 4
+unfolding pick room entered capacity accepted noneQueued timeoutStands received waited waits
+arrival-after-a-time-out = refl
+
+-- ticket 5, `arrival-sets-back`
+arrival-at-three : received true (waits true 3 two) (ch 0x43 0) .timeout ≡ 0
+unfolding pick room entered capacity accepted noneQueued timeoutStands received waited waits
+arrival-at-three = refl
+
+-- a time-out over such a queue
+abbrev late : Queue → Receiver
+late q = record { queue = q; overrun = false; kept = 0; timeout = 4; last = 0 }
+
+-- ticket 5, `lasting`: an arrival that finds all 16 places taken
+lost-after-a-time-out : received true (late (record { slots = replicate 16 (ch 0x41 0); count = 16 })) (ch 0x43 0) .timeout ≡ 4
+unfolding pick room entered capacity accepted timeoutStands received
+lost-after-a-time-out = refl
+
+-- `lasting`: an LSR read
+lsr-after-a-time-out : lsrSeen true (waits true 4 two) .timeout ≡ 4
+unfolding pick room entered capacity accepted noneQueued timeoutStands received lsrSeen waited waits
+lsr-after-a-time-out = refl
+
+-- `read-none`: a count to which no event leads, but which a wrong program could reach
+empty-read-after-a-time-out : got (late emptyQueue) .receiver .timeout ≡ 4
+unfolding pick noneQueued got
+empty-read-after-a-time-out = refl

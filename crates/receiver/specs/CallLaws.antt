@@ -20,7 +20,7 @@ use Rattle.queue.specs.QueueLaws.{holding, take-oldest, unmark-oldest, unmark-n
 use Rattle.queue.specs.AcceptLaws.{accept-room, accept-lost, accept-replaced, accept-cases}
 use Rattle.receiver.specs.declared.Receiver.{Receiver}
 use Rattle.receiver.specs.declared.Got.{Got}
-use Rattle.receiver.specs.Receiver.{quiet, noneQueued, received, got, shownMarks, someMarked, lsrSeen, cleared, afterModeChange, fcrHeard, restarted, dataStands}
+use Rattle.receiver.specs.Receiver.{quiet, noneQueued, countAfterArrival, received, got, shownMarks, someMarked, lsrSeen, cleared, afterModeChange, fcrHeard, restarted, dataStands}
 
 pub none-queued : (r : Receiver) → r .queue ≡ holding [] → noneQueued r ≡ true
 unfolding noneQueued
@@ -36,12 +36,12 @@ some-queued r ch l held =
 
 -- the receive side with another queue and overrun, as an arrival in FIFO mode leaves it
 abbrev arrivedWith : Receiver → Queue → Bool → Receiver
-arrivedWith r q overrun = record { queue = q; overrun = overrun; kept = r .kept; timeout = 0; last = r .last }
+arrivedWith r q overrun = record { queue = q; overrun = overrun; kept = r .kept; timeout = countAfterArrival r; last = r .last }
 
 module _ (r : Receiver) (l : List Character) (ch : Character) (held : r .queue ≡ holding l) where
   -- FIFO mode with room: behind the others, and no mark is kept
   pub arrive-fifo : length l < 16
-      → received true r ch ≡ record { queue = holding (l ++ (ch ∷ [])); overrun = r .overrun; kept = r .kept; timeout = 0; last = r .last }
+      → received true r ch ≡ record { queue = holding (l ++ (ch ∷ [])); overrun = r .overrun; kept = r .kept; timeout = countAfterArrival r; last = r .last }
   unfolding received capacity pick
   arrive-fifo less =
       let a : accepted true (r .queue) ch ≡ record { queue = holding (l ++ (ch ∷ [])); full = false }
@@ -50,7 +50,7 @@ module _ (r : Receiver) (l : List Character) (ch : Character) (held : r .queue �
 
   -- FIFO mode, full: the queue stays, and overrun is set
   pub arrive-fifo-full : length l ≡ 16
-      → received true r ch ≡ record { queue = holding l; overrun = true; kept = r .kept; timeout = 0; last = r .last }
+      → received true r ch ≡ record { queue = holding l; overrun = true; kept = r .kept; timeout = countAfterArrival r; last = r .last }
   unfolding received pick
   arrive-fifo-full full =
       let a : accepted true (r .queue) ch ≡ record { queue = holding l; full = true }
@@ -62,7 +62,7 @@ pub record Arrived16450 (r : Receiver) (ch : Character) (overrun : Bool) : Type 
   pub alone : received false r ch .queue ≡ holding (ch ∷ [])
   pub overrun-after : received false r ch .overrun ≡ overrun
   pub marks-added : (k : ℕ) → bit k (received false r ch .kept) ≡ (bit k (r .kept) || bit k (ch .marks))
-  pub count-zero : received false r ch .timeout ≡ 0
+  pub count-after : received false r ch .timeout ≡ countAfterArrival r
   pub last-stays : received false r ch .last ≡ r .last
 
 -- 16450 mode with room
@@ -75,7 +75,7 @@ arrive-16450 r ch held =
       alone = ap (λ (p : Put). p .queue) a;
       overrun-after = ap (λ (p : Put). r .overrun || p .full) a ∙ or-false (r .overrun);
       marks-added = λ k. bit-or k (r .kept) (ch .marks);
-      count-zero = refl;
+      count-after = refl;
       last-stays = refl;
     }
 
@@ -89,7 +89,7 @@ arrive-16450-full r old ch held =
       alone = ap (λ (p : Put). p .queue) a;
       overrun-after = ap (λ (p : Put). r .overrun || p .full) a ∙ or-true (r .overrun);
       marks-added = λ k. bit-or k (r .kept) (ch .marks);
-      count-zero = refl;
+      count-after = refl;
       last-stays = refl;
     }
 

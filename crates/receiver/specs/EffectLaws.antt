@@ -7,9 +7,9 @@ use mathlib.Core.Path.{_≡_, refl, ap, _∙_}
 use native.Mathlib.Omega.{arith}
 use lib.Dec.{ltb, leb, eqb}
 use lib.ListN.{length}
-use borrow.Author.Tests.{ltb-true, ltb-false, lt-leb}
+use borrow.Author.Tests.{ltb-true, ltb-false, lt-leb, eq-eqb, ne-eqb}
 use Rattle.base.specs.Pick.{pick}
-use Rattle.base.specs.PickLaws.{either-way}
+use Rattle.base.specs.PickLaws.{pick-true, pick-false, either-way}
 use Rattle.queue.specs.declared.Character.{Character}
 use Rattle.queue.specs.declared.Queue.{Queue}
 use Rattle.queue.specs.Queue.{capacity, anyMarked, marked}
@@ -113,26 +113,37 @@ read-counts-anew r ch next l n held fits =
     let e = read-oldest r ch (next ∷ l) held (omega arith) in
     times-out (got r .receiver) next l (ap (λ (g : Got). g .receiver .queue) e) (ap (λ (g : Got). g .receiver .timeout) e) n
 
--- what an arrival in FIFO mode leaves is not empty, whether it found room or not
+-- ---- an arrival, and the time-out count
+
+-- ticket 5: "an arrival leaves a count of 4 at 4", in both modes, whether it found room or not
+pub arrival-leaves-four : (fifo : Bool) (r : Receiver) (ch : Character) → r .timeout ≡ 4 → received fifo r ch .timeout ≡ 4
+unfolding received timeoutStands
+arrival-leaves-four fifo r ch four = pick-true _ _ _ (eq-eqb _ _ four) ∙ four
+
+-- ticket 5: it "sets a smaller one to 0"; so also a greater one, to which nothing leads
+pub arrival-sets-back : (fifo : Bool) (r : Receiver) (ch : Character) → (r .timeout ≡ 4 → ⊥) → received fifo r ch .timeout ≡ 0
+unfolding received timeoutStands
+arrival-sets-back fifo r ch other = pick-false _ _ _ (ne-eqb _ _ other)
+
+-- from a count of 0 after an arrival in FIFO mode, whether it found room or not, a time-out stands from the fourth character time on
 arrival-held : (r : Receiver) (l : List Character) (ch : Character) (n : ℕ) → r .queue ≡ holding l → length l ≤ 16
-    → timeoutStands (waits true n (received true r ch)) ≡ leb 4 n
-arrival-held r [] ch n held fits =
-    let e = arrive-fifo r [] ch held (omega arith) in
-    times-out (received true r ch) ch [] (ap (λ (s : Receiver). s .queue) e) (ap (λ (s : Receiver). s .timeout) e) n
-arrival-held r (first ∷ l) ch n held fits =
+    → received true r ch .timeout ≡ 0 → timeoutStands (waits true n (received true r ch)) ≡ leb 4 n
+arrival-held r [] ch n held fits anew =
+    times-out (received true r ch) ch [] (ap (λ (s : Receiver). s .queue) (arrive-fifo r [] ch held (omega arith))) anew n
+arrival-held r (first ∷ l) ch n held fits anew =
     ⊎-elim
     (λ (less : ltb (length (first ∷ l)) 16 ≡ true).
     let e = arrive-fifo r (first ∷ l) ch held (ltb-true _ _ less) in
-    times-out (received true r ch) first (l ++ (ch ∷ [])) (ap (λ (s : Receiver). s .queue) e) (ap (λ (s : Receiver). s .timeout) e) n)
+    times-out (received true r ch) first (l ++ (ch ∷ [])) (ap (λ (s : Receiver). s .queue) e) anew n)
     (λ (more : ltb (length (first ∷ l)) 16 ≡ false).
     let full : 16 ≤ length (first ∷ l) = ltb-false _ _ more in
     let e = arrive-fifo-full r (first ∷ l) ch held (omega arith) in
-    times-out (received true r ch) first l (ap (λ (s : Receiver). s .queue) e) (ap (λ (s : Receiver). s .timeout) e) n)
+    times-out (received true r ch) first l (ap (λ (s : Receiver). s .queue) e) anew n)
     (either-way (ltb (length (first ∷ l)) 16))
 
--- "The time-out count becomes 0."
-pub arrival-counts-anew : (r : Receiver) (ch : Character) (n : ℕ) → soundReceiver true r ≡ true
+-- so where no time-out had happened, four character times must pass anew
+pub arrival-counts-anew : (r : Receiver) (ch : Character) (n : ℕ) → soundReceiver true r ≡ true → r .timeout < 4
     → timeoutStands (waits true n (received true r ch)) ≡ leb 4 n
-arrival-counts-anew r ch n sound =
+arrival-counts-anew r ch n sound less =
     let h = holds (capacity true) (r .queue) (parts true r sound .tidy) in
-    arrival-held r (h .list) ch n (h .same) (h .fits)
+    arrival-held r (h .list) ch n (h .same) (h .fits) (arrival-sets-back true r ch (λ (four : r .timeout ≡ 4). omega arith))

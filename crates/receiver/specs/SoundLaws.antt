@@ -1,16 +1,16 @@
 -- Power-up is sound, and every call keeps a receive side sound in its mode; a mode change makes it sound in the other.
 use Prim.Native.Nat.{ℕ, _+_, _<_, _≤_}
-use mathlib.Core.Bool.{Bool, true, false, not, _&&_, _||_}
+use mathlib.Core.Bool.{Bool, true, false, not, _&&_, _||_, or-true}
 use mathlib.Core.List.{List, [], _∷_, _++_}
 use mathlib.Core.Path.{_≡_, refl, ap, ap₂, sym, _∙_}
 use mathlib.Core.Logic.{⊎-elim}
 use native.Mathlib.Omega.{arith}
 use lib.Dec.{ltb, leb, eqb}
 use lib.Bits.{bitOr, or-lt}
-use lib.ListN.{length}
+use lib.ListN.{length, length-append}
 use borrow.Author.Tests.{lt-ltb, le-leb, eq-eqb, ne-eqb, ltb-true, leb-true, eqb-true, not-true}
 use Rattle.base.specs.Pick.{pick}
-use Rattle.base.specs.PickLaws.{pick-true, pick-false, pick-through, pick-same, pick-le, both-hold, either-way}
+use Rattle.base.specs.PickLaws.{pick-true, pick-false, pick-through, pick-same, pick-either, pick-le, both-hold, either-way}
 use Rattle.queue.specs.declared.Character.{Character}
 use Rattle.queue.specs.declared.Queue.{Queue}
 use Rattle.queue.specs.declared.Put.{Put}
@@ -140,6 +140,30 @@ marks-unmarking (ch ∷ l) all =
 
 -- ---- every other call keeps soundness in its mode
 
+-- what an arrival leaves is not empty, whether it found room or not
+arrival-waits : (fifo : Bool) (r : Receiver) (ch : Character) → canonical (capacity fifo) (r .queue) ≡ true → noneQueued (received fifo r ch) ≡ false
+unfolding received noneQueued capacity
+arrival-waits fifo r ch tidy =
+    let h = holds (capacity fifo) (r .queue) tidy in
+    let l = h .list in
+    let some : 0 < capacity fifo = pick-either (λ n. 0 < n) fifo 16 1 (omega arith) (omega arith) in
+    ap (λ (q : Queue). eqb (accepted fifo q ch .queue .count) 0) (h .same)
+    ∙ accept-cases fifo l ch (λ (p : Put). eqb (p .queue .count) 0 ≡ false) (h .within)
+    (λ less. ne-eqb _ _ (λ (e : length (l ++ (ch ∷ [])) ≡ 0). omega (arith, length-append l (ch ∷ []))))
+    (λ more on. ne-eqb _ _ (λ (e : length l ≡ 0). omega (arith, more)))
+    (λ old more off one. ne-eqb _ _ (λ (e : 1 ≡ 0). omega arith))
+
+-- so a count that an arrival leaves stands where it may
+count-after-arrival : (fifo : Bool) (r : Receiver) (ch : Character) → soundReceiver fifo r ≡ true → countAllowed fifo (received fifo r ch) ≡ true
+unfolding countAllowed received
+count-after-arrival fifo r ch sound =
+    ⊎-elim
+    (λ (stands : timeoutStands r ≡ true).
+    let mode = timeout-waits fifo r sound stands .0 in
+    rw (mode, arrival-waits true r ch (rw mode at (parts fifo r sound .tidy))) (or-true (eqb (received true r ch .timeout) 0)))
+    (λ (none : timeoutStands r ≡ false). none-counted fifo (received fifo r ch) (pick-false _ _ _ none))
+    (either-way (timeoutStands r))
+
 pub receive-sound : (fifo : Bool) (r : Receiver) (ch : Character) → soundReceiver fifo r ≡ true → ch .marks < 8
     → soundReceiver fifo (received fifo r ch) ≡ true
 unfolding received
@@ -152,8 +176,8 @@ receive-sound fifo r ch sound small =
       tidy = kept-accepting fifo (r .queue) ch (s .tidy);
       marks = marks-accepted fifo (r .queue) ch (s .tidy) (s .marks) small;
       kept = omega (arith, pick-le fifo (r .kept) (bitOr (r .kept) (ch .marks)) 7 k both);
-      counted = omega arith;
-      allowed = none-counted fifo (received fifo r ch) refl;
+      counted = pick-le (timeoutStands r) (r .timeout) 0 4 (s .counted) (omega arith);
+      allowed = count-after-arrival fifo r ch sound;
     })
 
 pub get-sound : (fifo : Bool) (r : Receiver) → soundReceiver fifo r ≡ true → soundReceiver fifo (got r .receiver) ≡ true

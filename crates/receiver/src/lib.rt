@@ -44,13 +44,14 @@ impl Receiver {
     pub fn receive(mut self, fifo: bool, ch: Character) -> Receiver
         ensures { λ r. ⌜ r ≡ received fifo self ch ⌝ }
     {
+        let stands = self.timed_out();
         let waiting = self.queue;
         let put = waiting.accept(fifo, ch);
         let next = put.queue;
         self.queue = next;
         self.overrun = self.overrun | put.full;
         self.kept = base::pick_byte(fifo, self.kept, self.kept | ch.marks);
-        self.timeout = 0;
+        self.timeout = base::pick_byte(stands, self.timeout, 0);
         self
     }
 

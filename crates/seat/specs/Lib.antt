@@ -7,3 +7,5 @@ pub mod StepLaws
 pub mod ActLaws
 pub mod SoundLaws
 pub mod ReceivingLaws
+pub mod Lasting
+pub mod LastingLaws

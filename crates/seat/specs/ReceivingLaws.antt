@@ -20,7 +20,7 @@ use Rattle.seat.specs.Receiving.{side, momentsOf, befallsBy, befalling, 
 pub step-side : (s : Seat) (e : SeatEvent) → side (stepped s e .seat) ≡ afterAll (side s) (momentsOf s e)
 step-side s e = ap (λ (t : Replied). side (t .seat)) (sym (by-channel s e)) ∙ channel.step-side (s .channel) e
 
-acted-side : (s : Seat) (a : Act) → side (acted s a) ≡ afterAll (side s) (befallsBy s a)
+pub acted-side : (s : Seat) (a : Act) → side (acted s a) ≡ afterAll (side s) (befallsBy s a)
 acted-side s (event e) = step-side s e
 acted-side s resets = channel.reset-side (s .channel)
 
