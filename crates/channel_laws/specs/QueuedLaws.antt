@@ -18,7 +18,7 @@ use Rattle.queue.specs.declared.Put.{Put}
 use Rattle.queue.specs.Queue.{noCharacter, capacity, accepted, oldest, anyMarked, marked}
 use Rattle.queue.specs.QueueLaws.{holding, oldest-is, oldest-none, marked-is}
 use Rattle.queue.specs.CanonicalLaws.{Holds, holds}
-use Rattle.queue.specs.AcceptLaws.{capacity-small, accept-cases}
+use Rattle.queue.specs.AcceptLaws.{capacity-small, accept-cases, accept-some}
 use Rattle.receiver.specs.Receiver.{received}
 use Rattle.receiver.specs.CallLaws.{arrive-overrun}
 use Rattle.receiver.specs.EffectLaws as effects
@@ -66,17 +66,8 @@ module _ (mode : Bool) (l : List Character) (ch : Character) (within : length l 
 
   -- which is never empty
   pub joined-some : eqb (length (joined mode l ch)) 0 ≡ false
-  unfolding capacity pick
-  joined-some =
-      accept-cases mode l ch (λ (p : Put). eqb (length (joined mode l ch)) 0 ≡ false) within
-      (λ less.
-      let n : length (l ++ (ch ∷ [])) ≡ suc (length l) = length-append l (ch ∷ []) ∙ add-one (length l) in
-      ap (λ (q : List Character). eqb (length q) 0) (joined-room mode l ch less) ∙ ne-eqb _ _ (λ (e : length (l ++ (ch ∷ [])) ≡ 0). omega arith))
-      (λ more on.
-      let all : 16 ≤ length l = rw on at more in
-      ap (λ (q : List Character). eqb (length q) 0) (joined-full mode l ch more ∙ pick-true _ _ _ on)
-      ∙ ne-eqb _ _ (λ (e : length l ≡ 0). omega arith))
-      (λ old more off one. ap (λ (q : List Character). eqb (length q) 0) (joined-full mode l ch more ∙ pick-false _ _ _ off))
+  unfolding capacity
+  joined-some = ap (λ (q : Queue). eqb (q .count) 0) (sym takes) ∙ accept-some mode l ch within
 
   -- nor longer than the queue
   pub joined-fits : length (joined mode l ch) ≤ 16

@@ -7,10 +7,10 @@ use mathlib.Core.Logic.{⊎-elim}
 use native.Mathlib.Omega.{arith}
 use lib.Dec.{ltb, leb, eqb}
 use lib.Bits.{bitOr, or-lt}
-use lib.ListN.{length, length-append}
+use lib.ListN.{length}
 use borrow.Author.Tests.{lt-ltb, le-leb, eq-eqb, ne-eqb, ltb-true, leb-true, eqb-true, not-true}
 use Rattle.base.specs.Pick.{pick}
-use Rattle.base.specs.PickLaws.{pick-true, pick-false, pick-through, pick-same, pick-either, pick-le, both-hold, either-way}
+use Rattle.base.specs.PickLaws.{pick-true, pick-false, pick-through, pick-same, pick-le, both-hold, either-way}
 use Rattle.queue.specs.declared.Character.{Character}
 use Rattle.queue.specs.declared.Queue.{Queue}
 use Rattle.queue.specs.declared.Put.{Put}
@@ -18,7 +18,7 @@ use Rattle.queue.specs.declared.Taken.{Taken}
 use Rattle.queue.specs.Queue.{emptyQueue, contents, capacity, canonical, accepted, taken, unmarked, plain}
 use Rattle.queue.specs.QueueLaws.{holding, contents-of, take-oldest, take-none, unmark-oldest, unmark-none}
 use Rattle.queue.specs.CanonicalLaws.{Holds, holds}
-use Rattle.queue.specs.AcceptLaws.{facts-of, accept-cases, kept-accepting}
+use Rattle.queue.specs.AcceptLaws.{facts-of, accept-cases, accept-some, kept-accepting}
 use Rattle.receiver.specs.declared.Receiver.{Receiver}
 use Rattle.receiver.specs.declared.Got.{Got}
 use Rattle.receiver.specs.Receiver.{quiet, noneQueued, received, got, lsrSeen, waited, cleared, afterModeChange, restarted, timeoutStands}
@@ -140,18 +140,12 @@ marks-unmarking (ch ∷ l) all =
 
 -- ---- every other call keeps soundness in its mode
 
--- what an arrival leaves is not empty, whether it found room or not
+-- what an arrival leaves is not empty
 arrival-waits : (fifo : Bool) (r : Receiver) (ch : Character) → canonical (capacity fifo) (r .queue) ≡ true → noneQueued (received fifo r ch) ≡ false
-unfolding received noneQueued capacity
+unfolding received noneQueued
 arrival-waits fifo r ch tidy =
     let h = holds (capacity fifo) (r .queue) tidy in
-    let l = h .list in
-    let some : 0 < capacity fifo = pick-either (λ n. 0 < n) fifo 16 1 (omega arith) (omega arith) in
-    ap (λ (q : Queue). eqb (accepted fifo q ch .queue .count) 0) (h .same)
-    ∙ accept-cases fifo l ch (λ (p : Put). eqb (p .queue .count) 0 ≡ false) (h .within)
-    (λ less. ne-eqb _ _ (λ (e : length (l ++ (ch ∷ [])) ≡ 0). omega (arith, length-append l (ch ∷ []))))
-    (λ more on. ne-eqb _ _ (λ (e : length l ≡ 0). omega (arith, more)))
-    (λ old more off one. ne-eqb _ _ (λ (e : 1 ≡ 0). omega arith))
+    ap (λ (q : Queue). eqb (accepted fifo q ch .queue .count) 0) (h .same) ∙ accept-some fifo (h .list) ch (h .within)
 
 -- so a count that an arrival leaves stands where it may
 count-after-arrival : (fifo : Bool) (r : Receiver) (ch : Character) → soundReceiver fifo r ≡ true → countAllowed fifo (received fifo r ch) ≡ true
