@@ -1,6 +1,7 @@
 /* Control software of the old kind, which pokes registers, with the bench in
    place of the chips: it initialises the controller, sets two seats up, takes
-   interrupts, and files what each pupil uploads by the vector alone. */
+   interrupts, and files what each pupil uploads by the vector alone. A panel
+   shows what waits at a third seat, and which characters of it are marked. */
 #include <stdio.h>
 #include <string.h>
 
@@ -17,6 +18,8 @@
 #define READY_TO_RECEIVE (HAILSTOAT_MCR_DTR | HAILSTOAT_MCR_RTS | HAILSTOAT_MCR_OUT2)
 
 #define BAUD_9600 96000
+
+#define LOOSE_SEAT 7
 
 struct pupil {
     const char *name;
@@ -129,6 +132,27 @@ static void upload_all(void)
     }
 }
 
+/* The seat panel: what waits at a seat, and something does, is taken and shown, marked characters in brackets. It asks how
+   many remain behind each and does not read LSR, which would clear the marks of the next. */
+static void show_panel(uint32_t seat)
+{
+    uint64_t word;
+    printf("panel of seat %u: ", (unsigned)seat);
+    do {
+        word = event(HAILSTOAT_READ_REGISTER, seat, HAILSTOAT_RBR, 0);
+        printf(hailstoat_word_marks(word) != 0 ? "[%c]" : "%c", (char)hailstoat_word_answer(word));
+    } while (hailstoat_word_behind(word) != 0);
+    printf("\n");
+}
+
+/* The outside again: at a seat with a loose plug the middle one of three characters comes in without its stop bit. */
+static void wiggle_the_plug(uint32_t seat)
+{
+    event(HAILSTOAT_ARRIVAL, seat, 0, 'G');
+    event(HAILSTOAT_ARRIVAL, seat, HAILSTOAT_MARK_FRAMING, '7');
+    event(HAILSTOAT_ARRIVAL, seat, 0, '2');
+}
+
 /* Not 0 if a pupil's file is not what that pupil sent. */
 static int compare(void)
 {
@@ -154,5 +178,8 @@ int main(void)
     for (size_t i = 0; i < PUPILS; i += 1)
         set_up(pupils[i].seat);
     upload_all();
+    set_up(LOOSE_SEAT);
+    wiggle_the_plug(LOOSE_SEAT);
+    show_panel(LOOSE_SEAT);
     return compare();
 }

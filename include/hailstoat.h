@@ -30,7 +30,7 @@ extern "C" {
 
 /* 10000 times the major number, 100 times the minor, and the patch. The major
    number changes where a program must be changed, or compiled again. */
-#define HAILSTOAT_VERSION 20100
+#define HAILSTOAT_VERSION 20200
 
 #define HAILSTOAT_SEATS 8
 #define HAILSTOAT_SLOTS 16
@@ -131,11 +131,12 @@ struct hailstoat_bench {
 
 /* ---- the word
 
-   A call that can be refused answers with one word: 01RRAAAA where the output
-   is high and 00RRAAAA where it is low, RR the refusal number (0 for none) and
-   AAAA the answer, which is 0FFF in every refusal. The upper half of its 64 bits
-   is 0: later versions may use it, so compare what the functions below give, and
-   not the word. */
+   A call that can be refused answers with one word: 0000BBMM01RRAAAA where the
+   output is high and 0000BBMM00RRAAAA where it is low, RR the refusal number (0
+   for none) and AAAA the answer, which is 0FFF in every refusal. MM and BB are
+   the marks of a character that was read and how many remain behind it. The top
+   four digits are 0: later versions may use them, so compare what the functions
+   below give, and not the word. */
 
 static inline unsigned hailstoat_word_refusal(uint64_t word)
 {
@@ -152,6 +153,21 @@ static inline unsigned hailstoat_word_answer(uint64_t word)
 static inline unsigned hailstoat_word_output(uint64_t word)
 {
     return (unsigned)(word >> 24 & 1u);
+}
+
+/* Of a read of RBR: the marks of the character that was read, as in
+   HAILSTOAT_MARK_PARITY, and how many remain in the queue behind it. In 16450
+   mode they are the marks that it arrived with, even after LSR was read; in FIFO
+   mode marks that a read of LSR cleared stay cleared. From an empty queue: no
+   marks, none behind. Every other answer, a read of DLL too, has 0 for both. */
+static inline unsigned hailstoat_word_marks(uint64_t word)
+{
+    return (unsigned)(word >> 32 & 0xFFu);
+}
+
+static inline unsigned hailstoat_word_behind(uint64_t word)
+{
+    return (unsigned)(word >> 40 & 0xFFu);
 }
 
 /* Of an acknowledge that was not refused: its vector, spurious or not, and 1 if
@@ -368,8 +384,9 @@ enum hailstoat_port {
 /* One event: kind, seat, number, value. What a kind does not use is not looked
    at. An event touches the one seat it names, or the controller; a master reset
    touches all eight seats. Line changes reach the controller's latches in the
-   same event. The word has the refusal, the answer, and the output after the
-   event. In a refusal nothing changes. */
+   same event. The word has the refusal, the answer, with it the marks of a
+   character that was read and how many remain behind it, and the output after
+   the event. In a refusal nothing changes. */
 uint64_t hailstoat_event(struct hailstoat_bench *bench, uint32_t kind, uint32_t seat,
                          uint32_t number, uint8_t value);
 

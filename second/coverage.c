@@ -29,6 +29,7 @@ enum tally_item tally_behind(enum tally_item item, unsigned further)
 static void tally_moment(struct tally *tally, const struct moment *moment)
 {
     tally->events += 1;
+    tally_letter(tally, moment);
     if (moment->outcome.refusal != REFUSAL_NONE) {
         tally_refusal(tally, moment);
         return;
@@ -46,6 +47,7 @@ static void tally_trial(struct tally *tally, struct trial trial)
 {
     struct bench bench = starts[trial.start]();
     struct stream stream = stream_begin(trial.seed, trial.set);
+    tally->watches = (struct watches){0};
     for (uint64_t i = 0; i < trial.count; i += 1) {
         struct bench before = bench;
         struct event event = stream_next(&stream);
@@ -92,7 +94,7 @@ int coverage_run(void)
     for (size_t i = 0; i < TRIALS; i += 1)
         tally_trial(&tally, trials[i]);
     for (size_t i = 0; i < IMAGE_TRIALS; i += 1)
-        image_trial_digest(image_trials[i], &images);
+        image_trial_digests(image_trials[i], &images);
     printf("%10" PRIu64 "  events\n%10" PRIu64 "  accepted\n", tally.events, tally.accepted);
     for (size_t i = 0; i < TALLY_COUNT; i += 1) {
         printf("%10" PRIu64 "  %s\n", tally.reached[i], item_words[i]);

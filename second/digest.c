@@ -9,19 +9,30 @@ uint64_t digest_add(uint64_t digest, uint64_t value)
     return (digest * DIGEST_FACTOR + value + 1U) % DIGEST_PRIME;
 }
 
-uint64_t digest_outcome(uint64_t digest, struct bench *bench, struct event event)
+uint64_t digest_outcome(uint64_t digest, const struct bench *bench, struct outcome outcome)
 {
-    struct outcome outcome = bench_event(bench, event);
     unsigned refusal = (unsigned)outcome.refusal;
     return digest_add(digest, refusal * 8192U + outcome.answer * 2U + bench_output(bench));
 }
 
-uint64_t digest_event(uint64_t digest, struct bench *bench, struct event event)
+static uint64_t digest_places(uint64_t digest, const struct bench *bench)
 {
-    digest = digest_outcome(digest, bench, event);
     for (unsigned line = 0; line <= LINES; line += 1) {
         struct outcome place = bench_place(bench, line);
         digest = digest_add(digest, (unsigned)place.refusal * 4096U + place.answer);
     }
     return digest;
+}
+
+static uint64_t digest_letter(uint64_t digest, struct outcome outcome)
+{
+    unsigned figures = outcome.marks * 256U + outcome.behind;
+    return digest_add(digest, outcome.is_letter ? 1U + figures : 0U);
+}
+
+void digests_event(struct digests *digests, struct bench *bench, struct event event)
+{
+    struct outcome outcome = bench_event(bench, event);
+    digests->digest = digest_places(digest_outcome(digests->digest, bench, outcome), bench);
+    digests->letters = digest_letter(digests->letters, outcome);
 }

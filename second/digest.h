@@ -5,14 +5,20 @@
 
 #include "bench.h"
 
-/* TRIALS.md, Digest. It starts at 0. */
+/* TRIALS.md, Digest and Letter digest. Both start at 0, and neither depends on
+   the other. */
+struct digests {
+    uint64_t digest;
+    uint64_t letters;
+};
 
 uint64_t digest_add(uint64_t digest, uint64_t value);
 
-/* Step 1: what the event gave. */
-uint64_t digest_outcome(uint64_t digest, struct bench *bench, struct event event);
+/* Step 1: what an event gave, with the bench after it. */
+uint64_t digest_outcome(uint64_t digest, const struct bench *bench, struct outcome outcome);
 
-/* Steps 1 and 2: the places in turn too. */
-uint64_t digest_event(uint64_t digest, struct bench *bench, struct event event);
+/* Gives the event to the bench; then steps 1 and 2 of Digest, the places in
+   turn too, and Letter digest. */
+void digests_event(struct digests *digests, struct bench *bench, struct event event);
 
 #endif

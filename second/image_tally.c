@@ -4,10 +4,15 @@
 #include <stdbool.h>
 #include <stdio.h>
 
+#include "image_fields.h"
+
 #define DAMAGES_LEAST 200000U
 
 #define GROUND_WORDS(name, words) words,
 static const char *const ground_words[] = {GROUND_ITEMS(GROUND_WORDS)};
+
+#define RESTORED_WORDS(name, words) words,
+static const char *const restored_words[] = {RESTORED_ITEMS(RESTORED_WORDS)};
 
 static const char *const count_words[TIMEOUT_COUNTS] = {"0", "1", "2", "3", "4"};
 
@@ -19,13 +24,39 @@ static unsigned field_of(unsigned at)
     return IMAGE_AT_SEATS + (at - IMAGE_AT_SEATS) % IMAGE_SEAT_BYTES;
 }
 
+void image_tally_begin(struct image_tally *tally)
+{
+    tally->watches = (struct watches){0};
+}
+
+static void restored_if(struct image_tally *tally, bool reached, enum restored item)
+{
+    if (reached)
+        tally->restored[item] += 1;
+}
+
+/* S138: the letters of a bench read back are those of the saved one. */
+static void tally_restored(struct image_tally *tally, const struct moment *moment)
+{
+    const struct channel *before = &moment->before->seats[moment->event.seat];
+    const struct watch *watch = &tally->watches.seats[moment->event.seat];
+    const struct character *next = &before->receive.characters[1];
+    bool fifo = channel_in_fifo_mode(before);
+    unsigned marks = moment->outcome.marks;
+    if (!moment->outcome.is_letter || (watch->restored & 1U) == 0)
+        return;
+    restored_if(tally, !fifo && marks != 0, RESTORED_16450);
+    restored_if(tally, !fifo && (marks & ~before->kept_marks) != 0, RESTORED_AFTER_LSR);
+    restored_if(tally, fifo && marks != 0, RESTORED_FIFO);
+    restored_if(tally, watch->restored_cleared && marks == 0, RESTORED_CLEARED);
+    restored_if(tally, (watch->restored & 2U) != 0 && next->marks != 0, RESTORED_BEHIND);
+}
+
 /* S113: what an arrival that is lost does to the time-out count only a saved
    bench shows, as long as the FIFO stays full and no character time passes. */
-void image_tally_event(struct image_tally *tally, const struct moment *moment)
+static void tally_lost(struct image_tally *tally, const struct moment *moment)
 {
     struct event event = moment->event;
-    if (moment->outcome.refusal != REFUSAL_NONE || event.kind > KIND_CHARACTER_TIME)
-        return;
     const struct channel *before = &moment->before->seats[event.seat];
     const struct channel *after = &moment->after->seats[event.seat];
     bool lost = event.kind == KIND_ARRIVAL && before->receive.count == PLACES_FIFO;
@@ -35,8 +66,18 @@ void image_tally_event(struct image_tally *tally, const struct moment *moment)
         tally->lost_at[event.seat] = 0;
 }
 
+void image_tally_event(struct image_tally *tally, const struct moment *moment)
+{
+    bool of_seat = moment->event.kind <= KIND_CHARACTER_TIME;
+    if (moment->outcome.refusal == REFUSAL_NONE && of_seat) {
+        tally_lost(tally, moment);
+        tally_restored(tally, moment);
+    }
+    watches_event(&tally->watches, moment);
+}
+
 /* A seat emptied by a master reset, or by a new stream, is full no more. */
-static void tally_lost(struct image_tally *tally, const uint8_t image[IMAGE_BYTES])
+static void tally_left(struct image_tally *tally, const uint8_t image[IMAGE_BYTES])
 {
     for (unsigned seat = 0; seat < SEATS; seat += 1) {
         const uint8_t *record = image + IMAGE_AT_SEATS + seat * IMAGE_SEAT_BYTES;
@@ -47,8 +88,10 @@ static void tally_lost(struct image_tally *tally, const uint8_t image[IMAGE_BYTE
 
 void image_tally_stop(struct image_tally *tally, const uint8_t image[IMAGE_BYTES])
 {
+    struct bench bench = image_fields(image);
     tally->stops += 1;
-    tally_lost(tally, image);
+    tally_left(tally, image);
+    watches_restore(&tally->watches, &bench);
     for (unsigned i = 0; i < IMAGE_BYTES; i += 1)
         if (image[i] != 0)
             tally->held[field_of(i)] += 1;
@@ -123,6 +166,8 @@ int image_tally_print(const struct image_tally *tally)
         result |= print_item(tally->left[i],
                              "saved benches after an arrival lost at time-out count ",
                              count_words[i]);
+    for (unsigned i = 0; i < RESTORED_COUNT; i += 1)
+        result |= print_item(tally->restored[i], "letter from a saved bench, ", restored_words[i]);
     result |= print_some(tally->damages, DAMAGES_LEAST, "damaged images", "");
     result |= print_item(tally->read, "damaged images ", "read");
     result |= print_some(tally->written_back, tally->read, "damaged images ",

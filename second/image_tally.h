@@ -13,12 +13,27 @@
 /* "the time-out count rises, up to 4" */
 #define TIMEOUT_COUNTS 5U
 
+/* Letters of characters that a bench was saved with and that were read back with
+   it, with the words they are printed by. */
+#define RESTORED_ITEMS(ITEM) \
+    ITEM(16450, "16450 marked") \
+    ITEM(AFTER_LSR, "16450 with a mark that an LSR read has cleared in LSR") \
+    ITEM(FIFO, "FIFO marked") \
+    ITEM(CLEARED, "FIFO whose marks an LSR read had cleared before") \
+    ITEM(BEHIND, "FIFO with a marked one behind it from the image too")
+
+#define RESTORED_NAME(name, words) RESTORED_##name,
+enum restored { RESTORED_ITEMS(RESTORED_NAME) RESTORED_COUNT };
+#undef RESTORED_NAME
+
 /* What the trials of saved benches reach. */
 struct image_tally {
     uint64_t stops;
     uint64_t held[IMAGE_FIELD_BYTES]; /* the byte was not 0 in a saved bench, of any seat */
     unsigned lost_at[SEATS]; /* the time-out count above 0 that an arrival lost there has found */
     uint64_t left[TIMEOUT_COUNTS]; /* saved benches with a seat as such an arrival left it */
+    struct watches watches;
+    uint64_t restored[RESTORED_COUNT];
     uint64_t damages;
     uint64_t read;
     uint64_t written_back; /* as they were read */
@@ -40,6 +55,9 @@ struct damage {
     unsigned position;
     enum refusal refusal;
 };
+
+/* Before the first event of a trial. */
+void image_tally_begin(struct image_tally *tally);
 
 void image_tally_event(struct image_tally *tally, const struct moment *moment);
 void image_tally_stop(struct image_tally *tally, const uint8_t image[IMAGE_BYTES]);

@@ -2,7 +2,6 @@
 
 #include <string.h>
 
-#include "digest.h"
 #include "starts.h"
 #include "stream.h"
 #include "wounds.h"
@@ -44,7 +43,7 @@ struct image_trial {
     struct bench bench;
     struct bench other;
     uint64_t stops;
-    uint64_t digest;
+    struct digests digests;
     struct image_tally *tally;
 };
 
@@ -61,7 +60,7 @@ static unsigned pick(struct image_trial *trial, unsigned below)
 
 static void add(struct image_trial *trial, uint64_t value)
 {
-    trial->digest = digest_add(trial->digest, value);
+    trial->digests.digest = digest_add(trial->digests.digest, value);
 }
 
 /* Four bytes at a time, the first the least. */
@@ -93,8 +92,10 @@ static struct kept keep(struct image_trial *trial, const struct bench *bench, un
 static void ahead(struct image_trial *trial, struct bench *bench, unsigned events)
 {
     struct stream copy = trial->stream;
-    for (unsigned i = 0; i < events; i += 1)
-        trial->digest = digest_outcome(trial->digest, bench, stream_next(&copy));
+    for (unsigned i = 0; i < events; i += 1) {
+        struct outcome outcome = bench_event(bench, stream_next(&copy));
+        trial->digests.digest = digest_outcome(trial->digests.digest, bench, outcome);
+    }
 }
 
 /* TRIALS.md, A stop, step 1: the ways of having no room for an image. */
@@ -199,7 +200,7 @@ static void tally_event(const struct image_trial *trial, struct event event)
     image_tally_event(trial->tally, &(struct moment){&trial->bench, &after, event, outcome});
 }
 
-uint64_t image_trial_digest(struct trial asked, struct image_tally *tally)
+struct digests image_trial_digests(struct trial asked, struct image_tally *tally)
 {
     struct image_trial trial = {
         .stream = stream_begin(asked.seed, asked.set),
@@ -208,13 +209,15 @@ uint64_t image_trial_digest(struct trial asked, struct image_tally *tally)
         .other = starts[asked.start](),
         .tally = tally,
     };
+    if (tally != NULL)
+        image_tally_begin(tally);
     for (uint64_t i = 1; i <= asked.count; i += 1) {
         struct event event = stream_next(&trial.stream);
         if (tally != NULL)
             tally_event(&trial, event);
-        trial.digest = digest_event(trial.digest, &trial.bench, event);
+        digests_event(&trial.digests, &trial.bench, event);
         if (i % EVENTS_BETWEEN_STOPS == 0)
             stop(&trial);
     }
-    return trial.digest;
+    return trial.digests;
 }

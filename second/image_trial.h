@@ -1,6 +1,7 @@
 #ifndef IMAGE_TRIAL_H
 #define IMAGE_TRIAL_H
 
+#include "digest.h"
 #include "image_tally.h"
 #include "trials.h"
 
@@ -9,8 +10,8 @@
 /* The trials of saved benches that are run each time. */
 extern const struct trial image_trials[IMAGE_TRIALS];
 
-/* TRIALS.md, Saved benches: the digest. Where the tally is not NULL, what is
+/* TRIALS.md, Saved benches: the digests. Where the tally is not NULL, what is
    reached is counted in it. */
-uint64_t image_trial_digest(struct trial trial, struct image_tally *tally);
+struct digests image_trial_digests(struct trial trial, struct image_tally *tally);
 
 #endif

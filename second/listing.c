@@ -10,7 +10,14 @@
    three hex capitals, output after the event; single spaces" */
 static void print_line(uint64_t number, struct outcome outcome, unsigned output)
 {
-    printf("%" PRIu64 " %u %03X %u\n", number, (unsigned)outcome.refusal, outcome.answer, output);
+    printf("%" PRIu64 " %u %03X %u", number, (unsigned)outcome.refusal, outcome.answer, output);
+}
+
+/* "The RBR answer gains these figures; the listing stays." */
+static void print_letter(struct outcome outcome)
+{
+    if (outcome.is_letter)
+        printf(" marks %u behind %u", outcome.marks, outcome.behind);
 }
 
 static void print_record(const uint8_t *record, size_t length)
@@ -20,7 +27,7 @@ static void print_record(const uint8_t *record, size_t length)
     printf(" ");
 }
 
-static int list(struct bench *bench, bool with_records, const struct saves *saves)
+static int list(struct bench *bench, bool showing, const struct saves *saves)
 {
     struct records records;
     uint8_t record[RECORD_BYTES];
@@ -34,9 +41,12 @@ static int list(struct bench *bench, bool with_records, const struct saves *save
         bool whole = length == RECORD_BYTES;
         struct outcome outcome =
             whole ? bench_event(bench, record_event(record)) : refused(REFUSAL_SHORT);
-        if (with_records)
+        if (showing)
             print_record(record, length);
         print_line(number, outcome, bench_output(bench));
+        if (showing)
+            print_letter(outcome);
+        printf("\n");
         result |= saves_at_record(saves, bench, number);
         number += 1;
         /* "It stops after refusal 4." */

@@ -10,7 +10,8 @@
    output; the bench is saved on the way as asked. */
 int listing_run(struct bench bench, const struct saves *saves);
 
-/* The same, each line with the record's bytes in hex before it. */
+/* The same, each line with the record's bytes in hex before it, and behind it a
+   letter's marks and how many remain behind it (S135). */
 int listing_show(struct bench bench);
 
 #endif

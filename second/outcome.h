@@ -1,6 +1,8 @@
 #ifndef OUTCOME_H
 #define OUTCOME_H
 
+#include <stdbool.h>
+
 /* "The answer of every refusal is FFF and nothing changes." */
 #define ANSWER_REFUSED 0xFFFU
 
@@ -26,19 +28,29 @@ enum refusal {
     REFUSAL_BREAK_WITH_DATA = 18 /* "break with data" */
 };
 
+/* Ticket 6: "The RBR answer gains these figures". Of an outcome that is no
+   letter both are 0. */
 struct outcome {
     enum refusal refusal;
     unsigned answer;
+    bool is_letter;
+    unsigned marks;
+    unsigned behind; /* "how many remain behind it" */
 };
 
 static inline struct outcome accepted(unsigned answer)
 {
-    return (struct outcome){REFUSAL_NONE, answer};
+    return (struct outcome){.refusal = REFUSAL_NONE, .answer = answer};
+}
+
+static inline struct outcome accepted_letter(unsigned byte, unsigned marks, unsigned behind)
+{
+    return (struct outcome){REFUSAL_NONE, byte, true, marks, behind};
 }
 
 static inline struct outcome refused(enum refusal refusal)
 {
-    return (struct outcome){refusal, ANSWER_REFUSED};
+    return (struct outcome){.refusal = refusal, .answer = ANSWER_REFUSED};
 }
 
 #endif

@@ -1,15 +1,17 @@
 /* Reads and writes of a channel's eight registers. */
 #include "channel.h"
 
-static unsigned read_rbr(struct channel *channel)
+static struct outcome read_rbr(struct channel *channel)
 {
     /* "From an empty queue it gives the last byte read (0 at first) and
-       changes nothing." */
-    if (!queue_is_empty(&channel->receive)) {
-        channel->last_byte_read = queue_take_oldest(&channel->receive).data;
-        channel->timeout_count = 0;
-    }
-    return channel->last_byte_read;
+       changes nothing." Ticket 6: "no marks, none behind" */
+    if (queue_is_empty(&channel->receive))
+        return accepted_letter(channel->last_byte_read, 0, 0);
+    struct character oldest = queue_take_oldest(&channel->receive);
+    channel->last_byte_read = oldest.data;
+    channel->timeout_count = 0;
+    /* "also hands over its marks and how many remain behind it" */
+    return accepted_letter(oldest.data, oldest.marks, channel->receive.count);
 }
 
 static unsigned read_iir(struct channel *channel)
@@ -27,7 +29,8 @@ static unsigned read_lsr(struct channel *channel)
     unsigned lsr = channel_lsr(channel);
     /* "A read clears overrun, and the marks it showed, after answering." In
        FIFO mode it showed the oldest character's; characters[0] of an empty
-       queue is 0 already. */
+       queue is 0 already. In 16450 mode the character keeps "the marks it
+       arrived with, even after LSR was read". */
     channel->overrun = false;
     if (channel_in_fifo_mode(channel))
         channel->receive.characters[0].marks = 0;
@@ -48,7 +51,7 @@ struct outcome channel_read(struct channel *channel, unsigned number)
 {
     bool divisor = (channel->lcr & LCR_DIVISOR) != 0;
     switch (number) {
-    case 0: return accepted(divisor ? channel->divisor_low : read_rbr(channel));
+    case 0: return divisor ? accepted(channel->divisor_low) : read_rbr(channel);
     case 1: return accepted(divisor ? channel->divisor_high : channel->ier);
     case 2: return accepted(read_iir(channel));
     case 3: return accepted(channel->lcr);

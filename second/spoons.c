@@ -6,44 +6,10 @@
 #include <stddef.h>
 #include <stdio.h>
 
-#include "bench.h"
+#include "image.h"
+#include "letter_spoons.h"
 #include "output.h"
-
-/* A step is an event, how often it is given, its answer and the output after
-   it; or a question for a line's place in turn. ANY stands for an answer or
-   output that document 01 does not name, REFUSED_BY(n) for refusal n with its
-   FFF. */
-#define ANY 0x8000U
-#define REFUSED_BY(refusal) (0xF000U + (refusal))
-#define PLACE 0x10U
-
-struct step {
-    struct event event;
-    unsigned times;
-    unsigned answer;
-    unsigned output;
-};
-
-#define READ(seat, number, answer) {{0, seat, number, 0}, 1, answer, ANY}
-#define WRITE(seat, number, byte) {{1, seat, number, byte}, 1, 0x000, ANY}
-#define ARRIVAL(seat, marks, data) {{2, seat, marks, data}, 1, 0x000, ANY}
-#define ARRIVALS(seat, data, times) {{2, seat, 0, data}, times, 0x000, ANY}
-#define ARRIVAL_REFUSED(seat) {{2, seat, 8, 0}, 1, REFUSED_BY(6), ANY}
-#define MODEM(seat, levels) {{3, seat, 0, levels}, 1, 0x000, ANY}
-#define PASS(seat, times) {{4, seat, 0, 0}, times, ANSWER_IDLE, ANY}
-#define PORT_READ(port, answer) {{6, 0, port, 0}, 1, answer, ANY}
-#define PORT_WRITE(port, byte) {{7, 0, port, byte}, 1, 0x000, ANY}
-#define PORT_WRITE_OUT(port, byte, output) {{7, 0, port, byte}, 1, 0x000, output}
-#define ACKNOWLEDGE(answer, output) {{8, 0, 0, 0}, 1, answer, output}
-#define PLACE_OF(line, place) {{PLACE, 0, line, 0}, 1, place, ANY}
-
-/* "Cases 2 to 7 first set divisor 12 and LCR 03, cases 3 to 5 FCR 81" */
-#define SET_DIVISOR WRITE(0, 3, 0x83), WRITE(0, 0, 12), WRITE(0, 1, 0), WRITE(0, 3, 0x03)
-#define SET_FIFO SET_DIVISOR, WRITE(0, 2, 0x81)
-/* "9 to 12 use base 40, edge mode without automatic end" */
-#define SET_BASE PORT_WRITE(0, 0x13), PORT_WRITE(1, 0x40), PORT_WRITE(1, 0x01)
-/* A line rises by a real event: a changed CTS with its cause enabled. */
-#define RISE(seat) WRITE(seat, 4, 0x08), WRITE(seat, 1, 0x08), MODEM(seat, 1)
+#include "steps.h"
 
 static const struct step case_1[] = {READ(0, 5, 0x60), READ(0, 2, 0x01), READ(0, 6, 0x00)};
 static const struct step case_2[] = {
@@ -151,14 +117,6 @@ static const struct step edges[] = {
     ARRIVAL(0, 0, 0x1F), {{2, 0, 0, 0x20}, 1, REFUSED_BY(16), 0}, PASS(0, 1),
 };
 
-struct spoon {
-    const char *name;
-    const struct step *steps;
-    size_t count;
-};
-
-#define SPOON(name, steps) {name, steps, sizeof steps / sizeof steps[0]}
-
 static const struct spoon spoons[] = {
     SPOON("1 power-up", case_1), SPOON("2 16450 overrun", case_2),
     SPOON("3 FIFO overrun", case_3), SPOON("4 trigger", case_4),
@@ -180,17 +138,38 @@ static bool answer_agrees(struct outcome outcome, unsigned expected)
 {
     if (outcome.refusal != REFUSAL_NONE)
         return expected == REFUSED_BY((unsigned)outcome.refusal)
-            && outcome.answer == ANSWER_REFUSED;
+            && outcome.answer == ANSWER_REFUSED && !outcome.is_letter;
+    if (expected >= PLAIN(0))
+        return expected == PLAIN(outcome.answer) && !outcome.is_letter;
+    if (expected >= LETTER(0, 0, 0))
+        return expected == LETTER(outcome.answer, outcome.marks, outcome.behind)
+            && outcome.is_letter;
     return expected == ANY || outcome.answer == expected;
+}
+
+static struct outcome save_and_restore(struct bench *bench, unsigned at, unsigned byte)
+{
+    uint8_t image[IMAGE_BYTES];
+    image_save(bench, image, IMAGE_BYTES, 0);
+    image[at] = (uint8_t)byte;
+    enum refusal refusal = image_restore(bench, image, IMAGE_BYTES, 0);
+    return refusal == REFUSAL_NONE ? accepted(0) : refused(refusal);
+}
+
+static struct outcome step_outcome(struct bench *bench, struct event event)
+{
+    switch (event.kind) {
+    case STEP_PLACE: return bench_place(bench, event.number);
+    case STEP_RESTORE: return save_and_restore(bench, event.number, event.value);
+    default: return bench_event(bench, event);
+    }
 }
 
 static bool step_agrees(struct bench *bench, const struct step *step)
 {
     bool agrees = true;
     for (unsigned i = 0; i < step->times; i += 1) {
-        struct outcome outcome = step->event.kind == PLACE
-            ? bench_place(bench, step->event.number)
-            : bench_event(bench, step->event);
+        struct outcome outcome = step_outcome(bench, step->event);
         unsigned output = bench_output(bench);
         agrees = agrees && answer_agrees(outcome, step->answer);
         agrees = agrees && (step->output == ANY || output == step->output);
@@ -210,11 +189,18 @@ static bool spoon_agrees(const struct spoon *spoon)
     return true;
 }
 
-int spoons_run(void)
+static int run_each(const struct spoon *list, size_t count)
 {
     int result = 0;
-    for (size_t i = 0; i < sizeof spoons / sizeof spoons[0]; i += 1)
-        if (!spoon_agrees(&spoons[i]))
+    for (size_t i = 0; i < count; i += 1)
+        if (!spoon_agrees(&list[i]))
             result = 1;
-    return output_result(result);
+    return result;
+}
+
+int spoons_run(void)
+{
+    int own = run_each(spoons, sizeof spoons / sizeof spoons[0]);
+    int letters = run_each(letter_spoons, LETTER_SPOONS);
+    return output_result(own | letters);
 }

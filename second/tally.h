@@ -5,6 +5,7 @@
 #include <stdint.h>
 
 #include "bench.h"
+#include "watch.h"
 
 /* What the trial streams are to reach, each with the words it is printed by. */
 #define TALLY_ITEMS(ITEM) \
@@ -64,6 +65,44 @@
     ITEM(LSR_FIFO_BOTH, "LSR FIFO oldest marked and another behind it") \
     ITEM(RBR_16450, "RBR 16450 taken") ITEM(RBR_FIFO, "RBR FIFO taken") \
     ITEM(RBR_EMPTY, "RBR from an empty queue") \
+    ITEM(LETTER_16450_0, "letter 16450 marks 0") ITEM(LETTER_16450_1, "letter 16450 marks 1") \
+    ITEM(LETTER_16450_2, "letter 16450 marks 2") ITEM(LETTER_16450_3, "letter 16450 marks 3") \
+    ITEM(LETTER_16450_4, "letter 16450 marks 4") ITEM(LETTER_16450_5, "letter 16450 marks 5") \
+    ITEM(LETTER_16450_6, "letter 16450 marks 6") ITEM(LETTER_16450_7, "letter 16450 marks 7") \
+    ITEM(LETTER_FIFO_0, "letter FIFO marks 0") ITEM(LETTER_FIFO_1, "letter FIFO marks 1") \
+    ITEM(LETTER_FIFO_2, "letter FIFO marks 2") ITEM(LETTER_FIFO_3, "letter FIFO marks 3") \
+    ITEM(LETTER_FIFO_4, "letter FIFO marks 4") ITEM(LETTER_FIFO_5, "letter FIFO marks 5") \
+    ITEM(LETTER_FIFO_6, "letter FIFO marks 6") ITEM(LETTER_FIFO_7, "letter FIFO marks 7") \
+    ITEM(BEHIND_0, "letter FIFO 0 behind") ITEM(BEHIND_1, "letter FIFO 1 behind") \
+    ITEM(BEHIND_2, "letter FIFO 2 behind") ITEM(BEHIND_3, "letter FIFO 3 behind") \
+    ITEM(BEHIND_4, "letter FIFO 4 behind") ITEM(BEHIND_5, "letter FIFO 5 behind") \
+    ITEM(BEHIND_6, "letter FIFO 6 behind") ITEM(BEHIND_7, "letter FIFO 7 behind") \
+    ITEM(BEHIND_8, "letter FIFO 8 behind") ITEM(BEHIND_9, "letter FIFO 9 behind") \
+    ITEM(BEHIND_10, "letter FIFO 10 behind") ITEM(BEHIND_11, "letter FIFO 11 behind") \
+    ITEM(BEHIND_12, "letter FIFO 12 behind") ITEM(BEHIND_13, "letter FIFO 13 behind") \
+    ITEM(BEHIND_14, "letter FIFO 14 behind") ITEM(BEHIND_15, "letter FIFO 15 behind") \
+    ITEM(BEHIND_LOST, "letter FIFO 15 behind after an arrival was lost") \
+    ITEM(LETTER_AFTER_LSR, "letter 16450 with a mark that an LSR read has cleared in LSR") \
+    ITEM(LETTER_KEPT_MORE, "letter 16450 marked while another mark is kept") \
+    ITEM(LETTER_KEPT_ALONE, "letter 16450 unmarked while a mark is kept") \
+    ITEM(LETTER_FOR_MARKED, "letter 16450 unmarked that replaced a marked one") \
+    ITEM(LETTER_FOR_UNMARKED, "letter 16450 marked that replaced an unmarked one") \
+    ITEM(LETTER_FOR_OTHER, "letter 16450 marked that replaced one with other marks") \
+    ITEM(LETTER_CLEARED, "letter FIFO whose marks an LSR read has cleared") \
+    ITEM(LETTER_CLEARED_FIRST, "letter FIFO with cleared marks and a marked one behind") \
+    ITEM(LETTER_SPARED, "letter FIFO marked that was behind another at an LSR read") \
+    ITEM(LETTER_UNMARKED_FIRST, "letter FIFO unmarked with a marked one behind") \
+    ITEM(LETTER_PARITY_OFF, "letter with a parity mark whose parity is off by now") \
+    ITEM(LETTER_DIVISOR_0, "letter at divisor 0") \
+    ITEM(EMPTY_BYTE, "letter of an empty queue with a last byte not 0") \
+    ITEM(EMPTY_KEPT, "letter of an empty queue while a mark is kept") \
+    ITEM(EMPTY_16450, "letter of an empty queue after a marked one in 16450 mode") \
+    ITEM(EMPTY_FIFO, "letter of an empty queue after a marked one in FIFO mode") \
+    ITEM(EMPTY_BY_FCR, "letter of a queue that FCR emptied of a marked one") \
+    ITEM(EMPTY_BY_RESET, "letter of a queue that a master reset emptied of a marked one") \
+    ITEM(DLL_MARKED, "DLL read with the oldest character marked") \
+    ITEM(DLL_BEHIND, "DLL read with several characters queued") \
+    ITEM(LETTER_REFUSED, "read of register 0 refused") \
     ITEM(MSR_CHANGED, "MSR with a change bit") \
     ITEM(DIVISOR_READ, "DLL or DLM read") ITEM(DIVISOR_WRITE, "DLL or DLM write") \
     ITEM(DIVISOR_1, "arrival or character time at divisor 1") \
@@ -178,14 +217,7 @@ struct tally {
     uint64_t accepted;
     uint64_t reached[TALLY_COUNT];
     bool left[SEATS]; /* the seat's time-out stood at an arrival and stands since */
-};
-
-/* One event with the bench on both sides of it. */
-struct moment {
-    const struct bench *before;
-    const struct bench *after;
-    struct event event;
-    struct outcome outcome;
+    struct watches watches;
 };
 
 void tally_if(struct tally *tally, bool reached, enum tally_item item);
@@ -196,6 +228,7 @@ enum tally_item tally_behind(enum tally_item item, unsigned further);
 void tally_refusal(struct tally *tally, const struct moment *moment);
 void tally_seat(struct tally *tally, const struct moment *moment);
 void tally_timeout(struct tally *tally, const struct moment *moment);
+void tally_letter(struct tally *tally, const struct moment *moment);
 void tally_controller(struct tally *tally, const struct moment *moment);
 
 #endif

@@ -16,9 +16,10 @@ const struct trial trials[TRIALS] = {
     {13, 200000, 0, 0}, {14, 200000, 0, 0}, {15, 200000, 0, 0}, {4294967295, 200000, 0, 0},
 };
 
-static int print_digest(struct trial trial, uint64_t digest)
+static int print_digests(struct trial trial, struct digests digests)
 {
-    printf("%" PRIu32 " %" PRIu64 " %08" PRIX64 "\n", trial.seed, trial.count, digest);
+    printf("%" PRIu32 " %" PRIu64 " %08" PRIX64 " %08" PRIX64 "\n", trial.seed, trial.count,
+           digests.digest, digests.letters);
     return output_result(0);
 }
 
@@ -26,15 +27,15 @@ int trials_run_one(struct trial trial)
 {
     struct bench bench = starts[trial.start]();
     struct stream stream = stream_begin(trial.seed, trial.set);
-    uint64_t digest = 0;
+    struct digests digests = {0, 0};
     for (uint64_t i = 0; i < trial.count; i += 1)
-        digest = digest_event(digest, &bench, stream_next(&stream));
-    return print_digest(trial, digest);
+        digests_event(&digests, &bench, stream_next(&stream));
+    return print_digests(trial, digests);
 }
 
 int trials_run_one_of_images(struct trial trial)
 {
-    return print_digest(trial, image_trial_digest(trial, NULL));
+    return print_digests(trial, image_trial_digests(trial, NULL));
 }
 
 static int run_each(int (*run)(struct trial), const struct trial *list, size_t count)

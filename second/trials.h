@@ -17,7 +17,7 @@ struct trial {
 extern const struct trial trials[TRIALS];
 
 /* One stream, one trial of saved benches, or all of both lists: a line each of
-   seed, count and digest. */
+   seed, count, digest and letter digest. */
 int trials_run_one(struct trial trial);
 int trials_run_one_of_images(struct trial trial);
 int trials_run_all(void);

@@ -8,6 +8,7 @@
 #include "fields.h"
 
 #define OUTPUTS 0x0FU /* of MCR */
+#define BITS_KEPT_FREE 0xFFFF0000FE000000U /* of a word */
 
 void fail(const char *what)
 {
@@ -24,7 +25,9 @@ static void differs(const char *what, unsigned long at, const char *how, struct 
 int told(uint64_t word, struct outcome outcome, unsigned output)
 {
     return hailstoat_word_refusal(word) == (unsigned)outcome.refusal
-        && hailstoat_word_answer(word) == outcome.answer && hailstoat_word_output(word) == output && word >> 25 == 0;
+        && hailstoat_word_answer(word) == outcome.answer && hailstoat_word_output(word) == output
+        && hailstoat_word_marks(word) == outcome.marks && hailstoat_word_behind(word) == outcome.behind
+        && (word & BITS_KEPT_FREE) == 0;
 }
 
 /* "acknowledge": "the vector; 100 + vector if spurious" */
@@ -45,9 +48,9 @@ static int same_places(const struct hailstoat_bench *lent, const struct bench *s
 
 static int same_outputs(const struct hailstoat_bench *lent, const struct bench *second, uint32_t seat)
 {
-    struct outcome outcome = {REFUSAL_SEAT_ABOVE, HAILSTOAT_REFUSED};
+    struct outcome outcome = refused(REFUSAL_SEAT_ABOVE);
     if (seat < SEATS)
-        outcome = (struct outcome){REFUSAL_NONE, second->seats[seat].mcr & OUTPUTS};
+        outcome = accepted(second->seats[seat].mcr & OUTPUTS);
     return told(hailstoat_modem_outputs(lent, seat), outcome, 0);
 }
 
@@ -58,7 +61,7 @@ unsigned one_event(struct hailstoat_bench *lent, struct bench *second, const cha
     uint64_t word = hailstoat_event(lent, e.kind, e.seat, e.number, (uint8_t)e.value);
     struct outcome outcome = bench_event(second, e);
     if (!told(word, outcome, bench_output(second)))
-        differs(what, at, "refusal, answer or output differs", e);
+        differs(what, at, "refusal, answer, marks, number behind or output differs", e);
     if (e.kind == HAILSTOAT_ACKNOWLEDGE && !acknowledged(word, outcome))
         differs(what, at, "the vector, or whether it was spurious, differs", e);
     if (hailstoat_output(lent) != bench_output(second))

@@ -58,7 +58,7 @@ static void streams(void)
         for (unsigned long at = 0; at < EVENTS_EACH; at += 1)
             refused += one_event(&lent, &second, what, at, stream_next(&stream));
     }
-    printf("events: %lu, of which %lu refused; answers, outputs, places, modem outputs and fields as the second program's\n",
+    printf("events: %lu, of which %lu refused; answers, letters, outputs, places, modem outputs and fields as the second program's\n",
            SEEDS * EVENTS_EACH, refused);
 }
 
@@ -74,7 +74,7 @@ static void edges(void)
 
 static void divisors(const char *path)
 {
-    static const struct outcome not_listed = {(enum refusal)HAILSTOAT_NOT_LISTED, HAILSTOAT_REFUSED};
+    const struct outcome not_listed = refused((enum refusal)HAILSTOAT_NOT_LISTED);
     unsigned clock, refusal, answer, lines = 0;
     unsigned long rate;
     FILE *list = fopen(path, "r");
@@ -82,7 +82,7 @@ static void divisors(const char *path)
         fail("the stored divisor list cannot be read");
     while (fscanf(list, "%u %lu %u %x", &clock, &rate, &refusal, &answer) == 4) {
         uint64_t word = hailstoat_divisor((uint32_t)rate, clock);
-        if (!told(word, (struct outcome){(enum refusal)refusal, answer}, 0))
+        if (!told(word, (struct outcome){.refusal = (enum refusal)refusal, .answer = answer}, 0))
             fail("a divisor differs from the stored list");
         if (!told(hailstoat_divisor((uint32_t)rate, clock + 256), not_listed, 0))
             fail("a clock past a byte is not refused");

@@ -71,6 +71,44 @@ static void queues(void)
     reads("LSR of emptied queues", HAILSTOAT_LSR, IDLE_LSR);
 }
 
+/* A read of register 0: the byte, its marks, and how many remain behind it. */
+static void reads_letter(const char *what, unsigned byte, unsigned marks, unsigned behind)
+{
+    uint64_t word = hailstoat_event(&worked, HAILSTOAT_READ_REGISTER, 0, HAILSTOAT_RBR, 0);
+    is(what, hailstoat_word_answer(word), byte);
+    is(what, hailstoat_word_marks(word), marks);
+    is(what, hailstoat_word_behind(word), behind);
+}
+
+static void letters_in_fifo_mode(void)
+{
+    set_up(0);
+    writes(0, HAILSTOAT_FCR, HAILSTOAT_FCR_FIFO);
+    reads_letter("a letter from an empty queue", 0, 0, 0);
+    arrives(HAILSTOAT_MARK_PARITY | HAILSTOAT_MARK_FRAMING, 0x41);
+    arrives(HAILSTOAT_MARK_FRAMING, 0x42);
+    arrives(HAILSTOAT_MARK_PARITY, 0x43);
+    reads_letter("a marked letter with two behind it", 0x41, HAILSTOAT_MARK_PARITY | HAILSTOAT_MARK_FRAMING, 2);
+    reads("LSR", HAILSTOAT_LSR, HAILSTOAT_LSR_DATA | HAILSTOAT_LSR_FRAMING | HAILSTOAT_LSR_MARKED | IDLE_LSR);
+    reads_letter("a letter whose marks a read of LSR cleared", 0x42, 0, 1);
+    reads_letter("a marked letter with none behind it", 0x43, HAILSTOAT_MARK_PARITY, 0);
+    reads_letter("the last byte read", 0x43, 0, 0);
+}
+
+static void letters_in_16450_mode(void)
+{
+    set_up(0);
+    arrives(HAILSTOAT_MARK_PARITY, 0x41);
+    reads("LSR", HAILSTOAT_LSR, HAILSTOAT_LSR_DATA | HAILSTOAT_LSR_PARITY | IDLE_LSR);
+    reads_letter("a letter after LSR was read", 0x41, HAILSTOAT_MARK_PARITY, 0);
+    arrives(HAILSTOAT_MARK_FRAMING, 0x42);
+    arrives(HAILSTOAT_MARK_BREAK, 0);
+    reads_letter("a letter that replaced another", 0, HAILSTOAT_MARK_BREAK, 0);
+    arrives(HAILSTOAT_MARK_PARITY, 0x43);
+    writes(0, HAILSTOAT_LCR, HAILSTOAT_LCR_DIVISOR);
+    reads_letter("DLL, which is no letter", 12, 0, 0);
+}
+
 static void trigger(unsigned choice, unsigned count)
 {
     set_up(0);
@@ -204,9 +242,9 @@ static void arrivals_that_cannot_be(void)
 
 void names_mean(void)
 {
-    static void (*const parts[])(void) = {divisor_and_scratch, line_status, queues, triggers, causes, levels, sending,
-                                          modem_outputs, bits_without_a_name, all_refusals_have_words,
-                                          arrivals_that_cannot_be};
+    static void (*const parts[])(void) = {divisor_and_scratch, line_status, queues, letters_in_fifo_mode,
+                                          letters_in_16450_mode, triggers, causes, levels, sending, modem_outputs,
+                                          bits_without_a_name, all_refusals_have_words, arrivals_that_cannot_be};
     size_t count = each_from_power_up(parts, sizeof parts / sizeof parts[0]) + controller_names_mean();
     printf("names: %zu ways to work a bench by them, each as the documents have it\n", count);
 }

@@ -55,6 +55,14 @@ class Trials(Room):
             self.assertTrue(said[0].startswith(f"The digests differ from record {at} on"))
             self.assertEqual(said[4:-1], [f"record {i}" for i in range(max(0, at - 19), at + 1)])
 
+    def test_a_difference_of_the_second_digest_alone_is_found(self):
+        for program, at in (("target/bin/trials", 41), ("other", 1000000)):
+            self.script(program, PROGRAM.replace("AT", "1000000").replace(" ;;\nesac", f" $(($2 > {at})) ;;\nesac"))
+        self.assertEqual(self.run_it("3", "41"), (0, ["3 41 3041 0", "41 events, no difference"]))
+        status, said = self.run_it("3", "100")
+        self.assertEqual((status, said[1:3]), (1, ["  proved: 3 42 3042 1", "  second: 3 42 3042 0"]))
+        self.assertTrue(said[0].startswith("The digests differ from record 41 on"))
+
     def test_set_and_start_reach_both_programs(self):
         self.assertEqual(self.run_it("3", "200", "2", "5")[1][0], "3 200 5203200")
         self.assertEqual(self.run_it("3", "200", "2")[1][0], "3 200 203200")

@@ -1,10 +1,11 @@
 -- What is right where an edit of must-fail/ goes wrong: closed runs of a few events, each false under the edit that names it.
 use Prim.Native.Nat.{ℕ}
+use mathlib.Core.Bool.{false}
 use mathlib.Core.List.{List, [], _∷_}
 use mathlib.Core.Path.{_≡_, refl}
 use Rattle.base.specs.Pick.{pick}
 use Rattle.base.specs.Bits.{bit, digit, bits}
-use Rattle.base.specs.Answers.{valueOf}
+use Rattle.base.specs.Answers.{valueOf, isLetter}
 use Rattle.base.specs.Refusals.{firstOf, refusalBy}
 use Rattle.queue.specs.Queue.{room, entered, replaced, capacity, accepted, movedDown, taken, oldest, unmarked, anyMarked, marked}
 use Rattle.receiver.specs.Receiver.{noneQueued, received, got, shownMarks, someMarked, lsrSeen, cleared, afterModeChange, dataStands, timeoutStands}
@@ -18,7 +19,7 @@ use Rattle.registers.specs.declared.SeatEvent.the-variants.{Read, Write, Arriva
 use Rattle.channel.specs.Parts.{powerUp, withSettings}
 use Rattle.status.specs.Status.{lsrOf, lineTrouble, causes, firstCause, causeOf, iirOf}
 use Rattle.channel.specs.Status.{lsr, msr, cause, iir}
-use Rattle.channel.specs.Effects.{iirRead, lsrRead, byteAt, afterRead, ierWritten, modeChanged, fcrReceiver, fcrTransmitter, fcrWritten, afterWrite, afterArrival}
+use Rattle.channel.specs.Effects.{iirRead, lsrRead, answerAt, afterRead, ierWritten, modeChanged, fcrReceiver, fcrTransmitter, fcrWritten, afterWrite, afterArrival}
 use Rattle.registers.specs.Refusals.{grounds, refusal}
 use Rattle.channel.specs.Steps.{effect, stepped}
 
@@ -26,7 +27,7 @@ use Rattle.channel.specs.Steps.{effect, stepped}
 unfoldable told : Channel → List SeatEvent → List ℕ
 unfolding stepped effect valueOf registerAt plainRegister pick bit digit bits
     refusal grounds refusalBy firstOf
-    byteAt afterRead iirRead lsrRead lsrSeen got taken movedDown unmarked
+    answerAt afterRead iirRead lsrRead lsrSeen got taken movedDown unmarked
     iir iirOf cause causeOf causes firstCause lineTrouble someChange dataStands timeoutStands trigger
     lsr lsrOf msr msrOf noneQueued shownMarks someMarked oldest anyMarked marked noneWaiting allSent
     afterWrite ierWritten enabled flagSetIf fcrWritten fcrKept fcrReceiver fcrTransmitter modeChanged cleared afterModeChange emptied
@@ -52,3 +53,8 @@ flag-outlives-04 = refl
 mode-change-empties-the-transmit-queue : told powerUp (Write 0 0x41 ∷ Write 2 0x01 ∷ Read 5 ∷ []) ≡ 0x00 ∷ 0x00 ∷ 0x60 ∷ []
 unfolding told
 mode-change-empties-the-transmit-queue = refl
+
+-- ticket 6: "The RBR answer gains these figures": the divisor's low byte is no letter. Of `answers`
+dll-is-no-letter : isLetter (stepped (withSettings powerUp (record { ier = 0; fcr = 0; lcr = 0x83; mcr = 0; scratch = 0; dll = 12; dlm = 0 })) (Read 0) .answer) ≡ false
+unfolding told isLetter
+dll-is-no-letter = refl

@@ -4,7 +4,7 @@ use mathlib.Core.Bool.{Bool, not, _&&_, _||_}
 use lib.Dec.{eqb}
 use Rattle.base.specs.Bits.{bit}
 use Rattle.base.specs.declared.Answer.{Answer}
-use Rattle.base.specs.declared.Answer.the-variants.{Byte}
+use Rattle.base.specs.declared.Answer.the-variants.{Byte, Letter}
 use Rattle.receiver.specs.declared.Receiver.{Receiver}
 use Rattle.receiver.specs.Receiver.{received, got, lsrSeen, waited, fcrHeard}
 use Rattle.transmitter.specs.declared.Transmitter.{Transmitter}
@@ -33,18 +33,18 @@ lsrRead c = withReceiver c (lsrSeen (fifo c) (c .receiver))
 unfoldable pub msrRead : Channel → Channel
 msrRead c = withModem c (record { levels = c .modem .levels; changes = 0 })
 
--- "read register": "the byte"
-unfoldable pub byteAt : Channel → Register → ℕ
-byteAt c RbrThr = got (c .receiver) .byte
-byteAt c Ier = shownBy (c .settings) Ier
-byteAt c IirFcr = iir c
-byteAt c Lcr = shownBy (c .settings) Lcr
-byteAt c Mcr = shownBy (c .settings) Mcr
-byteAt c Lsr = lsr c
-byteAt c Msr = msr c
-byteAt c Scratch = shownBy (c .settings) Scratch
-byteAt c Dll = shownBy (c .settings) Dll
-byteAt c Dlm = shownBy (c .settings) Dlm
+-- "read register": "the byte". Ticket 6: "The RBR answer gains these figures", and no other register's
+unfoldable pub answerAt : Channel → Register → Answer
+answerAt c RbrThr = Letter (got (c .receiver) .byte) (got (c .receiver) .figures)
+answerAt c Ier = Byte (shownBy (c .settings) Ier)
+answerAt c IirFcr = Byte (iir c)
+answerAt c Lcr = Byte (shownBy (c .settings) Lcr)
+answerAt c Mcr = Byte (shownBy (c .settings) Mcr)
+answerAt c Lsr = Byte (lsr c)
+answerAt c Msr = Byte (msr c)
+answerAt c Scratch = Byte (shownBy (c .settings) Scratch)
+answerAt c Dll = Byte (shownBy (c .settings) Dll)
+answerAt c Dlm = Byte (shownBy (c .settings) Dlm)
 
 -- what a read leaves: four registers change something when they are read
 unfoldable pub afterRead : Channel → Register → Channel
@@ -59,13 +59,9 @@ afterRead c Scratch = c
 afterRead c Dll = c
 afterRead c Dlm = c
 
--- a channel as it is, with "the byte"
-abbrev pub told : Channel → ℕ → Stepped
-told c byte = record { channel = c; answer = Byte byte }
-
--- "read register": the byte answers, and then the channel is what the read leaves
+-- "read register": the answer is told, and then the channel is what the read leaves
 abbrev pub readOf : Channel → Register → Stepped
-readOf c r = told (afterRead c r) (byteAt c r)
+readOf c r = record { channel = afterRead c r; answer = answerAt c r }
 
 -- ---- writes
 

@@ -5,10 +5,10 @@ use mathlib.Core.List.{List, [], _∷_, _++_}
 use lib.Dec.{eqb}
 use Rattle.base.specs.Pick.{pick}
 use Rattle.base.specs.Bits.{bit}
-use Rattle.base.specs.Answers.{valueOf}
+use Rattle.base.specs.Answers.{valueOf, figuresOf}
 use Rattle.base.specs.declared.Answer.{Answer}
 use Rattle.receiver.specs.Receiver.{noneQueued}
-use Rattle.receiver.specs.Ledger.{Moment, arrives, rbr, lsr, passes, empties, changes, resets, Side}
+use Rattle.receiver.specs.Ledger.{Moment, arrives, rbr, lsr, passes, empties, changes, resets, Side, Handed}
 use Rattle.channel.specs.declared.Channel.{Channel}
 use Rattle.registers.specs.declared.SeatEvent.{SeatEvent}
 use Rattle.registers.specs.declared.SeatEvent.the-variants.{Read, Write, Arrival, Levels, Time}
@@ -65,16 +65,20 @@ acceptedMoments c Time = passes ∷ []
 unfoldable pub momentsOf : Channel → SeatEvent → List Moment
 momentsOf c e = pick (eqb (refusal (c .settings) e) 0) (acceptedMoments c e) []
 
+-- what an answer hands over: its byte, with, ticket 6: "its marks and how many remain behind it"
+unfoldable pub handedBy : Answer → Handed
+handedBy a = record { character = record { «data» = valueOf a; marks = figuresOf a .marks }; behind = figuresOf a .behind }
+
 -- the character that an answer tells: that of an RBR read, where one is queued
-unfoldable pub telling : Side → Answer → Moment → List ℕ
+unfoldable pub telling : Side → Answer → Moment → List Handed
 telling s a (arrives ch) = []
-telling s a rbr = pick (noneQueued (s .receiver)) [] (valueOf a ∷ [])
+telling s a rbr = pick (noneQueued (s .receiver)) [] (handedBy a ∷ [])
 telling s a lsr = []
 telling s a passes = []
 telling s a empties = []
 telling s a changes = []
 telling s a resets = []
 
-unfoldable pub toldIn : Side → Answer → List Moment → List ℕ
+unfoldable pub toldIn : Side → Answer → List Moment → List Handed
 toldIn s a [] = []
 toldIn s a (m ∷ ms) = telling s a m ++ toldIn s a ms

@@ -13,8 +13,12 @@ use Rattle.channel.specs.declared.Channel.{Channel}
 use Rattle.channel.specs.declared.Stepped.{Stepped}
 use Rattle.registers.specs.declared.SeatEvent.{SeatEvent}
 use Rattle.registers.specs.declared.SeatEvent.the-variants.{Read, Write, Arrival, Levels, Time}
-use Rattle.channel.specs.Effects.{timeAnswer}
+use Rattle.channel.specs.Effects.{answerAt, timeAnswer}
+use Rattle.registers.specs.declared.Register.{Register}
+use Rattle.registers.specs.declared.Register.the-variants.{RbrThr, Ier, IirFcr, Lcr, Mcr, Lsr, Msr, Scratch, Dll, Dlm}
+use Rattle.registers.specs.Registers.{registerAt}
 use Rattle.registers.specs.Refusals.{refusal}
+use Rattle.channel.specs.Parts.{divisorShown}
 use Rattle.channel.specs.Steps.{effect, stepped}
 
 -- what is done is answered with no refusal
@@ -25,9 +29,22 @@ time-taken c =
     ∙ ap (pick (bit 6 (c .settings .lcr)) 0) (pick-through refusalOf (c .transmitter .busy) _ _ ∙ pick-same (c .transmitter .busy) 0)
     ∙ pick-same (bit 6 (c .settings .lcr)) 0
 
+read-taken : (c : Channel) (r : Register) → refusalOf (answerAt c r) ≡ 0
+unfolding answerAt refusalOf
+read-taken c RbrThr = refl
+read-taken c Ier = refl
+read-taken c IirFcr = refl
+read-taken c Lcr = refl
+read-taken c Mcr = refl
+read-taken c Lsr = refl
+read-taken c Msr = refl
+read-taken c Scratch = refl
+read-taken c Dll = refl
+read-taken c Dlm = refl
+
 pub effect-taken : (c : Channel) (e : SeatEvent) → refusalOf (effect c e .answer) ≡ 0
 unfolding effect refusalOf
-effect-taken c (Read n) = refl
+effect-taken c (Read n) = read-taken c (registerAt (divisorShown c) n)
 effect-taken c (Write n byte) = refl
 effect-taken c (Arrival marks byte) = refl
 effect-taken c (Levels levels) = refl

@@ -28,7 +28,7 @@ impl Channel {
         }
     }
 
-    // The byte and the channel after it, in the same arm.
+    // The answer and the channel after it, in the same arm.
     pub(crate) fn read(mut self, number: u8) -> Stepped
         ensures { λ r. ⌜ r ≡ effect self (Read number) ⌝ }
     {
@@ -37,10 +37,11 @@ impl Channel {
             Register::RbrThr => {
                 let got = self.receiver.get();
                 let rest = got.receiver;
+                let figures = got.figures;
                 self.receiver = rest;
                 return Stepped {
                     channel: self,
-                    answer: Answer::Byte(got.byte),
+                    answer: Answer::Letter(got.byte, figures),
                 };
             }
             Register::IirFcr => return self.iir_read(),

@@ -15,7 +15,7 @@ use Rattle.registers.specs.declared.Register.the-variants.{RbrThr, Ier, IirFcr,
 use Rattle.registers.specs.declared.SeatEvent.the-variants.{Read, Write}
 use Rattle.channel.specs.Parts.{withSettings, divisorShown}
 use Rattle.registers.specs.Registers.{plainRegister, registerAt, fcrKept, withDll, withDlm}
-use Rattle.channel.specs.Effects.{ierWritten, fcrWritten, byteAt, afterRead, afterWrite}
+use Rattle.channel.specs.Effects.{ierWritten, fcrWritten, answerAt, afterRead, afterWrite}
 use Rattle.channel.specs.Steps.{effect, stepped}
 use Rattle.registers.specs.RefusalLaws.{accepts}
 use Rattle.channel_laws.specs.RefusalLaws.{done}
@@ -71,7 +71,7 @@ module _ (c : Channel) (n byte : ℕ) (r : Register) (served : accepts (c .setti
   write-at = done c (Write n byte) served ∙ ap (λ (q : Register). record { channel = afterWrite c q byte; answer = Done }) at
 
   back : registerAt (divisorShown (afterWrite c r byte)) n ≡ r
-      → stepped (stepped c (Write n byte) .channel) (Read n) .answer ≡ Byte (byteAt (afterWrite c r byte) r)
+      → stepped (stepped c (Write n byte) .channel) (Read n) .answer ≡ answerAt (afterWrite c r byte) r
   back still =
       ap (λ s. stepped (s .channel) (Read n) .answer) write-at
       ∙ ap (λ s. s .answer) (read-at (afterWrite c r byte) n r (both-hold (ltb n 8) _ served .0) still)
@@ -82,20 +82,20 @@ readBack c n byte = stepped (stepped c (Write n byte) .channel) (Read n) .answer
 module _ (c : Channel) (byte : ℕ) where
   -- in either state of LCR bit 7
   pub lcr-back : readBack c 3 byte ≡ Byte byte
-  unfolding registerAt plainRegister pick afterWrite byteAt
+  unfolding registerAt plainRegister pick afterWrite answerAt
   lcr-back = back c 3 byte Lcr refl (pick-same (divisorShown c) Lcr) (pick-same (bit 7 byte) Lcr)
 
   pub mcr-back : bit 4 byte ≡ false → readBack c 4 byte ≡ Byte (byte % 2 ^ 5)
-  unfolding registerAt plainRegister pick afterWrite byteAt
+  unfolding registerAt plainRegister pick afterWrite answerAt
   mcr-back unlooped = back c 4 byte Mcr (ap not unlooped) (pick-same (divisorShown c) Mcr) (pick-same (divisorShown c) Mcr)
 
   pub scratch-back : readBack c 7 byte ≡ Byte byte
-  unfolding registerAt plainRegister pick afterWrite byteAt
+  unfolding registerAt plainRegister pick afterWrite answerAt
   scratch-back = back c 7 byte Scratch refl (pick-same (divisorShown c) Scratch) (pick-same (divisorShown c) Scratch)
 
   -- with LCR bit 7 clear, register 1 is the IER
   pub ier-back : bit 7 (c .settings .lcr) ≡ false → readBack c 1 byte ≡ Byte (byte % 2 ^ 4)
-  unfolding registerAt plainRegister pick afterWrite ierWritten byteAt
+  unfolding registerAt plainRegister pick afterWrite ierWritten answerAt
   ier-back clear = let at = ap (λ (s : Bool). registerAt s 1) clear in back c 1 byte Ier refl at at
 
 -- a register of the settings: a write changes it alone, it reads back whole, and a read changes nothing
@@ -106,7 +106,7 @@ Reached c n byte after =
 -- "With LCR bit 7 set, 0 and 1 are DLL and DLM, for reads and writes.": neither RBR, THR nor IER is reached by them
 pub divisor-back : (c : Channel) (byte : ℕ) → bit 7 (c .settings .lcr) ≡ true
     → Reached c 0 byte (withDll (c .settings) byte) × Reached c 1 byte (withDlm (c .settings) byte)
-unfolding registerAt plainRegister pick afterRead afterWrite byteAt
+unfolding registerAt plainRegister pick afterRead afterWrite answerAt
 divisor-back c byte set =
     let dll = ap (λ (s : Bool). registerAt s 0) set in
     let dlm = ap (λ (s : Bool). registerAt s 1) set in (

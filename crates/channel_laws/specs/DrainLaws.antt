@@ -12,6 +12,8 @@ use Rattle.base.specs.Bits.{bit}
 use Rattle.base.specs.declared.Answer.{Answer}
 use Rattle.base.specs.declared.Answer.the-variants.{Done, Sent, Idle}
 use Rattle.queue.specs.declared.Character.{Character}
+use Rattle.queue.specs.Joining.{places, joined}
+use Rattle.queue.specs.JoiningLaws.{joined-fits}
 use Rattle.queue.specs.QueueLaws.{holding}
 use Rattle.transmitter.specs.declared.Transmitter.{Transmitter}
 use Rattle.transmitter.specs.Transmitter.{written, shifted}
@@ -27,7 +29,7 @@ use Rattle.registers.specs.RefusalLaws.{undivided}
 use Rattle.channel_laws.specs.WireLaws.{sent, idle}
 use Rattle.channel_laws.specs.SideLaws.{thr-writes, time-shifts}
 use Rattle.channel_laws.specs.SendingLaws.{passed}
-use Rattle.channel_laws.specs.QueuedLaws.{places, joined, joined-fits, thr-joins}
+use Rattle.channel_laws.specs.QueuedLaws.{thr-joins}
 use Rattle.channel_laws.specs.Shown.{after}
 use Rattle.channel_laws.specs.Sends.{answersTo}
 

@@ -9,9 +9,9 @@ use Rattle.base.specs.Pick.{pick}
 use Rattle.base.specs.PickLaws.{pick-true, pick-false, pick-through, pick-cases, either-way}
 use Rattle.base.specs.Bits.{bit}
 use Rattle.base.specs.BitLaws.{bit-bits}
-use Rattle.base.specs.Answers.{valueOf}
+use Rattle.base.specs.Answers.{valueOf, figuresOf}
 use Rattle.base.specs.declared.Answer.{Answer}
-use Rattle.base.specs.declared.Answer.the-variants.{Byte, Done}
+use Rattle.base.specs.declared.Answer.the-variants.{Done}
 use Rattle.receiver.specs.declared.Receiver.{Receiver}
 use Rattle.receiver.specs.Receiver.{afterModeChange, cleared}
 use Rattle.receiver.specs.Ledger.{Moment, empties, changes, resets, Side, after, afterAll, readIn}
@@ -23,10 +23,10 @@ use Rattle.registers.specs.declared.Register.{Register}
 use Rattle.registers.specs.declared.Register.the-variants.{RbrThr, Ier, IirFcr, Lcr, Mcr, Lsr, Msr, Scratch, Dll, Dlm}
 use Rattle.channel.specs.Parts.{masterReset, fifo, divisorShown}
 use Rattle.registers.specs.Registers.{registerAt, fcrKept}
-use Rattle.channel.specs.Effects.{lsrRead, iirRead, msrRead, byteAt, afterRead, ierWritten, modeChanged, fcrReceiver, fcrWritten, afterWrite, afterArrival, afterLevels, afterTime}
+use Rattle.channel.specs.Effects.{lsrRead, iirRead, msrRead, answerAt, afterRead, ierWritten, modeChanged, fcrReceiver, fcrWritten, afterWrite, afterArrival, afterLevels, afterTime}
 use Rattle.registers.specs.Refusals.{refusal}
 use Rattle.channel.specs.Steps.{effect, stepped}
-use Rattle.channel.specs.Moments.{side, readMoments, fcrMoments, writeMoments, acceptedMoments, momentsOf, telling, toldIn}
+use Rattle.channel.specs.Moments.{side, readMoments, fcrMoments, writeMoments, acceptedMoments, momentsOf, handedBy, telling, toldIn}
 
 -- ---- the mode after an FCR write
 
@@ -127,8 +127,8 @@ reset-side c = same-side _ _ _ _ no-mode refl
 
 -- ---- what an RBR read is answered with
 
-read-told : (c : Channel) (r : Register) → toldIn (side c) (Byte (byteAt c r)) (readMoments r) ≡ readIn (side c) (readMoments r)
-unfolding toldIn telling readIn readMoments byteAt valueOf
+read-told : (c : Channel) (r : Register) → toldIn (side c) (answerAt c r) (readMoments r) ≡ readIn (side c) (readMoments r)
+unfolding toldIn telling handedBy readIn readMoments answerAt valueOf figuresOf
 read-told c RbrThr = refl
 read-told c Ier = refl
 read-told c IirFcr = refl

@@ -1,24 +1,21 @@
 -- What waits in the two queues after an arrival and after a THR write, as a list; and what LSR shows of such a list.
-use Prim.Native.Nat.{ℕ, suc, _+_, _<_, _≤_}
+use Prim.Native.Nat.{ℕ, _+_, _<_, _≤_}
 use mathlib.Core.Bool.{Bool, true, false, not, _&&_, _||_}
-use mathlib.Core.List.{List, [], _∷_, _++_}
+use mathlib.Core.List.{List, [], _∷_}
 use mathlib.Core.Path.{_≡_, ap, sym, _∙_}
 use native.Mathlib.Omega.{arith}
-use native.Mathlib.Numerals.{add-one}
-use lib.Dec.{ltb, leb, eqb}
-use lib.ListN.{length, getD, length-append}
-use borrow.Author.Tests.{lt-ltb, le-ltb, ne-eqb}
-use Rattle.base.specs.Pick.{pick}
+use lib.Dec.{leb, eqb}
+use lib.ListN.{length, getD}
 use Rattle.base.specs.PickLaws.{pick-true, pick-false}
 use Rattle.base.specs.Bits.{bit}
 use Rattle.base.specs.BitLaws.{bit-or}
 use Rattle.queue.specs.declared.Character.{Character}
 use Rattle.queue.specs.declared.Queue.{Queue}
-use Rattle.queue.specs.declared.Put.{Put}
 use Rattle.queue.specs.Queue.{noCharacter, capacity, accepted, oldest, anyMarked, marked}
 use Rattle.queue.specs.QueueLaws.{holding, oldest-is, oldest-none, marked-is}
 use Rattle.queue.specs.CanonicalLaws.{Holds, holds}
-use Rattle.queue.specs.AcceptLaws.{capacity-small, accept-cases, accept-some}
+use Rattle.queue.specs.Joining.{places, joined}
+use Rattle.queue.specs.JoiningLaws.{takes, joined-some}
 use Rattle.receiver.specs.Receiver.{received}
 use Rattle.receiver.specs.CallLaws.{arrive-overrun}
 use Rattle.receiver.specs.EffectLaws as effects
@@ -37,54 +34,6 @@ use Rattle.channel_laws.specs.SoundLaws.{parts}
 use Rattle.channel_laws.specs.SideLaws.{arrival-received, thr-writes}
 use Rattle.channel_laws.specs.AgainLaws.{shows-lsr}
 use Rattle.channel_laws.specs.Shown.{shown, after}
-
--- "queues of 1"; "queues of 16"
-abbrev pub places : Bool → ℕ
-places mode = pick mode 16 1
-
--- a list with one more: behind the others where there is room; full, in FIFO mode the new one is lost, and in 16450 mode it is alone
-unfoldable pub joined : Bool → List Character → Character → List Character
-joined mode l ch = pick (ltb (length l) (places mode)) (l ++ (ch ∷ [])) (pick mode l (ch ∷ []))
-
-joined-room : (mode : Bool) (l : List Character) (ch : Character) → length l < places mode → joined mode l ch ≡ l ++ (ch ∷ [])
-unfolding joined
-joined-room mode l ch less = pick-true _ _ _ (lt-ltb _ _ less)
-
-joined-full : (mode : Bool) (l : List Character) (ch : Character) → places mode ≤ length l → joined mode l ch ≡ pick mode l (ch ∷ [])
-unfolding joined
-joined-full mode l ch more = pick-false _ _ _ (le-ltb _ _ more)
-
-module _ (mode : Bool) (l : List Character) (ch : Character) (within : length l ≤ places mode) where
-  -- a queue that takes one more holds that list
-  takes : accepted mode (holding l) ch .queue ≡ holding (joined mode l ch)
-  unfolding capacity
-  takes =
-      accept-cases mode l ch (λ (p : Put). p .queue ≡ holding (joined mode l ch)) within
-      (λ less. ap holding (sym (joined-room mode l ch less)))
-      (λ more on. ap holding (sym (joined-full mode l ch more ∙ pick-true _ _ _ on)))
-      (λ old more off one. ap holding (sym (joined-full mode l ch more ∙ pick-false _ _ _ off)))
-
-  -- which is never empty
-  pub joined-some : eqb (length (joined mode l ch)) 0 ≡ false
-  unfolding capacity
-  joined-some = ap (λ (q : Queue). eqb (q .count) 0) (sym takes) ∙ accept-some mode l ch within
-
-  -- nor longer than the queue
-  pub joined-fits : length (joined mode l ch) ≤ 16
-  unfolding capacity pick
-  joined-fits =
-      let most : places mode ≤ 16 = capacity-small mode in
-      accept-cases mode l ch (λ (p : Put). length (joined mode l ch) ≤ 16) within
-      (λ less.
-      let n : length (l ++ (ch ∷ [])) ≡ suc (length l) = length-append l (ch ∷ []) ∙ add-one (length l) in
-      let e : length (joined mode l ch) ≡ length (l ++ (ch ∷ [])) = ap length (joined-room mode l ch less) in
-      omega arith)
-      (λ more on.
-      let e : length (joined mode l ch) ≡ length l = ap length (joined-full mode l ch more ∙ pick-true _ _ _ on) in
-      omega arith)
-      (λ old more off one.
-      let e : length (joined mode l ch) ≡ 1 = ap length (joined-full mode l ch more ∙ pick-false _ _ _ off) in
-      omega arith)
 
 -- both queues of a sound channel hold such lists
 pub sound-queues : (c : Channel) → soundChannel c ≡ true → Holds (places (fifo c)) (c .receiver .queue) × Holds (places (fifo c)) (c .transmitter .queue)

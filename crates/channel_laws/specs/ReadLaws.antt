@@ -24,7 +24,7 @@ use Rattle.registers.specs.declared.SeatEvent.the-variants.{Read}
 use Rattle.channel.specs.Parts.{divisorShown, fifo}
 use Rattle.registers.specs.Registers.{plainRegister, registerAt}
 use Rattle.channel.specs.Status.{lsr, msr, iir}
-use Rattle.channel.specs.Effects.{iirRead, lsrRead, msrRead, byteAt, afterRead}
+use Rattle.channel.specs.Effects.{iirRead, lsrRead, msrRead, answerAt, afterRead}
 use Rattle.channel.specs.Steps.{effect, stepped}
 use Rattle.channel.specs.StatusLaws.{lsr-data, lsr-overrun, lsr-kept, lsr-oldest, lsr-empty, lsr-idle, lsr-marked, msr-changes, msr-levels}
 use Rattle.channel_laws.specs.RefusalLaws.{done}
@@ -32,22 +32,22 @@ use Rattle.channel_laws.specs.RefusalLaws.{done}
 module _ (c : Channel) where
   -- a register below 8 is read as LCR bit 7 has it
   pub read-at : (n : ℕ) (r : Register) → ltb n 8 ≡ true → registerAt (divisorShown c) n ≡ r
-      → stepped c (Read n) ≡ record { channel = afterRead c r; answer = Byte (byteAt c r) }
+      → stepped c (Read n) ≡ record { channel = afterRead c r; answer = answerAt c r }
   unfolding effect
   read-at n r small at =
-      done c (Read n) small ∙ ap (λ (q : Register). record { channel = afterRead c q; answer = Byte (byteAt c q) }) at
+      done c (Read n) small ∙ ap (λ (q : Register). record { channel = afterRead c q; answer = answerAt c q }) at
 
   -- registers 2, 5 and 6 are IIR, LSR and MSR in either state of LCR bit 7
   pub read-iir : stepped c (Read 2) ≡ record { channel = iirRead c; answer = Byte (iir c) }
-  unfolding registerAt plainRegister pick afterRead byteAt
+  unfolding registerAt plainRegister pick afterRead answerAt
   read-iir = read-at 2 IirFcr refl (pick-same (divisorShown c) IirFcr)
 
   pub read-lsr : stepped c (Read 5) ≡ record { channel = lsrRead c; answer = Byte (lsr c) }
-  unfolding registerAt plainRegister pick afterRead byteAt
+  unfolding registerAt plainRegister pick afterRead answerAt
   read-lsr = read-at 5 Lsr refl (pick-same (divisorShown c) Lsr)
 
   pub read-msr : stepped c (Read 6) ≡ record { channel = msrRead c; answer = Byte (msr c) }
-  unfolding registerAt plainRegister pick afterRead byteAt
+  unfolding registerAt plainRegister pick afterRead answerAt
   read-msr = read-at 6 Msr refl (pick-same (divisorShown c) Msr)
 
 -- ---- LSR

@@ -20,7 +20,7 @@ use Rattle.channel.specs.Parts.{powerUp, masterReset}
 use Rattle.status.specs.Status.{lsrOf, causes, firstCause, causeOf, iirOf, lineOf}
 use Rattle.channel.specs.Status.{lsr, msr, iir, line}
 use Rattle.channel.specs.StatusLaws.{msr-changes, msr-levels}
-use Rattle.channel.specs.Effects.{byteAt, afterWrite}
+use Rattle.channel.specs.Effects.{answerAt, afterWrite}
 use Rattle.registers.specs.Refusals.{grounds, refusal}
 use Rattle.channel.specs.Steps.{effect, stepped}
 use Rattle.channel_laws.specs.Shown.{shown, after}
@@ -91,7 +91,7 @@ module _ (c : Channel) where
 -- queues, IIR that there is no cause
 pub power-up-reads : listed 8 (shown powerUp) ≡ 0x00 ∷ 0x00 ∷ 0x01 ∷ 0x00 ∷ 0x00 ∷ 0x60 ∷ 0x00 ∷ 0x00 ∷ []
 unfolding stepped effect refusal grounds refusalBy firstOf
-    registerAt plainRegister pick bit digit bits valueOf byteAt afterWrite got iir iirOf causeOf causes firstCause lsr lsrOf msr msrOf
+    registerAt plainRegister pick bit digit bits valueOf answerAt afterWrite got iir iirOf causeOf causes firstCause lsr lsrOf msr msrOf
     noneQueued shownMarks someMarked noneWaiting allSent
 power-up-reads = refl
 
@@ -108,7 +108,7 @@ divisorReads c = listed 2 (shown (after c (Write 3 0x80)))
 
 pub power-up-divisor : divisorReads powerUp ≡ 0x00 ∷ 0x00 ∷ []
 unfolding stepped effect refusal grounds refusalBy firstOf
-    registerAt plainRegister pick bit digit bits valueOf byteAt afterWrite got iir iirOf causeOf causes firstCause lsr lsrOf msr msrOf
+    registerAt plainRegister pick bit digit bits valueOf answerAt afterWrite got iir iirOf causeOf causes firstCause lsr lsrOf msr msrOf
     noneQueued shownMarks someMarked noneWaiting allSent
 power-up-divisor = refl
 
@@ -117,6 +117,6 @@ pub reset-reads : (c : Channel)
     → (listed 6 (shown (masterReset c)) ≡ c .receiver .last ∷ 0x00 ∷ 0x01 ∷ 0x00 ∷ 0x00 ∷ 0x60 ∷ [])
     × (shown (masterReset c) 7 ≡ c .settings .scratch) × (divisorReads (masterReset c) ≡ c .settings .dll ∷ c .settings .dlm ∷ [])
 unfolding masterReset restarted stepped effect refusal grounds refusalBy firstOf
-    registerAt plainRegister pick bit digit bits valueOf byteAt afterWrite got iir iirOf causeOf causes firstCause lsr lsrOf msr msrOf
+    registerAt plainRegister pick bit digit bits valueOf answerAt afterWrite got iir iirOf causeOf causes firstCause lsr lsrOf msr msrOf
     noneQueued shownMarks someMarked noneWaiting allSent
 reset-reads c = (refl, refl, refl)

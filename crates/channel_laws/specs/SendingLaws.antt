@@ -11,7 +11,7 @@ use Rattle.base.specs.Pick.{pick}
 use Rattle.base.specs.PickLaws.{pick-true, pick-false, either-way}
 use Rattle.base.specs.Bits.{bit, digit, bits}
 use Rattle.base.specs.declared.Answer.{Answer}
-use Rattle.base.specs.declared.Answer.the-variants.{Byte, Done, Sent, Idle, Break, Vector, Spurious, Place, Divisor, Refused}
+use Rattle.base.specs.declared.Answer.the-variants.{Byte, Letter, Done, Sent, Idle, Break, Vector, Spurious, Place, Divisor, Refused}
 use Rattle.queue.specs.Queue.{capacity}
 use Rattle.registers.specs.Words.{cut}
 use Rattle.registers.specs.Registers.{fcrKept}
@@ -80,6 +80,7 @@ after-times (suc k) c going =
 -- what a send side lets go, as the wire has it
 abbrev onWire : ℕ → Answer → Answer
 onWire lcr (Byte byte) = Byte byte
+onWire lcr (Letter byte f) = Letter byte f
 onWire lcr Done = Done
 onWire lcr (Sent byte) = Sent (cut lcr byte)
 onWire lcr Idle = Idle

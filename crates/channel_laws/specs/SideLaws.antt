@@ -4,7 +4,7 @@ use Prim.Native.Nat.{ℕ}
 use mathlib.Core.Bool.{Bool, true, false, not}
 use mathlib.Core.Path.{_≡_, refl, ap}
 use Rattle.base.specs.Pick.{pick}
-use Rattle.base.specs.declared.Answer.the-variants.{Byte, Done}
+use Rattle.base.specs.declared.Answer.the-variants.{Letter, Done}
 use Rattle.receiver.specs.Receiver.{received, got, waited}
 use Rattle.transmitter.specs.Transmitter.{written, shifted}
 use Rattle.registers.specs.declared.Register.the-variants.{RbrThr}
@@ -12,7 +12,7 @@ use Rattle.registers.specs.Registers.{plainRegister, registerAt}
 use Rattle.channel.specs.declared.Channel.{Channel}
 use Rattle.registers.specs.declared.SeatEvent.the-variants.{Read, Write, Arrival, Time}
 use Rattle.channel.specs.Parts.{withReceiver, withTransmitter, divisorShown, fifo}
-use Rattle.channel.specs.Effects.{byteAt, afterRead, afterWrite, afterArrival, afterTime}
+use Rattle.channel.specs.Effects.{answerAt, afterRead, afterWrite, afterArrival, afterTime}
 use Rattle.channel.specs.Steps.{effect, stepped}
 use Rattle.registers.specs.RefusalLaws.{undivided, accepts}
 use Rattle.channel_laws.specs.RefusalLaws.{done}
@@ -47,7 +47,8 @@ module _ (c : Channel) where
     unfolding afterWrite
     thr-writes byte = write-at c 0 byte RbrThr refl register-0
 
-    -- "RBR read takes the oldest character and sets the time-out count to 0."
-    pub rbr-gets : stepped c (Read 0) ≡ record { channel = withReceiver c (got (c .receiver) .receiver); answer = Byte (got (c .receiver) .byte) }
-    unfolding afterRead byteAt
+    -- "RBR read takes the oldest character and sets the time-out count to 0." Ticket 6: "The RBR answer gains these figures"
+    pub rbr-gets : stepped c (Read 0)
+        ≡ record { channel = withReceiver c (got (c .receiver) .receiver); answer = Letter (got (c .receiver) .byte) (got (c .receiver) .figures) }
+    unfolding afterRead answerAt
     rbr-gets = read-at c 0 RbrThr refl register-0

@@ -13,6 +13,7 @@ pub mod Demand3
 pub mod Demand3Restores
 pub mod Closed3
 pub mod SeatLedger
+pub mod SeatLetters
 pub mod TimeOut
 pub mod Once
 pub mod OnceCalls

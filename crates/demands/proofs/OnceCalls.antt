@@ -247,6 +247,7 @@ streams-once M =
       streams·add = value _ refl (λ κ a v w. refl);
       streams·outcome-mark = value _ refl (λ κ a v w. refl);
       streams·place-mark = value _ refl (λ κ a v w. refl);
+      streams·letter-mark = value _ refl (λ κ a v w. refl);
       streams·script-rows = unasked _;
       streams·Stream·next = unasked _;
     }

@@ -1,5 +1,6 @@
 -- What a run from power-up goes through, named once: to unfold `laid-open` is to unfold all of it.
 use Prim.Native.Nat.{ℕ}
+use Rattle.base.specs.Answers as answers
 use Rattle.queue.specs.Queue as queue
 use Rattle.receiver.specs.Receiver as receiver
 use Rattle.transmitter.specs.Transmitter as sender
@@ -21,6 +22,8 @@ use Rattle.bench.specs.Steps as bench
 use Rattle.bench.specs.Runs as runs
 use Rattle.channel.specs.Moments as moments
 use Rattle.receiver.specs.Ledger as ledger
+use Rattle.receiver.specs.Letters as letters
+use Rattle.queue.specs.Joining as joining
 use Rattle.turn.proofs.Opened as turn
 
 unfoldable pub of-queue : ℕ
@@ -48,7 +51,7 @@ unfolding status.lsrOf status.lineTrouble status.causes status.firstCause status
 of-status = 0
 
 unfoldable pub of-effects : ℕ
-unfolding effects.iirRead effects.lsrRead effects.msrRead effects.byteAt effects.afterRead effects.ierWritten effects.modeChanged effects.fcrReceiver
+unfolding effects.iirRead effects.lsrRead effects.msrRead effects.answerAt effects.afterRead effects.ierWritten effects.modeChanged effects.fcrReceiver
     effects.fcrTransmitter effects.fcrWritten effects.afterWrite effects.afterArrival effects.afterLevels effects.afterTime effects.timeAnswer
 of-effects = 0
 
@@ -62,17 +65,21 @@ unfolding sets.withLine events.early events.eventOf events.decoded events.refuse
 of-bench = 0
 
 unfoldable pub of-moments : ℕ
-unfolding runs.own moments.readMoments moments.fcrMoments moments.writeMoments moments.acceptedMoments moments.momentsOf moments.telling moments.toldIn
+unfolding runs.own moments.readMoments moments.fcrMoments moments.writeMoments moments.acceptedMoments moments.momentsOf moments.handedBy moments.telling moments.toldIn
 of-moments = 0
 
 unfoldable pub of-ledger : ℕ
 unfolding ledger.after ledger.arrivedIn ledger.lostIn ledger.droppedIn
 of-ledger = 0
 
+unfoldable pub of-letters : ℕ
+unfolding joining.joined letters.seenByLsr letters.waitingAfter letters.waitingIn letters.oldestLeaves letters.leavingIn answers.figuresOf answers.isLetter
+of-letters = 0
+
 unfoldable pub of-seat : ℕ
 unfolding of-queue of-receiver of-transmitter of-registers of-status of-effects of-steps
 of-seat = 0
 
 unfoldable pub laid-open : ℕ
-unfolding of-seat of-moments of-ledger of-bench turn.laid-open
+unfolding of-seat of-moments of-ledger of-letters of-bench turn.laid-open
 laid-open = 0

@@ -10,9 +10,12 @@ use lib.ListN.{length, getD-replicate}
 use borrow.Author.Tests.{eqb-true}
 use Rattle.base.specs.PickLaws.{pick-true, pick-false, either-way}
 use Rattle.base.specs.declared.Answer.{Answer}
-use Rattle.receiver.specs.Ledger.{Moment, resets, Side, after, Subsequence, losing, dropping, arrivedIn, readIn, lostIn, droppedIn, queued}
+use Rattle.base.specs.Subsequences.{Subsequence}
+use Rattle.queue.specs.declared.Character.{Character}
+use Rattle.receiver.specs.Ledger.{Moment, resets, Side, after, Handed, characters, bytes, losing, dropping, arrivedIn, readIn, lostIn, droppedIn, queued}
 use Rattle.receiver.specs.Ledger as side-run
-use Rattle.receiver.specs.LedgerLaws.{ledger, after-both, arrived-both, read-both}
+use Rattle.receiver.specs.LedgerLaws.{ledger}
+use Rattle.receiver.specs.SideLaws.{after-both, arrived-both, read-both}
 use Rattle.registers.specs.declared.SeatEvent.{SeatEvent}
 use Rattle.channel.specs.Moments.{telling, toldIn}
 use Rattle.seat.specs.declared.Seat.{Seat}
@@ -36,7 +39,7 @@ use Rattle.bench.specs.FrameLaws.{seat-acts, seat-by-chair, chair-small}
 use Rattle.bench.specs.DoneLaws.{seat-answer}
 use Rattle.bench.specs.RunLaws.{all-kept}
 use Rattle.demands.specs.Demand2.{ends}
-use Rattle.demands.specs.SeatLedger.{befalls, arrivedAt, readAt, lostAt, droppedAt, queuedAt, SoundAt, SeatLedger, SeatLedgerFromPowerUp}
+use Rattle.demands.specs.SeatLedger.{befalls, befallsIn, arrivedAt, readAt, lostAt, droppedAt, queuedAt, SoundAt, SeatLedger, SeatLedgerFromPowerUp}
 use Rattle.demands.proofs.Demand2.{outcome-meets, demand-2}
 
 -- ---- counts over a run in two parts
@@ -111,9 +114,8 @@ record-told b n r =
 
 -- ---- a run of records
 
-moments : ℕ → Bench → List Record → List Moment
-moments n b [] = []
-moments n b (r ∷ rs) = befalls n b r ++ moments n (outcome b r .bench) rs
+abbrev moments : ℕ → Bench → List Record → List Moment
+moments = befallsIn outcome
 
 -- what of a run of moments is told in two parts, told record by record
 module _ {A : Type 0} (join : A → A → A) (told : Side → List Moment → A)
@@ -121,7 +123,6 @@ module _ {A : Type 0} (join : A → A → A) (told : Side → List Moment → A)
     (n : ℕ) (at : Bench → List Record → A) (none : (b : Bench) → told (side (seat b n)) [] ≡ at b [])
     (more : (b : Bench) (r : Record) (rs : List Record) → join (told (side (seat b n)) (befalls n b r)) (at (outcome b r .bench) rs) ≡ at b (r ∷ rs)) where
   by-record : (b : Bench) → length (b .seats) ≡ seatCount → (rs : List Record) → told (side (seat b n)) (moments n b rs) ≡ at b rs
-  unfolding moments
   by-record b all [] = none b
   by-record b all (r ∷ rs) =
       both (side (seat b n)) (befalls n b r) (moments n (outcome b r .bench) rs)
@@ -134,15 +135,15 @@ module _ (n : ℕ) (b : Bench) (all : length (b .seats) ≡ seatCount) (rs : Lis
   unfolding arrivedIn
   all-arrived = by-record _++_ (λ s ms. arrivedIn ms) (λ s ms ns. arrived-both ms ns) n (arrivedAt outcome n) (λ c. refl) (λ c r ss. refl) b all rs
 
-  all-after : side-run.afterAll (side (seat b n)) (moments n b rs) ≡ side (seat (ends outcome b rs) n)
+  pub all-after : side-run.afterAll (side (seat b n)) (moments n b rs) ≡ side (seat (ends outcome b rs) n)
   unfolding side-run.afterAll
   all-after = by-record (λ s t. t) side-run.afterAll after-both n (λ c ss. side (seat (ends outcome c ss) n)) (λ c. refl) (λ c r ss. refl) b all rs
 
-  all-read : readIn (side (seat b n)) (moments n b rs) ≡ readAt outcome n b rs
+  pub all-read : readIn (side (seat b n)) (moments n b rs) ≡ readAt outcome n b rs
   unfolding readIn
   all-read =
       by-record _++_ readIn read-both n (readAt outcome n) (λ c. refl)
-      (λ c r ss. ap (λ (l : List ℕ). l ++ readAt outcome n (outcome c r .bench) ss) (sym (record-told c n r))) b all rs
+      (λ c r ss. ap (λ (l : List Handed). l ++ readAt outcome n (outcome c r .bench) ss) (sym (record-told c n r))) b all rs
 
   all-lost : lostIn (side (seat b n)) (moments n b rs) ≡ lostAt outcome n b rs
   unfolding lostIn
@@ -162,15 +163,16 @@ seat-ledger n b rs all sound =
     let end = all-after n b all rs in
     record {
       in-order =
-          subst (λ (x : List ℕ). Subsequence (readAt outcome n b rs ++ queuedAt n (ends outcome b rs)) (queuedAt n b ++ x)) come
-          (subst (λ (x : List ℕ). Subsequence (x ++ queuedAt n (ends outcome b rs)) (queuedAt n b ++ arrivedIn (moments n b rs))) reads
-          (subst (λ (s : Side). Subsequence (readIn (side (seat b n)) (moments n b rs) ++ queued s) (queuedAt n b ++ arrivedIn (moments n b rs))) end
-          (l .in-order)));
+          subst (λ (x : List Character). Subsequence (bytes (characters (readAt outcome n b rs)) ++ queuedAt n (ends outcome b rs)) (queuedAt n b ++ bytes x)) come
+          (subst (λ (x : List Handed). Subsequence (bytes (characters x) ++ queuedAt n (ends outcome b rs)) (queuedAt n b ++ bytes (arrivedIn (moments n b rs)))) reads
+          (subst
+          (λ (s : Side). Subsequence (bytes (characters (readIn (side (seat b n)) (moments n b rs))) ++ queued s) (queuedAt n b ++ bytes (arrivedIn (moments n b rs))))
+          end (l .in-order)));
       balanced = omega (arith, l .balanced, ap length come, ap length reads, lost, drops, ap (λ (s : Side). length (queued s)) end);
     }
 
 -- the bench at power-up has at every number the seat of power-up, whose queue is empty
-seat-at-power-up : (n : ℕ) → seat powerUp n ≡ one.powerUp
+pub seat-at-power-up : (n : ℕ) → seat powerUp n ≡ one.powerUp
 unfolding seat
 seat-at-power-up n = getD-replicate seatCount (chair n) one.powerUp noSeat (chair-small n)
 
@@ -181,7 +183,7 @@ pub sound-at : (n : ℕ) → SoundAt n powerUp
 sound-at n = subst (λ (s : Seat). receivesSoundly s ≡ true) (sym (seat-at-power-up n)) power-up-receives
 
 -- the definition's run leaves the bench of its own run
-runs-out : (rs : List Record) → ends outcome powerUp rs ≡ afterAll powerUp rs
+pub runs-out : (rs : List Record) → ends outcome powerUp rs ≡ afterAll powerUp rs
 runs-out rs = demand-2 outcome outcome-meets powerUp rs .1
 
 pub seat-ledger-from-power-up : SeatLedgerFromPowerUp
@@ -190,8 +192,9 @@ seat-ledger-from-power-up n rs =
     let end = ap (λ (b : Bench). queuedAt n b) (runs-out rs) in
     record {
       in-order =
-          subst (λ (x : List ℕ). Subsequence (readAt outcome n powerUp rs ++ x) (arrivedAt outcome n powerUp rs)) end
-          (subst (λ (x : List ℕ). Subsequence (readAt outcome n powerUp rs ++ queuedAt n (ends outcome powerUp rs)) (x ++ arrivedAt outcome n powerUp rs))
+          subst (λ (x : List ℕ). Subsequence (bytes (characters (readAt outcome n powerUp rs)) ++ x) (bytes (arrivedAt outcome n powerUp rs))) end
+          (subst
+          (λ (x : List ℕ). Subsequence (bytes (characters (readAt outcome n powerUp rs)) ++ queuedAt n (ends outcome powerUp rs)) (x ++ bytes (arrivedAt outcome n powerUp rs)))
           (none-queued-at n) (l .in-order));
       balanced = omega (arith, l .balanced, ap length (none-queued-at n), ap length end);
     }

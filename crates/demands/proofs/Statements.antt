@@ -7,6 +7,7 @@ use Rattle.demands.proofs.Demand2Items.{demand-2-items}
 use Rattle.demands.proofs.Demand3.{demand-3-bench, demand-3-from-power-up}
 use Rattle.demands.proofs.Demand3Restores.{starts-anew, demand-3-from-items}
 use Rattle.demands.proofs.SeatLedger.{seat-ledger, seat-ledger-from-power-up}
+use Rattle.demands.proofs.SeatLetters.{seat-letters, seat-letters-from-power-up, only-rbr, in-16450-mode, in-fifo-mode}
 use Rattle.demands.proofs.TimeOut.{time-out-lasts, at-arrival, untouched-stays, time-out-ends}
 use Rattle.demands.proofs.SheetMeant.{sheet-meant}
 use Rattle.demands.proofs.WrongPrograms.{shut-out, let-in}
@@ -31,6 +32,11 @@ statements =
       demand-3-from-items = demand-3-from-items;
       seat-ledger = seat-ledger;
       seat-ledger-from-power-up = seat-ledger-from-power-up;
+      seat-letters = seat-letters;
+      seat-letters-from-power-up = seat-letters-from-power-up;
+      only-rbr = only-rbr;
+      in-16450-mode = in-16450-mode;
+      in-fifo-mode = in-fifo-mode;
       time-out-lasts = time-out-lasts;
       at-arrival = at-arrival;
       untouched-stays = untouched-stays;

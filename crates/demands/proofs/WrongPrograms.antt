@@ -14,8 +14,9 @@ use Rattle.rank.specs.Sets.{line}
 use Rattle.controller.specs.LineLaws.{place-told}
 use Rattle.turn.specs.Waiting.{Start}
 use Rattle.turn.specs.Demand3.{Among, InTurn}
-use Rattle.receiver.specs.Ledger.{Subsequence, skips, keeps}
-use Rattle.receiver.specs.Ledger as ledger
+use Rattle.base.specs.Subsequences.{Subsequence, skips, keeps}
+use Rattle.base.specs.Subsequences as subsequence
+use Rattle.receiver.specs.Ledger.{Handed}
 use Rattle.records.specs.Events.{Record, whole, decoded, seatCount}
 use Rattle.bench.specs.declared.Bench.{Bench}
 use Rattle.bench.specs.declared.Outcome.{Outcome}
@@ -26,12 +27,14 @@ use Rattle.bench.specs.RunLaws.{after-parts}
 use Rattle.demands.specs.Demand2.{Step, Meets, ends}
 use Rattle.demands.specs.Demand3.{heard, told, KeptWaiting}
 use Rattle.demands.specs.SeatLedger.{arrivedAt, readAt, goneAt, queuedAt, Keeps}
-use Rattle.demands.specs.WrongPrograms.{refusing, fixed, ignoring, inventing, Program, played, MeetsFrom, pretending, toldBy, TakesTurns, Placing, MeetsPlace, Counts, dreaming, ShutOut, LetIn}
+use Rattle.demands.specs.SeatLetters.{HandsOver, withParity, readRbr}
+use Rattle.demands.specs.WrongPrograms.{refusing, fixed, ignoring, inventing, retelling, Program, played, MeetsFrom, pretending, toldBy, TakesTurns, Placing, MeetsPlace, Counts, dreaming, ShutOut, LetIn}
 use Rattle.demands.proofs.Opened.{laid-open}
 use Rattle.demands.proofs.Contracts.{step-says}
 use Rattle.demands.proofs.Demand2.{met, demand-2}
 use Rattle.demands.proofs.Demand3.{demand-3-from-power-up}
 use Rattle.demands.proofs.SeatLedger.{seat-ledger, sound-at}
+use Rattle.demands.proofs.SeatLetters.{seat-letters}
 use Rattle.demands.proofs.Closed3.{calls, all-call, asks, set-automatic, eight, automatic-closed}
 
 -- the scratch register of seat 0 is written, and read
@@ -97,7 +100,7 @@ In n [] = ⊥
 In n (m ∷ l) = (n ≡ m) ⊎ In n l
 
 kept-in : (n : ℕ) (l m : List ℕ) → Subsequence l m → In n l → In n m
-kept-in n l m ledger.ends i = i
+kept-in n l m subsequence.ends i = i
 kept-in n l m (skips s) i = inr (kept-in n _ _ s i)
 kept-in n l m (keeps s) (inl e) = inl e
 kept-in n l m (keeps s) (inr i) = inr (kept-in n _ _ s i)
@@ -120,6 +123,23 @@ reads-42 a k =
 
 breaks-the-order : (a : Answer) → Keeps (fixed a outcome) → ⊥
 breaks-the-order a k = one-is-not 0 (omega (arith, reads-41 a k, reads-42 a k))
+
+-- a marked character arrives at seat 0 and is read
+lettered : List Record
+lettered = withParity ++ (whole 2 0 1 0x41 ∷ readRbr ∷ [])
+
+-- of those that were read the first
+first : List Handed → Handed
+first [] = record { character = record { «data» = 0; marks = 0 }; behind = 0 }
+first (h ∷ l) = h
+
+hides-marks : HandsOver (retelling (λ f. record { marks = 0; behind = f .behind })) → ⊥
+unfolding laid-open lettered first
+hides-marks k = one-is-not 0 (sym (ap (λ (l : List Handed). first l .character .marks) (k 0 powerUp lettered refl (sound-at 0) .given-as)))
+
+miscounts-behind : HandsOver (retelling (λ f. record { marks = f .marks; behind = suc (f .behind) })) → ⊥
+unfolding laid-open lettered first
+miscounts-behind k = one-is-not 0 (ap (λ (l : List Handed). first l .behind) (k 0 powerUp lettered refl (sound-at 0) .given-as))
 
 -- ---- programs with a memory
 
@@ -183,6 +203,8 @@ shut-out =
       invents-a-count = invents-a-count;
       breaks-the-ledger = breaks-the-ledger;
       breaks-the-order = breaks-the-order;
+      hides-marks = hides-marks;
+      miscounts-behind = miscounts-behind;
       pretends = pretends;
       pretends-out-of-turn = pretends-out-of-turn;
       invents-a-place = invents-a-place;
@@ -210,9 +232,19 @@ takes-turns p m before n rs st k =
 keeps-the-ledger : (f : Step) → Meets f → Keeps f
 keeps-the-ledger f m = subst Keeps (fun-ext (λ b. fun-ext (λ r. sym (met f m b r)))) seat-ledger
 
+hands-over : (f : Step) → Meets f → HandsOver f
+hands-over f m = subst HandsOver (fun-ext (λ b. fun-ext (λ r. sym (met f m b r)))) seat-letters
+
 counts-places : (p : Placing) → MeetsPlace p → Counts p
 unfolding valueOf
 counts-places p m b n small = ap valueOf (m b n ∙ place-told (b .controller) n small)
 
 pub let-in : LetIn
-let-in = record { meets-from = meets-from; takes-turns = takes-turns; keeps-the-ledger = keeps-the-ledger; counts-places = counts-places }
+let-in =
+    record {
+      meets-from = meets-from;
+      takes-turns = takes-turns;
+      keeps-the-ledger = keeps-the-ledger;
+      hands-over = hands-over;
+      counts-places = counts-places;
+    }

@@ -11,6 +11,7 @@ pub mod Demand2Items
 pub mod Demand3
 pub mod Demand3Restores
 pub mod SeatLedger
+pub mod SeatLetters
 pub mod TimeOut
 pub mod SheetMeant
 pub mod Once

@@ -235,6 +235,7 @@ pub record StreamsOnce (M : Type 1) : Type 2 where
   pub streams·add : Once M streams.add.ended streams.add.clauses streams.add.spec
   pub streams·outcome-mark : Once M streams.outcome_mark.ended streams.outcome_mark.clauses streams.outcome_mark.spec
   pub streams·place-mark : Once M streams.place_mark.ended streams.place_mark.clauses streams.place_mark.spec
+  pub streams·letter-mark : Once M streams.letter_mark.ended streams.letter_mark.clauses streams.letter_mark.spec
   -- the trials' generator and its table have no such contract, and no `requires` either
   pub streams·script-rows : Free M streams.script_rows.ended streams.script_rows.clauses streams.script_rows.spec
   pub streams·Stream·next : Free M streams.Stream.next.ended streams.Stream.next.clauses streams.Stream.next.spec

@@ -4,7 +4,9 @@ use mathlib.Core.Bool.{true}
 use mathlib.Core.List.{List, [], _∷_, _++_}
 use mathlib.Core.Path.{_≡_}
 use lib.ListN.{length}
-use Rattle.receiver.specs.Ledger.{Moment, Subsequence, arrivedIn, lostIn, droppedIn, queued}
+use Rattle.base.specs.Subsequences.{Subsequence}
+use Rattle.queue.specs.declared.Character.{Character}
+use Rattle.receiver.specs.Ledger.{Moment, Handed, characters, bytes, arrivedIn, lostIn, droppedIn, queued}
 use Rattle.channel.specs.Moments.{toldIn}
 use Rattle.seat.specs.Receiving.{side, befalling, receivesSoundly}
 use Rattle.records.specs.Events.{Record, decoded, seatCount}
@@ -20,13 +22,18 @@ befalls n b r = befalling (seat b n) (own (chair n) (decoded r))
 
 -- ---- over a run of a program's step, each record on the bench that the one before left
 
--- the characters whose arrival at seat n is accepted, first to last
-abbrev pub arrivedAt : Step → ℕ → Bench → List Record → List ℕ
+-- all that befalls the receive side of seat n
+abbrev pub befallsIn : Step → ℕ → Bench → List Record → List Moment
+befallsIn f n b [] = []
+befallsIn f n b (r ∷ rs) = befalls n b r ++ befallsIn f n (f b r .bench) rs
+
+-- the characters whose arrival at seat n is accepted, first to last, with their marks
+abbrev pub arrivedAt : Step → ℕ → Bench → List Record → List Character
 arrivedAt f n b [] = []
 arrivedAt f n b (r ∷ rs) = arrivedIn (befalls n b r) ++ arrivedAt f n (f b r .bench) rs
 
--- the characters read from seat n, as the answers tell them
-abbrev pub readAt : Step → ℕ → Bench → List Record → List ℕ
+-- the characters read from seat n, as the answers tell them: with their marks, and how many remain behind each
+abbrev pub readAt : Step → ℕ → Bench → List Record → List Handed
 readAt f n b [] = []
 readAt f n b (r ∷ rs) = toldIn (side (seat b n)) (f b r .answer) (befalls n b r) ++ readAt f n (f b r .bench) rs
 
@@ -59,7 +66,7 @@ Balanced gone f n b rs =
 -- from any bench with all its seats on, where the receive side of seat n is sound: what is read, and then what still waits, came in that order;
 -- and every character is accounted for
 pub record Kept (f : Step) (n : ℕ) (b : Bench) (rs : List Record) : Type 0 where
-  pub in-order : Subsequence (readAt f n b rs ++ queuedAt n (ends f b rs)) (queuedAt n b ++ arrivedAt f n b rs)
+  pub in-order : Subsequence (bytes (characters (readAt f n b rs)) ++ queuedAt n (ends f b rs)) (queuedAt n b ++ bytes (arrivedAt f n b rs))
   pub balanced : Balanced goneAt f n b rs
 
 -- a step keeps the ledger
@@ -71,7 +78,7 @@ SeatLedger = Keeps outcome
 
 -- and from power-up on, where nothing is queued
 pub record FromPowerUp (n : ℕ) (rs : List Record) : Type 0 where
-  pub in-order : Subsequence (readAt outcome n powerUp rs ++ queuedAt n (afterAll powerUp rs)) (arrivedAt outcome n powerUp rs)
+  pub in-order : Subsequence (bytes (characters (readAt outcome n powerUp rs)) ++ queuedAt n (afterAll powerUp rs)) (bytes (arrivedAt outcome n powerUp rs))
   pub balanced : length (arrivedAt outcome n powerUp rs)
       ≡ length (readAt outcome n powerUp rs) + goneAt outcome n powerUp rs + length (queuedAt n (afterAll powerUp rs))
 

@@ -6,6 +6,7 @@ use Rattle.demands.specs.Demand2Items.{Demand2Items}
 use Rattle.demands.specs.Demand3.{Demand3, Demand3FromPowerUp}
 use Rattle.demands.specs.Demand3Restores.{StartsAnew, Demand3FromItems}
 use Rattle.demands.specs.SeatLedger.{SeatLedger, SeatLedgerFromPowerUp}
+use Rattle.demands.specs.SeatLetters.{SeatLetters, SeatLettersFromPowerUp, OnlyRbr, In16450Mode, InFifoMode}
 use Rattle.demands.specs.TimeOut.{TimeOutLasts, AtArrival, Untouched, TimeOutEnds}
 use Rattle.demands.specs.SheetMeant.{SheetMeant}
 use Rattle.demands.specs.WrongPrograms.{ShutOut, LetIn}
@@ -28,6 +29,11 @@ pub record Statements : Type 0 where
   pub demand-3-from-items : Demand3FromItems
   pub seat-ledger : SeatLedger
   pub seat-ledger-from-power-up : SeatLedgerFromPowerUp
+  pub seat-letters : SeatLetters
+  pub seat-letters-from-power-up : SeatLettersFromPowerUp
+  pub only-rbr : OnlyRbr
+  pub in-16450-mode : In16450Mode
+  pub in-fifo-mode : InFifoMode
   pub time-out-lasts : TimeOutLasts
   pub at-arrival : AtArrival
   pub untouched-stays : Untouched

@@ -5,7 +5,9 @@ use mathlib.Core.List.{List, [], _∷_, _++_}
 use mathlib.Core.Path.{_≡_}
 use Rattle.base.specs.declared.Answer.{Answer}
 use Rattle.base.specs.declared.Answer.the-variants as answer
-use Rattle.base.specs.Answers.{valueOf}
+use Rattle.base.specs.Pick.{pick}
+use Rattle.base.specs.Answers.{valueOf, isLetter, figuresOf}
+use Rattle.base.specs.declared.Figures.{Figures}
 use Rattle.rank.specs.Rank.{before, order}
 use Rattle.rank.specs.Sets.{line}
 use Rattle.turn.specs.Waiting.{Start}
@@ -21,6 +23,7 @@ use Rattle.demands.specs.Contracts.{Ensured, EnsuredPlace}
 use Rattle.demands.specs.Demand2.{Step, Meets, ends}
 use Rattle.demands.specs.Demand3.{heard, KeptWaiting}
 use Rattle.demands.specs.SeatLedger.{Keeps}
+use Rattle.demands.specs.SeatLetters.{HandsOver}
 
 -- ---- steps
 
@@ -42,6 +45,16 @@ inventing n b r =
     record {
       bench = withSeat (outcome b r .bench) n (oneMore (seat (outcome b r .bench) n));
       answer = outcome b r .answer;
+      output = outcome b r .output;
+    }
+
+-- ticket 6: one that tells other figures with a letter, and all else as it is
+abbrev pub retelling : (Figures → Figures) → Step
+retelling other b r =
+    let a = outcome b r .answer in
+    record {
+      bench = outcome b r .bench;
+      answer = pick (isLetter a) (answer.Letter (valueOf a) (other (figuresOf a))) a;
       output = outcome b r .output;
     }
 
@@ -100,16 +113,20 @@ pub record ShutOut : Type 0 where
   pub breaks-the-ledger : (n : ℕ) → n < seatCount → Keeps (inventing n) → ⊥
   -- every count of it is right, and what is read never came
   pub breaks-the-order : (a : Answer) → Keeps (fixed a outcome) → ⊥
+  -- ticket 6: every byte of it is right, and a letter has no marks, or one behind it too many
+  pub hides-marks : HandsOver (retelling (λ f. record { marks = 0; behind = f .behind })) → ⊥
+  pub miscounts-behind : HandsOver (retelling (λ f. record { marks = f .marks; behind = suc (f .behind) })) → ⊥
   pub pretends : (says : List Record → Record → Answer) (raises : List Record → Record → Bool) → MeetsFrom (pretending says raises) → ⊥
   -- one that answers by the record alone, and so every acknowledge alike
   pub pretends-out-of-turn : (says : Record → Answer) (raises : List Record → Record → Bool) → TakesTurns (pretending (λ before r. says r) raises) → ⊥
   pub invents-a-place : (says : ℕ → Answer) → MeetsPlace (dreaming says) → ⊥
   pub breaks-the-count : (says : ℕ → Answer) → Counts (dreaming says) → ⊥
 
--- and these laws shut out nothing that meets: a step played from power-up on meets at every record, takes turns and keeps the ledger; and a
--- place that meets counts
+-- and these laws shut out nothing that meets: a step played from power-up on meets at every record, takes turns, keeps the ledger and
+-- hands over its letters; and a place that meets counts
 pub record LetIn : Type 0 where
   pub meets-from : (f : Step) → Meets f → MeetsFrom (played f)
   pub takes-turns : (p : Program) → MeetsFrom p → TakesTurns p
   pub keeps-the-ledger : (f : Step) → Meets f → Keeps f
+  pub hands-over : (f : Step) → Meets f → HandsOver f
   pub counts-places : (p : Placing) → MeetsPlace p → Counts p

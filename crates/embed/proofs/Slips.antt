@@ -4,8 +4,8 @@ use mathlib.Core.Path.{_≡_, refl}
 use Rattle.base.specs.Pick.{pick}
 use Rattle.base.specs.Bits.{bit, digit, bits}
 use Rattle.base.specs.Refusals.{firstOf, refusalBy}
-use Rattle.base.specs.Answers.{refusalOf, valueOf}
-use Rattle.base.specs.declared.Answer.the-variants.{Refused, Vector, Spurious}
+use Rattle.base.specs.Answers.{refusalOf, valueOf, figuresOf}
+use Rattle.base.specs.declared.Answer.the-variants.{Letter, Vector, Spurious, Refused}
 use Rattle.records.specs.Events.{whole, early}
 use Rattle.embed.specs.Word.{wordOf, vectorIn, spuriousIn}
 use Rattle.embed.specs.Numbers.{asByte}
@@ -15,13 +15,18 @@ use Rattle.embed.specs.Bytes.{benchBytes}
 
 -- `undone`: the refusal stands above the answer's four digits
 word-of-a-refusal : wordOf (Refused 1) false ≡ 0x10FFF
-unfolding wordOf refusalOf valueOf digit pick
+unfolding wordOf refusalOf valueOf figuresOf digit pick
 word-of-a-refusal = refl
 
 -- `undone`: the output stands above both
 word-of-a-vector : wordOf (Vector 0x43) true ≡ 0x1000043
-unfolding wordOf refusalOf valueOf digit pick
+unfolding wordOf refusalOf valueOf figuresOf digit pick
 word-of-a-vector = refl
+
+-- `undone`: the marks stand above the output, and the number behind above them
+word-of-a-letter : wordOf (Letter 0x41 (record { marks = 5; behind = 3 })) true ≡ 0x30501000041
+unfolding wordOf refusalOf valueOf figuresOf digit pick
+word-of-a-letter = refl
 
 -- `bench-bytes`: the machine's own size of a bench
 bench-has-668-bytes : benchBytes ≡ 668
@@ -53,14 +58,14 @@ version-of-1-2-3 = refl
 
 -- `spurious-back`: "147"
 vector-of-147 : vectorIn (wordOf (Spurious 0x47) false) ≡ 0x47
-unfolding wordOf refusalOf valueOf digit pick
+unfolding wordOf refusalOf valueOf figuresOf digit pick
 vector-of-147 = refl
 
 spurious-147 : spuriousIn (wordOf (Spurious 0x47) false) ≡ true
-unfolding wordOf refusalOf valueOf digit pick bit
+unfolding wordOf refusalOf valueOf figuresOf digit pick bit
 spurious-147 = refl
 
 -- `refused-not-spurious`: "controller not ready"
 refused-8-not-spurious : spuriousIn (wordOf (Refused 8) false) ≡ false
-unfolding wordOf refusalOf valueOf digit pick bit
+unfolding wordOf refusalOf valueOf figuresOf digit pick bit
 refused-8-not-spurious = refl

@@ -9,7 +9,7 @@ abbrev major : ℕ
 major = 2
 
 abbrev minor : ℕ
-minor = 1
+minor = 2
 
 abbrev patch : ℕ
 patch = 0

@@ -30,7 +30,7 @@ const MASTER_RESET: u32 = Event::MASTER_RESET as u32;
 
 const SEATS: u32 = records::SEATS as u32;
 
-const VERSION: u32 = 20100;
+const VERSION: u32 = 20200;
 
 const BENCH_BYTES: usize = 668;
 
@@ -60,10 +60,14 @@ fn as_byte(n: u32) -> u8
 fn word(answer: Answer, output: bool) -> u64
     ensures { λ r. ⌜ Tells r answer output ⌝ }
 {
-    let value = answer.value();
-    let refusal = answer.refusal();
     let high = base::pick_byte(output, 1, 0);
-    value as u64 + 0x10000 * refusal as u64 + 0x1000000 * high as u64
+    let Answer::Letter(byte, figures) = answer else {
+        let value = answer.value();
+        let refusal = answer.refusal();
+        return value as u64 + 0x10000 * refusal as u64 + 0x1000000 * high as u64;
+    };
+    let lower = byte as u64 + 0x1000000 * high as u64;
+    lower + 0x100000000 * figures.marks as u64 + 0x10000000000 * figures.behind as u64
 }
 
 // The one record that touches every seat.
@@ -201,7 +205,7 @@ fn seat_event(bench: &mut Bench, kind: u32, seat: u32, number: u32, value: u8) -
     p.word
 }
 
-// One record; the word has its refusal, its answer, and the output after it.
+// One record; the word has its refusal, its answer with the figures of a character that was read, and the output after it.
 #[no_mangle]
 pub extern "C" fn hailstoat_event(
     bench: &mut Bench,

@@ -6,7 +6,7 @@ use lib.ListN.{replicate}
 use Rattle.base.specs.Pick.{pick}
 use Rattle.queue.specs.declared.Character.{Character}
 use Rattle.queue.specs.declared.Queue.{Queue}
-use Rattle.queue.specs.Queue.{emptyQueue, room, entered, replaced, capacity, accepted, movedDown, taken}
+use Rattle.queue.specs.Queue.{emptyQueue, room, entered, replaced, capacity, accepted, movedDown, taken, unmarked}
 use Rattle.receiver.specs.declared.Receiver.{Receiver}
 use Rattle.receiver.specs.Receiver.{quiet, noneQueued, timeoutStands, received, got, lsrSeen, waited, afterModeChange}
 use Rattle.receiver.specs.Waiting.{waits}
@@ -71,3 +71,18 @@ lsr-after-a-time-out = refl
 empty-read-after-a-time-out : got (late emptyQueue) .receiver .timeout ≡ 4
 unfolding pick noneQueued got
 empty-read-after-a-time-out = refl
+
+-- ticket 6, `letters`: "in 16450 mode the marks it arrived with, even after LSR was read"
+own-marks-after-an-lsr-read : got (lsrSeen false (received false quiet (ch 0x41 1))) .figures .marks ≡ 1
+unfolding pick room entered capacity accepted movedDown taken noneQueued timeoutStands received lsrSeen got
+own-marks-after-an-lsr-read = refl
+
+-- ticket 6, `read-as`: "in FIFO mode marks that an LSR read cleared stay cleared"
+no-marks-after-an-lsr-read : got (lsrSeen true (received true quiet (ch 0x41 1))) .figures .marks ≡ 0
+unfolding pick room entered capacity accepted movedDown taken unmarked noneQueued timeoutStands received lsrSeen got
+no-marks-after-an-lsr-read = refl
+
+-- ticket 6, `read-oldest`: "how many remain behind it"
+one-behind-of-two : got two .figures .behind ≡ 1
+unfolding pick room entered capacity accepted movedDown taken noneQueued timeoutStands received got
+one-behind-of-two = refl

@@ -9,6 +9,7 @@ use lib.ListN.{length}
 use borrow.Author.Tests.{lt-ltb, le-leb, lt-leb, eq-eqb, ne-eqb}
 use Rattle.base.specs.Pick.{pick}
 use Rattle.base.specs.Bits.{bit}
+use Rattle.base.specs.Answers.{noFigures}
 use Rattle.base.specs.PickLaws.{pick-true, pick-false}
 use Rattle.base.specs.BitLaws.{bit-or}
 use Rattle.queue.specs.declared.Character.{Character}
@@ -106,11 +107,12 @@ arrive-overrun fifo r l ch held within =
 
 -- ---- RBR read
 
--- the oldest leaves and is the last byte read; kept marks and overrun stay
+-- the oldest leaves and is the last byte read; kept marks and overrun stay. The marks are its own, and behind it are those that waited behind it
 pub read-oldest : (r : Receiver) (ch : Character) (l : List Character) → r .queue ≡ holding (ch ∷ l) → length l < 16
     → got r ≡ record {
       receiver = record { queue = holding l; overrun = r .overrun; kept = r .kept; timeout = 0; last = ch .«data» };
       byte = ch .«data»;
+      figures = record { marks = ch .marks; behind = length l };
     }
 unfolding got
 read-oldest r ch l held less =
@@ -121,11 +123,12 @@ read-oldest r ch l held less =
     record {
       receiver = record { queue = t .queue; overrun = r .overrun; kept = r .kept; timeout = 0; last = t .character .«data» };
       byte = t .character .«data»;
+      figures = record { marks = t .character .marks; behind = t .queue .count };
     })
     t
 
--- from an empty queue: the last byte read, and an equal receive side
-pub read-none : (r : Receiver) → r .queue ≡ holding [] → got r ≡ record { receiver = r; byte = r .last }
+-- from an empty queue: the last byte read, with no marks and none behind it, and an equal receive side
+pub read-none : (r : Receiver) → r .queue ≡ holding [] → got r ≡ record { receiver = r; byte = r .last; figures = noFigures }
 unfolding got
 read-none r held = pick-true _ _ _ (none-queued r held)
 

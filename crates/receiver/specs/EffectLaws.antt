@@ -9,6 +9,7 @@ use lib.Dec.{ltb, leb, eqb}
 use lib.ListN.{length}
 use borrow.Author.Tests.{ltb-true, ltb-false, lt-leb, eq-eqb, ne-eqb}
 use Rattle.base.specs.Pick.{pick}
+use Rattle.base.specs.Answers.{noFigures}
 use Rattle.base.specs.PickLaws.{pick-true, pick-false, either-way}
 use Rattle.queue.specs.declared.Character.{Character}
 use Rattle.queue.specs.declared.Queue.{Queue}
@@ -43,14 +44,14 @@ waits-none fifo zero r held = refl
 waits-none fifo (suc n) r held = ap (waited fifo) (waits-none fifo n r held) ∙ wait-none fifo r held
 
 -- a receive side that holds nothing, as far as it can be asked, in whichever mode: no character, no mark, no data, no time-out however long one waits;
--- RBR shows the last byte read
+-- RBR shows the last byte read, with no marks and none behind it
 pub record Bare (r : Receiver) : Type 0 where
   pub none : noneQueued r ≡ true
   pub no-mark : (fifo : Bool) → someMarked fifo r ≡ false
   pub no-data : (trigger : ℕ) → dataStands false trigger r ≡ false
   pub no-trigger : (trigger : ℕ) → dataStands true (suc trigger) r ≡ false
   pub no-timeout : (fifo : Bool) (n : ℕ) → timeoutStands (waits fifo n r) ≡ false
-  pub last-again : got r ≡ record { receiver = r; byte = r .last }
+  pub last-again : got r ≡ record { receiver = r; byte = r .last; figures = noFigures }
 
 module _ (r : Receiver) (held : r .queue ≡ holding []) (zero-count : r .timeout ≡ 0) where
   bare : Bare r

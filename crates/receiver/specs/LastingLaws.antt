@@ -18,7 +18,7 @@ use Rattle.receiver.specs.EffectLaws.{arrival-leaves-four, arrival-sets-
 use Rattle.receiver.specs.Waiting.{waits}
 use Rattle.receiver.specs.WaitingLaws.{wait-at-most}
 use Rattle.receiver.specs.Ledger.{Moment, arrives, rbr, lsr, passes, empties, changes, resets, Side, after, afterAll}
-use Rattle.receiver.specs.LedgerLaws.{after-both}
+use Rattle.receiver.specs.SideLaws.{after-both}
 use Rattle.receiver.specs.Lasting.{timeoutCount, ending, endsIn, Fourth, Lasting}
 
 -- ---- one moment

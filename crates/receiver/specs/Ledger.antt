@@ -1,4 +1,4 @@
--- The receive ledger: a run of the receive side, and what became of every byte.
+-- The receive ledger: a run of the receive side, what RBR reads hand over, and what became of every character.
 use Prim.Native.Nat.{ℕ, _+_}
 use mathlib.Core.Bool.{Bool, false, not}
 use mathlib.Core.List.{List, [], _∷_, _++_, map}
@@ -6,9 +6,11 @@ use mathlib.Core.Path.{_≡_}
 use lib.Dec.{leb}
 use lib.ListN.{length}
 use Rattle.base.specs.Pick.{pick}
+use Rattle.base.specs.Subsequences.{Subsequence}
 use Rattle.queue.specs.declared.Character.{Character}
 use Rattle.queue.specs.Queue.{capacity, contents}
 use Rattle.receiver.specs.declared.Receiver.{Receiver}
+use Rattle.receiver.specs.declared.Got.{Got}
 use Rattle.receiver.specs.Receiver.{quiet, noneQueued, received, got, lsrSeen, waited, cleared, afterModeChange, restarted}
 
 -- what can befall a receive side: a character arrives, RBR is read, LSR is read, a character time passes, the queue is emptied, the mode
@@ -42,18 +44,33 @@ unfoldable pub afterAll : Side → List Moment → Side
 afterAll s [] = s
 afterAll s (m ∷ ms) = afterAll (after s m) ms
 
--- the bytes in the queue, the oldest first
+-- the characters in the queue with their marks, the oldest first, and their bytes
+abbrev pub held : Side → List Character
+held s = contents (s .receiver .queue)
+
 abbrev pub bytes : List Character → List ℕ
 bytes = map (λ ch. ch .«data»)
 
 abbrev pub queued : Side → List ℕ
-queued s = bytes (contents (s .receiver .queue))
+queued s = bytes (held s)
+
+-- what an RBR read hands over. Ticket 6: a character with "its marks and how many remain behind it"
+pub record Handed : Type 0 where
+  pub character : Character
+  pub behind : ℕ
+
+abbrev pub handed : Got → Handed
+handed g = record { character = record { «data» = g .byte; marks = g .figures .marks }; behind = g .figures .behind }
+
+-- the characters of those that were handed over
+abbrev pub characters : List Handed → List Character
+characters = map (λ h. h .character)
 
 -- ---- of one moment
 
--- the byte that arrives
-abbrev pub arriving : Moment → List ℕ
-arriving (arrives ch) = ch .«data» ∷ []
+-- the character that arrives
+abbrev pub arriving : Moment → List Character
+arriving (arrives ch) = ch ∷ []
 arriving rbr = []
 arriving lsr = []
 arriving passes = []
@@ -61,10 +78,10 @@ arriving empties = []
 arriving changes = []
 arriving resets = []
 
--- the byte that is read; from an empty queue none is, though RBR shows the last one again
-abbrev pub reading : Side → Moment → List ℕ
+-- the character that is read; from an empty queue none is, though RBR shows the last byte again
+abbrev pub reading : Side → Moment → List Handed
 reading s (arrives ch) = []
-reading s rbr = pick (noneQueued (s .receiver)) [] (got (s .receiver) .byte ∷ [])
+reading s rbr = pick (noneQueued (s .receiver)) [] (handed (got (s .receiver)) ∷ [])
 reading s lsr = []
 reading s passes = []
 reading s empties = []
@@ -93,11 +110,11 @@ dropping s resets = length (queued s)
 
 -- ---- of a run
 
-unfoldable pub arrivedIn : List Moment → List ℕ
+unfoldable pub arrivedIn : List Moment → List Character
 arrivedIn [] = []
 arrivedIn (m ∷ ms) = arriving m ++ arrivedIn ms
 
-unfoldable pub readIn : Side → List Moment → List ℕ
+unfoldable pub readIn : Side → List Moment → List Handed
 readIn s [] = []
 readIn s (m ∷ ms) = reading s m ++ readIn (after s m) ms
 
@@ -111,15 +128,9 @@ droppedIn s (m ∷ ms) = dropping s m + droppedIn (after s m) ms
 
 -- ---- the ledger
 
--- the first list is the second with some left out, in the same order
-pub data Subsequence : List ℕ → List ℕ → Type 0 where
-  ends : Subsequence [] []
-  skips : {n : ℕ} {l m : List ℕ} → Subsequence l m → Subsequence l (n ∷ m)
-  keeps : {n : ℕ} {l m : List ℕ} → Subsequence l m → Subsequence (n ∷ l) (n ∷ m)
-
--- what is read, and then what still waits, came in that order; and every byte is accounted for
+-- what is read, and then what still waits, came in that order; and every character is accounted for
 pub record Ledger (s : Side) (ms : List Moment) : Type 0 where
-  pub in-order : Subsequence (readIn s ms ++ queued (afterAll s ms)) (queued s ++ arrivedIn ms)
+  pub in-order : Subsequence (bytes (characters (readIn s ms)) ++ queued (afterAll s ms)) (queued s ++ bytes (arrivedIn ms))
   pub balanced : length (arrivedIn ms) + length (queued s)
       ≡ length (readIn s ms) + lostIn s ms + droppedIn s ms + length (queued (afterAll s ms))
 

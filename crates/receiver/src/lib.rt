@@ -1,5 +1,6 @@
 // The receive side of a channel: the queue, overrun, kept marks, the time-out count and the last byte read.
 // `fifo` is the mode in every call; the channel has it in its FCR.
+use base::Figures;
 use queue::Character;
 use queue::Queue;
 ghost use mathlib.Core.Path.{_≡_};
@@ -17,6 +18,7 @@ pub struct Receiver {
 pub struct Got {
     pub receiver: Receiver,
     pub byte: u8,
+    pub figures: Figures,
 }
 
 impl Receiver {
@@ -63,6 +65,10 @@ impl Receiver {
             return Got {
                 receiver: self,
                 byte: self.last,
+                figures: Figures {
+                    marks: 0,
+                    behind: 0,
+                },
             };
         }
         let waiting = self.queue;
@@ -74,6 +80,10 @@ impl Receiver {
         Got {
             receiver: self,
             byte: taken.character.data,
+            figures: Figures {
+                marks: taken.character.marks,
+                behind: rest.count,
+            },
         }
     }
 

@@ -3,7 +3,7 @@ use mathlib.Core.Bool.{true}
 use mathlib.Core.List.{List, [], _∷_}
 use mathlib.Core.Path.{_≡_, refl, ap, sym, subst, _∙_}
 use Rattle.receiver.specs.Ledger.{Side, afterAll, readIn, queued}
-use Rattle.receiver.specs.LedgerLaws.{after-both}
+use Rattle.receiver.specs.SideLaws.{after-both}
 use Rattle.receiver.specs.SoundLaws as receiver
 use Rattle.registers.specs.declared.SeatEvent.{SeatEvent}
 use Rattle.channel.specs.Moments.{toldIn}

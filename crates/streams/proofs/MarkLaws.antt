@@ -1,13 +1,18 @@
 -- What the contracts of the digest require: a mark tells all that it is made of, and no number is added unseen.
-use Prim.Native.Nat.{ℕ, _+_, _*_, _/_, _%_, _<_}
-use mathlib.Core.Bool.{Bool}
-use mathlib.Core.Path.{_≡_}
+use Prim.Native.Nat.{ℕ, _+_, _*_, _-_, _/_, _%_, _<_}
+use mathlib.Core.Bool.{Bool, false}
+use mathlib.Core.Path.{_≡_, _∙_}
 use native.Mathlib.Omega.{arith}
 use Rattle.base.specs.Bits.{digit}
 use Rattle.base.specs.BitLaws.{digit-le}
-use Rattle.base.specs.Answers.{refusalOf, valueOf}
+use Rattle.base.specs.Pick.{pick}
+use Rattle.base.specs.PickLaws.{pick-false}
+use Rattle.base.specs.Answers.{refusalOf, valueOf, figuresOf, isLetter}
 use Rattle.base.specs.declared.Answer.{Answer}
+use Rattle.base.specs.declared.Answer.the-variants.{Letter}
+use Rattle.base.specs.declared.Figures.{Figures}
 use Rattle.streams.proofs.digest.add.Reads as added
+use Rattle.streams.proofs.digest.letter_mark.Reads as letter
 use Rattle.streams.proofs.digest.outcome_mark.Reads as outcome
 use Rattle.streams.proofs.digest.place_mark.Reads as place
 
@@ -22,6 +27,16 @@ outcome-told κ e answer output r p small =
 pub place-told : (κ e : _) (answer : Answer) (r : ℕ) → place.Post κ (answer, tt) r e → valueOf answer < 4096
     → (r / 4096 ≡ refusalOf answer) × (r % 4096 ≡ valueOf answer)
 place-told κ e answer r p small = let is : r ≡ refusalOf answer * 4096 + valueOf answer = p in (omega arith, omega arith)
+
+-- its marks and how many remain behind it from that of a letter, which is not 0
+pub letter-told : (κ e : _) (byte : ℕ) (figures : Figures) (r : ℕ) → letter.Post κ (Letter byte figures, tt) r e → figures .behind < 256
+    → (0 < r) × ((r - 1) / 256 ≡ figures .marks) × ((r - 1) % 256 ≡ figures .behind)
+unfolding isLetter figuresOf pick
+letter-told κ e byte figures r p small = let is : r ≡ 1 + 256 * figures .marks + figures .behind = p in (omega arith, omega arith, omega arith)
+
+-- and it is 0 of every answer that is no letter
+pub no-letter-told : (κ e : _) (answer : Answer) (r : ℕ) → letter.Post κ (answer, tt) r e → isLetter answer ≡ false → r ≡ 0
+no-letter-told κ e answer r p other = p ∙ pick-false _ _ _ other
 
 -- two numbers that bring a digest to the same one are the same
 pub added-told : (κ κ′ e e′ : _) (digest v v′ r : ℕ) → added.Post κ (digest, (v, tt)) r e → added.Post κ′ (digest, (v′, tt)) r e′

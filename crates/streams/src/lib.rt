@@ -1,4 +1,4 @@
-// The streams of events that second/TRIALS.md describes, written from that page alone, and the digest of what a bench answers
+// The streams of events that second/TRIALS.md describes, written from that page alone, and the digests of what a bench answers
 // to them. A stream does not look at the bench.
 mod asked;
 mod columns;
@@ -10,6 +10,7 @@ mod sets;
 mod steps;
 
 pub use digest::add;
+pub use digest::letter_mark;
 pub use digest::outcome_mark;
 pub use digest::place_mark;
 pub use draws::advance;

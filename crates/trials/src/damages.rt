@@ -32,7 +32,7 @@ fn written_back(sum: u32, other: Bench, number: u8, i: u8, at: u8) -> u32 {
     kept.sum
 }
 
-// "Later events. If the number is 0."
+// "Later events. If the number is 0." Their letters are left: "Nothing of a stop enters the letter digest".
 fn later(run: Run, number: u8, rows: &[u64]) -> Run {
     if number > 0 {
         return run;
@@ -52,7 +52,13 @@ impl Damaged {
         let number = answer.refusal();
         let told = streams::add(self.sum, number as u32);
         let sum = written_back(told, bench, number, i, at);
-        let run = later(Run { stream, bench, sum }, number, rows);
+        let before = Run {
+            stream,
+            bench,
+            sum,
+            letters: 0,
+        };
+        let run = later(before, number, rows);
         let left = run.bench;
         Damaged {
             x: m.x,

@@ -6,6 +6,7 @@ use crate::lent::ROOM;
 use crate::list;
 use crate::runs::ASKED_LINES;
 use crate::runs::Run;
+use crate::runs::Sums;
 use crate::spots;
 use bench::Bench;
 use image::Restored;
@@ -48,11 +49,7 @@ impl Trial {
         let at = pick(p, 56);
         let refused = buffers::keep(run.sum, bench, Lent::no_room(pick(s, 3), q.at, at));
         let kept = buffers::keep(refused.sum, bench, Lent::whole(at));
-        let saved = Run {
-            stream,
-            bench,
-            sum: kept.sum,
-        };
+        let saved = run.with_bench(bench, kept.sum);
         let on = saved.on(rows, 1 + pick(n, 63) as u64, 0);
         let gone_on = on.bench;
         let other = self.other;
@@ -68,11 +65,7 @@ impl Trial {
         let after = damaged.after_all(buffer, at, stream, rows);
         let left = after.other;
         Trial {
-            run: Run {
-                stream,
-                bench: restored,
-                sum: after.sum,
-            },
+            run: run.with_bench(restored, after.sum),
             other: left,
             x: after.x,
         }
@@ -90,7 +83,7 @@ impl Trial {
     }
 }
 
-pub(crate) fn digest(seed: u32, count: u64, set: u8, bench: Bench) -> u32 {
+pub(crate) fn digests(seed: u32, count: u64, set: u8, bench: Bench) -> Sums {
     let rows = streams::script_rows();
     let mut trial = Trial {
         run: Run::start(seed, set, bench),
@@ -101,5 +94,6 @@ pub(crate) fn digest(seed: u32, count: u64, set: u8, bench: Bench) -> u32 {
         trial = trial.on(&rows, BETWEEN_STOPS).stop(&rows, k % 2 == 1);
     }
     trial = trial.on(&rows, count % BETWEEN_STOPS);
-    trial.run.sum
+    let run = trial.run;
+    run.sums()
 }

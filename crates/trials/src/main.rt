@@ -1,9 +1,10 @@
-// Runs streams of events over the proved bench and prints a line for each: seed and count in decimal, the digest in eight hex
-// capitals. With no argument, both lists of second/TRIALS.md; with SEED and COUNT, and SET and START where they are not 0, that stream
-// alone; with `images` before them, as a trial of saved benches.
+// Runs streams of events over the proved bench and prints a line for each: seed and count in decimal, the digest and the letter digest
+// in eight hex capitals each. With no argument, both lists of second/TRIALS.md; with SEED and COUNT, and SET and START where they are
+// not 0, that stream alone; with `images` before them, as a trial of saved benches.
 use bench::Bench;
 use libc::STDERR_FILENO;
 use libc::STDOUT_FILENO;
+use runs::Sums;
 use streams::SETS;
 use words::Number;
 
@@ -18,7 +19,7 @@ mod words;
 mod wounds;
 
 fn print_digest(digest: u32) {
-    let end = [
+    let column = [
         b' ',
         text::capital(digest / 0x1000_0000),
         text::capital(digest / 0x100_0000),
@@ -28,9 +29,8 @@ fn print_digest(digest: u32) {
         text::capital(digest / 0x100),
         text::capital(digest / 0x10),
         text::capital(digest),
-        b'\n',
     ];
-    io::write_all(STDOUT_FILENO, &end);
+    io::write_all(STDOUT_FILENO, &column);
 }
 
 fn usage() {
@@ -40,19 +40,21 @@ fn usage() {
     );
 }
 
-fn print_line(seed: u64, count: u64, digest: u32) {
+fn print_line(seed: u64, count: u64, sums: Sums) {
     io::print_decimal(STDOUT_FILENO, seed);
     io::write_all(STDOUT_FILENO, b" ");
     io::print_decimal(STDOUT_FILENO, count);
-    print_digest(digest);
+    print_digest(sums.sum);
+    print_digest(sums.letters);
+    io::write_all(STDOUT_FILENO, b"\n");
 }
 
 // Over the bench that the trial starts from.
-fn digest(images: bool, seed: u32, count: u64, set: u8, bench: Bench) -> u32 {
+fn digests(images: bool, seed: u32, count: u64, set: u8, bench: Bench) -> Sums {
     if images {
-        return images::digest(seed, count, set, bench);
+        return images::digests(seed, count, set, bench);
     }
-    runs::digest(seed, count, set, bench)
+    runs::digests(seed, count, set, bench)
 }
 
 // Each start is an arm; 0 is the bench "as at power-up".
@@ -67,7 +69,7 @@ fn run(images: bool, seed: u64, count: u64, set: u64, start: u64) {
         0 => print_line(
             seed,
             count,
-            digest(images, seed as u32, count, set as u8, Bench::power_up()),
+            digests(images, seed as u32, count, set as u8, Bench::power_up()),
         ),
         _ => usage(),
     }

@@ -1,4 +1,4 @@
-// Events of a stream over a bench, and the digest of what is seen.
+// Events of a stream over a bench, and the digests of what is seen.
 use base::Answer;
 use bench::Bench;
 use controller::Controller;
@@ -8,11 +8,18 @@ use streams::Stream;
 // "for line 8 it is refusal 1 and answer FFF": one line more than there are.
 pub(crate) const ASKED_LINES: u8 = 9;
 
-// A stream, the bench that its events were given to, and the digest, at some point of a trial.
+// A stream, the bench that its events were given to, the digest and the letter digest, at some point of a trial.
 pub(crate) struct Run {
     pub stream: Stream,
     pub bench: Bench,
     pub sum: u32,
+    pub letters: u32,
+}
+
+// Both digests, at the end of a trial.
+pub(crate) struct Sums {
+    pub sum: u32,
+    pub letters: u32,
 }
 
 // What is seen after an event: refusal, answer and output, and "for each line 0 to 8 in order, its place in turn", as far as lines are
@@ -31,6 +38,18 @@ impl Run {
             stream: Stream::start(seed, set),
             bench,
             sum: 0,
+            letters: 0,
+        }
+    }
+
+    // The stream stands where it stood, with its letters; the bench and the digest are others.
+    pub(crate) fn with_bench(self, bench: Bench, sum: u32) -> Run {
+        let stream = self.stream;
+        Run {
+            stream,
+            bench,
+            sum,
+            letters: self.letters,
         }
     }
 
@@ -40,6 +59,7 @@ impl Run {
         let mut stream = self.stream;
         let mut bench = self.bench;
         let mut sum = self.sum;
+        let mut letters = self.letters;
         for _ in 0..count {
             let made = stream.next(rows);
             stream = made.stream;
@@ -63,14 +83,28 @@ impl Run {
             bench.controller = moved;
             let answer = touched.answer;
             sum = add_seen(sum, answer, moved, lines);
+            letters = streams::add(letters, streams::letter_mark(answer));
         }
-        Run { stream, bench, sum }
+        Run {
+            stream,
+            bench,
+            sum,
+            letters,
+        }
+    }
+
+    pub(crate) fn sums(self) -> Sums {
+        Sums {
+            sum: self.sum,
+            letters: self.letters,
+        }
     }
 }
 
 // The bench is the one that the stream starts from.
-pub(crate) fn digest(seed: u32, count: u64, set: u8, bench: Bench) -> u32 {
+pub(crate) fn digests(seed: u32, count: u64, set: u8, bench: Bench) -> Sums {
     let rows = streams::script_rows();
-    let run = Run::start(seed, set, bench).on(&rows, count, ASKED_LINES);
-    run.sum
+    Run::start(seed, set, bench)
+        .on(&rows, count, ASKED_LINES)
+        .sums()
 }

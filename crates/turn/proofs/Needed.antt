@@ -10,7 +10,7 @@ use borrow.Author.Tests.{eq-eqb}
 use lib.Dec.{eqb}
 use lib.ListN.{length, take}
 use Rattle.base.specs.declared.Answer.{Answer}
-use Rattle.base.specs.declared.Answer.the-variants.{Byte, Done, Sent, Idle, Break, Vector, Spurious, Place, Divisor, Refused}
+use Rattle.base.specs.declared.Answer.the-variants.{Byte, Letter, Done, Sent, Idle, Break, Vector, Spurious, Place, Divisor, Refused}
 use Rattle.base.specs.PickLaws.{never, not-true, both-hold}
 use Rattle.rank.specs.Sets.{has}
 use Rattle.controller.specs.Signals.{Signal, levels, read, write, acknowledge}
@@ -78,6 +78,7 @@ waits-by more t owed c (m ∷ rest) e =
 
 abbrev pub tells : ℕ → Answer → Bool
 tells v (Byte b) = false
+tells v (Letter b f) = false
 tells v Done = false
 tells v (Sent b) = false
 tells v Idle = false

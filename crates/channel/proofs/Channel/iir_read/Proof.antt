@@ -6,7 +6,8 @@ use Rattle.status.specs.StatusLaws.{iir-by-changes}
 use Rattle.channel.specs.Parts.{withTransmitter}
 use Rattle.channel.specs.Status.{msr, iir}
 use Rattle.channel.specs.StatusLaws.{iir-cause}
-use Rattle.channel.specs.Effects.{iirRead, byteAt, afterRead, told}
+use Rattle.channel.specs.Effects.{iirRead, answerAt, afterRead}
+use Rattle.channel.proofs.Told.{told}
 use borrow.Author.Needs.{needs}
 use Rattle.channel.proofs.Channel.iir_read.Statement.{statement}
 use Rattle.channel.proofs.Channel.iir_read.Tie as tie
@@ -18,7 +19,7 @@ iir-read-requires : tie.Need-iir-read-requires
 iir-read-requires c κs = search needs
 
 returns : tie.Need-returns
-unfolding afterRead byteAt iirRead iir msr
+unfolding afterRead answerAt iirRead iir msr
 returns c =
     let self = c .before .before .args .self in
     let byte : c .before .iir .result ≡ iir self = c .before .iir .ensures ∙ iir-by-changes _ _ _ _ _ in

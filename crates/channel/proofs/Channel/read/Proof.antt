@@ -3,15 +3,18 @@ use mathlib.Core.List.{List, [], _∷_}
 use mathlib.Core.Path.{_≡_, refl, ap, sym, _∙_}
 use types.Run.{OneOf, miss}
 use denote.Enum.Declared.{tagOf}
+use Rattle.base.specs.declared.Answer.the-variants.{Letter}
 use Rattle.registers.proofs.Register.{the-type}
 use Rattle.registers.specs.Registers.{shownBy}
 use Rattle.registers.specs.declared.Register.{Register}
 use Rattle.registers.specs.declared.Register.the-variants.{RbrThr, Ier, IirFcr, Lcr, Mcr, Lsr, Msr, Scratch, Dll, Dlm}
 use Rattle.receiver.specs.declared.Got.{Got}
 use Rattle.channel.specs.declared.Channel.{Channel}
+use Rattle.channel.specs.declared.Stepped.{Stepped}
 use Rattle.channel.specs.Parts.{withReceiver}
 use Rattle.channel.specs.Status.{lsr, msr}
-use Rattle.channel.specs.Effects.{lsrRead, msrRead, byteAt, afterRead, told, readOf}
+use Rattle.channel.specs.Effects.{lsrRead, msrRead, answerAt, afterRead, readOf}
+use Rattle.channel.proofs.Told.{told}
 use Rattle.channel.specs.Steps.{effect}
 use borrow.Author.Needs.{needs}
 use Rattle.channel.proofs.Channel.read.Statement.{statement}
@@ -26,12 +29,16 @@ enum-told c = search needs
 get-requires : tie.Need-get-requires
 get-requires c κs = search needs
 
+-- a channel as it is, with what was taken from its receive side
+abbrev letter : Channel → Got → Stepped
+letter c g = record { channel = c; answer = Letter (g .byte) (g .figures) }
+
 returns : tie.Need-returns
-unfolding effect afterRead byteAt
+unfolding effect afterRead answerAt
 returns c =
-    let self = c .before .before .before .before .before .args .self in
-    ap (λ (g : Got). told (withReceiver self (g .receiver)) (g .byte)) (c .before .get .ensures)
-    ∙ ap (readOf self) (sym (c .before .before .enum-told .given .1) ∙ c .before .before .before .before .register .ensures)
+    let self = c .before .before .before .before .before .before .args .self in
+    ap (λ (g : Got). letter (withReceiver self (g .receiver)) g) (c .before .before .get .ensures)
+    ∙ ap (readOf self) (sym (c .before .before .before .enum-told .given .1) ∙ c .before .before .before .before .before .register .ensures)
 
 enum-told-2 : tie.Need-enum-told-2
 enum-told-2 c = search needs
@@ -58,7 +65,7 @@ lsr-read-requires : tie.Need-lsr-read-requires
 lsr-read-requires c κs = search needs
 
 returns-3 : tie.Need-returns-3
-unfolding effect afterRead byteAt lsrRead lsr
+unfolding effect afterRead answerAt lsrRead lsr
 returns-3 c =
     let self = c .before .before .before .before .before .before .args .self in
     let shown : told (withReceiver self (c .lsr-read .result)) (c .before .lsr .result) ≡ readOf self Lsr = simp (← c .lsr-read .ensures, ← c .before .lsr .ensures, ← c .before .before .is-fifo .ensures) in
@@ -72,7 +79,7 @@ modem-status-requires : tie.Need-modem-status-requires
 modem-status-requires c κs = search needs
 
 returns-4 : tie.Need-returns-4
-unfolding effect afterRead byteAt msrRead msr
+unfolding effect afterRead answerAt msrRead msr
 returns-4 c =
     let self = c .before .before .before .before .before .args .self in
     ap (told (msrRead self)) (c .before .modem-status .ensures)
@@ -86,7 +93,7 @@ abbrev rest : List ℕ
 rest = 1 ∷ 3 ∷ 4 ∷ 7 ∷ 8 ∷ 9 ∷ []
 
 others : (c : Channel) (r : Register) → OneOf rest (tagOf the-type r) → told c (shownBy (c .settings) r) ≡ readOf c r
-unfolding afterRead byteAt
+unfolding afterRead answerAt
 others c RbrThr k = absurd (miss rest 0 tt k)
 others c Ier k = refl
 others c IirFcr k = absurd (miss rest 2 tt k)

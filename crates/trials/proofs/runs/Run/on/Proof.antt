@@ -6,10 +6,10 @@ use Rattle.trials.proofs.runs.Run.on.Tie as tie
 
 -- the count is a number of 64 bits, so that the one after a number below it is
 abbrev Inv-loop : tie.InvT-loop
-Inv-loop rows count lines stream₀ bench₀ sum₀ counter₀ stream bench sum counter = count < 18446744073709551616
+Inv-loop rows count lines stream₀ bench₀ sum₀ letters₀ counter₀ stream bench sum letters counter = count < 18446744073709551616
 
 abbrev μ-loop : tie.MeasureT-loop
-μ-loop rows count lines stream₀ bench₀ sum₀ counter₀ stream bench sum counter = count - counter
+μ-loop rows count lines stream₀ bench₀ sum₀ letters₀ counter₀ stream bench sum letters counter = count - counter
 
 loop-holds : tie.Need-loop-holds Inv-loop μ-loop
 loop-holds c = search needs
@@ -41,6 +41,12 @@ element-set-from-stood c = search needs
 add-seen-requires : tie.Need-add-seen-requires Inv-loop μ-loop
 add-seen-requires c κs = search needs
 
+letter-mark-requires : tie.Need-letter-mark-requires Inv-loop μ-loop
+letter-mark-requires c κs = search needs
+
+add-requires : tie.Need-add-requires Inv-loop μ-loop
+add-requires c κs = search needs
+
 add-counter : tie.Need-add-counter Inv-loop μ-loop
 add-counter c = omega arith
 
@@ -69,6 +75,8 @@ on-spec =
     mul-stood
     element-set-from-stood
     add-seen-requires
+    letter-mark-requires
+    add-requires
     add-counter
     loop-less
     loop-again

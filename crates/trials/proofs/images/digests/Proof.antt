@@ -1,8 +1,8 @@
 use Prim.Native.Nat.{_-_, _<_}
 use native.Mathlib.Omega.{arith}
 use borrow.Author.Needs.{needs}
-use Rattle.trials.proofs.images.digest.Statement.{statement}
-use Rattle.trials.proofs.images.digest.Tie as tie
+use Rattle.trials.proofs.images.digests.Statement.{statement}
+use Rattle.trials.proofs.images.digests.Tie as tie
 
 -- the number of stops is a number of 64 bits, so that the one after a number below it is
 abbrev Inv-loop : tie.InvT-loop
@@ -17,8 +17,8 @@ script-rows-requires c κs = search needs
 start-requires : tie.Need-start-requires Inv-loop μ-loop
 start-requires c κs = search needs
 
-sub-t10 : tie.Need-sub-t10 Inv-loop μ-loop
-sub-t10 c = search needs
+sub-t11 : tie.Need-sub-t11 Inv-loop μ-loop
+sub-t11 c = search needs
 
 loop-holds : tie.Need-loop-holds Inv-loop μ-loop
 loop-holds c = search needs
@@ -50,18 +50,21 @@ slice-aggregate-on-2 c = search needs
 on-requires-2 : tie.Need-on-requires-2 Inv-loop μ-loop
 on-requires-2 c κs = search needs
 
+sums-requires : tie.Need-sums-requires Inv-loop μ-loop
+sums-requires c κs = search needs
+
 returns : tie.Need-returns Inv-loop μ-loop
 returns c = search needs
 
-pub digest-spec : {M : Type 1} → statement M
-digest-spec =
+pub digests-spec : {M : Type 1} → statement M
+digests-spec =
     tie.close
     (tie.spec
     Inv-loop
     μ-loop
     script-rows-requires
     start-requires
-    sub-t10
+    sub-t11
     loop-holds
     slice-aggregate-on
     on-requires
@@ -72,4 +75,5 @@ digest-spec =
     loop-again
     slice-aggregate-on-2
     on-requires-2
+    sums-requires
     returns)
