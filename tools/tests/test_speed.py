@@ -135,7 +135,8 @@ class Speed(Room):
         rows = self.rows(self.run_it("3", "300000")[1])
         for way in ("the mix", "a read of LSR"):
             self.assertEqual(rows[f"{way}, instructions"], [40.0])
-            self.assertGreater(rows[f"{way}, ns"][0], 40)
+            # an event of this library is a loop of 120 steps, of which each takes a cycle at least
+            self.assertGreater(rows[f"{way}, ns"][0], 10)
         self.assertEqual(rows["with the listing, the mix, instructions"], [60.0])
 
     def test_beside_an_earlier_commit(self):
