@@ -30,7 +30,7 @@ extern "C" {
 
 /* 10000 times the major number, 100 times the minor, and the patch. The major
    number changes where a program must be changed, or compiled again. */
-#define HAILSTOAT_VERSION 20200
+#define HAILSTOAT_VERSION 20300
 
 #define HAILSTOAT_SEATS 8
 #define HAILSTOAT_SLOTS 16
@@ -209,7 +209,7 @@ enum hailstoat_refusal {
     HAILSTOAT_NOT_READY = 8, /* any read, an acknowledge, a port 0 write without bit 4,
                                 or a port 1 write before any accepted ICW1 */
     HAILSTOAT_NOT_SERVED = 9, /* ICW1 with bit 0 or bit 1 clear; ICW4 with bit 0 clear;
-                                 OCW3 with bit 2 set; MCR write with bit 4 set */
+                                 OCW3 with bit 2 set */
     HAILSTOAT_NOT_LISTED = 10, /* of hailstoat_divisor alone */
     HAILSTOAT_NO_SETTING = 11, /* of settings lines, which no function here reads or writes */
     HAILSTOAT_NO_ROOM = 12, /* of settings lines too, and of saved benches */
@@ -234,7 +234,7 @@ static inline const char *hailstoat_refusal_words(unsigned refusal)
     case HAILSTOAT_MARKS_ABOVE: return "arrival: marks above 7";
     case HAILSTOAT_LEVELS_ABOVE: return "modem levels above 15";
     case HAILSTOAT_NOT_READY: return "controller not ready";
-    case HAILSTOAT_NOT_SERVED: return "not served (loopback, cascaded controllers, 8080 mode, poll)";
+    case HAILSTOAT_NOT_SERVED: return "not served (cascaded controllers, 8080 mode, poll)";
     case HAILSTOAT_NOT_LISTED: return "rate or clock not in the divisor list";
     case HAILSTOAT_NO_SETTING: return "no settings line, or an LCR byte that none gives";
     case HAILSTOAT_NO_ROOM: return "lent buffer too short";
@@ -317,12 +317,12 @@ enum hailstoat_port {
 #define HAILSTOAT_LCR_BREAK 0x40
 #define HAILSTOAT_LCR_DIVISOR 0x80
 
-/* MCR; the first four are the answer of hailstoat_modem_outputs too. */
+/* MCR; the first four are the answer of hailstoat_modem_outputs too, outside loopback. */
 #define HAILSTOAT_MCR_DTR 0x01
 #define HAILSTOAT_MCR_RTS 0x02
 #define HAILSTOAT_MCR_OUT1 0x04
 #define HAILSTOAT_MCR_OUT2 0x08 /* lets the seat's line through */
-#define HAILSTOAT_MCR_LOOP 0x10 /* refused: not served */
+#define HAILSTOAT_MCR_LOOP 0x10 /* loopback: the seat hears itself and nothing from outside */
 
 #define HAILSTOAT_LSR_DATA 0x01
 #define HAILSTOAT_LSR_OVERRUN 0x02
@@ -401,9 +401,9 @@ void hailstoat_power_up(struct hailstoat_bench *bench);
    gives refusal 1. The word's output is 0: no event has passed. */
 uint64_t hailstoat_place(const struct hailstoat_bench *bench, uint32_t line);
 
-/* The modem outputs of a seat, HAILSTOAT_MCR_DTR to HAILSTOAT_MCR_OUT2: an output
-   is active where its bit of MCR is set. Seat above 7 gives refusal 1. The word's
-   output is 0. */
+/* The modem outputs of a seat, HAILSTOAT_MCR_DTR to HAILSTOAT_MCR_OUT2, as whoever
+   is wired to it sees them: an output is active where its bit of MCR is set, and in
+   loopback none is. Seat above 7 gives refusal 1. The word's output is 0. */
 uint64_t hailstoat_modem_outputs(const struct hailstoat_bench *bench, uint32_t seat);
 
 /* 1 if the controller's output is high, else 0: high exactly if the controller

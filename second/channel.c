@@ -54,10 +54,46 @@ unsigned channel_lsr(const struct channel *channel)
     return lsr;
 }
 
+bool channel_in_loopback(const struct channel *channel)
+{
+    return (channel->mcr & MCR_LOOP) != 0;
+}
+
+/* "DTR, RTS, OUT1 and OUT2 feed DSR, CTS, RI and DCD" */
+static unsigned inputs_fed(unsigned mcr)
+{
+    unsigned inputs = 0;
+    if ((mcr & MCR_DTR) != 0)
+        inputs |= LEVEL_DSR;
+    if ((mcr & MCR_RTS) != 0)
+        inputs |= LEVEL_CTS;
+    if ((mcr & MCR_OUT1) != 0)
+        inputs |= LEVEL_RI;
+    if ((mcr & MCR_OUT2) != 0)
+        inputs |= LEVEL_DCD;
+    return inputs;
+}
+
+unsigned channel_inputs(const struct channel *channel)
+{
+    return channel_in_loopback(channel) ? inputs_fed(channel->mcr) : channel->modem_levels;
+}
+
+void channel_note_changes(struct channel *channel, unsigned inputs_before)
+{
+    unsigned inputs = channel_inputs(channel);
+    unsigned changed = inputs_before ^ inputs;
+    unsigned fallen = inputs_before & ~inputs;
+    /* "bits 0, 1, 3 set when CTS, DSR, DCD change; bit 2 when RI goes from
+       active to inactive" */
+    channel->modem_changes |= changed & (LEVEL_CTS | LEVEL_DSR | LEVEL_DCD);
+    channel->modem_changes |= fallen & LEVEL_RI;
+}
+
 unsigned channel_msr(const struct channel *channel)
 {
     /* "bits 4-7 CTS, DSR, RI, DCD": the order of the levels 1, 2, 4, 8. */
-    return channel->modem_levels << 4 | channel->modem_changes;
+    return channel_inputs(channel) << 4 | channel->modem_changes;
 }
 
 bool channel_trigger_reached(const struct channel *channel)

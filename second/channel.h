@@ -26,8 +26,20 @@
 #define LCR_BREAK 0x40U
 #define LCR_DIVISOR 0x80U
 
-#define MCR_LINE 0x08U
+/* Document 004, MCR: "Loop", "OUT2", "OUT1", "(RTS)", "(DTR)". OUT2 is also
+   what lets the line rise. */
+#define MCR_DTR 0x01U
+#define MCR_RTS 0x02U
+#define MCR_OUT1 0x04U
+#define MCR_OUT2 0x08U
+#define MCR_LINE MCR_OUT2
 #define MCR_LOOP 0x10U
+
+/* "levels (1 CTS, 2 DSR, 4 RI, 8 DCD; set = active)" */
+#define LEVEL_CTS 1U
+#define LEVEL_DSR 2U
+#define LEVEL_RI 4U
+#define LEVEL_DCD 8U
 
 #define LSR_DATA 0x01U
 #define LSR_OVERRUN 0x02U
@@ -54,7 +66,7 @@ struct channel {
     unsigned divisor_low;
     unsigned divisor_high;
     unsigned scratch;
-    unsigned modem_levels;
+    unsigned modem_levels; /* as last given; in loopback "only remembered" */
     unsigned modem_changes; /* MSR bits 0-3 */
     unsigned last_byte_read;
     unsigned kept_marks;
@@ -73,6 +85,17 @@ unsigned channel_trigger(const struct channel *channel);
 bool channel_trigger_reached(const struct channel *channel);
 unsigned channel_lsr(const struct channel *channel);
 unsigned channel_msr(const struct channel *channel);
+
+/* Ticket 7: "Document 004 has it at MCR bit 4." */
+bool channel_in_loopback(const struct channel *channel);
+
+/* The modem inputs as the channel hears them: the levels given or, in loopback,
+   what MCR feeds. */
+unsigned channel_inputs(const struct channel *channel);
+
+/* Sets the change bits for what the inputs were before and are now. */
+void channel_note_changes(struct channel *channel, unsigned inputs_before);
+
 unsigned channel_cause(const struct channel *channel);
 
 /* "The seat's line is high exactly if a cause is named and MCR bit 3 is set." */

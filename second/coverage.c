@@ -30,6 +30,7 @@ static void tally_moment(struct tally *tally, const struct moment *moment)
 {
     tally->events += 1;
     tally_letter(tally, moment);
+    tally_loopback(tally, moment);
     if (moment->outcome.refusal != REFUSAL_NONE) {
         tally_refusal(tally, moment);
         return;
@@ -48,6 +49,10 @@ static void tally_trial(struct tally *tally, struct trial trial)
     struct bench bench = starts[trial.start]();
     struct stream stream = stream_begin(trial.seed, trial.set);
     tally->watches = (struct watches){0};
+    for (unsigned seat = 0; seat < SEATS; seat += 1) {
+        tally->given[seat] = false;
+        tally->moved_inside[seat] = false;
+    }
     for (uint64_t i = 0; i < trial.count; i += 1) {
         struct bench before = bench;
         struct event event = stream_next(&stream);

@@ -1,7 +1,7 @@
 /* "15 exactly for a field outside its range in document 01 (MCR to 0F,
    yes-or-no to 1), a queue beyond its capacity, a time-out count above 0 in
    16450 mode or with nothing queued, a latch set on a low line, or an unused
-   byte not 0" */
+   byte not 0". Ticket 7: "A saved MCR may now be up to 1F." */
 #include "image_grounds.h"
 
 #include <stddef.h>
@@ -26,7 +26,7 @@ static const struct limit controller_limits[] = {
 
 static const struct limit seat_limits[] = {
     {SEAT_AT_IER, 0x0F, GROUND_IER},
-    {SEAT_AT_MCR, 0x0F, GROUND_MCR},
+    {SEAT_AT_MCR, 0x1F, GROUND_MCR},
     {SEAT_AT_CHANGES, 0x0F, GROUND_CHANGES},
     {SEAT_AT_LEVELS, 0x0F, GROUND_LEVELS},
     {SEAT_AT_OVERRUN, 1, GROUND_OVERRUN},

@@ -13,7 +13,7 @@
     ITEM(ROTATION, "its rotation above 1") ITEM(SELECTION, "selection for port 0 above 1") \
     ITEM(LATCH_EDGE, "latch on a low line in edge mode") \
     ITEM(LATCH_LEVEL, "latch on a low line in level mode") \
-    ITEM(IER, "IER above 0F") ITEM(FCR, "FCR of no mode") ITEM(MCR, "MCR above 0F") \
+    ITEM(IER, "IER above 0F") ITEM(FCR, "FCR of no mode") ITEM(MCR, "MCR above 1F") \
     ITEM(CHANGES, "MSR bits 0-3 above 0F") ITEM(LEVELS, "modem levels above 0F") \
     ITEM(OVERRUN, "overrun above 1") ITEM(KEPT, "kept marks above 7") \
     ITEM(FLAG, "holding-empty flag above 1") ITEM(TIMEOUT, "time-out count above 4") \

@@ -14,6 +14,9 @@ static const char *const ground_words[] = {GROUND_ITEMS(GROUND_WORDS)};
 #define RESTORED_WORDS(name, words) words,
 static const char *const restored_words[] = {RESTORED_ITEMS(RESTORED_WORDS)};
 
+#define LOOPED_WORDS(name, words) words,
+static const char *const looped_words[] = {LOOPED_ITEMS(LOOPED_WORDS)};
+
 static const char *const count_words[TIMEOUT_COUNTS] = {"0", "1", "2", "3", "4"};
 
 /* The same field of every seat is one. */
@@ -59,7 +62,7 @@ static void tally_lost(struct image_tally *tally, const struct moment *moment)
     struct event event = moment->event;
     const struct channel *before = &moment->before->seats[event.seat];
     const struct channel *after = &moment->after->seats[event.seat];
-    bool lost = event.kind == KIND_ARRIVAL && before->receive.count == PLACES_FIFO;
+    bool lost = moment_arrives(moment) && before->receive.count == PLACES_FIFO;
     if (lost && before->timeout_count > 0)
         tally->lost_at[event.seat] = before->timeout_count;
     if (event.kind == KIND_CHARACTER_TIME || after->receive.count < PLACES_FIFO)
@@ -86,11 +89,31 @@ static void tally_left(struct image_tally *tally, const uint8_t image[IMAGE_BYTE
     }
 }
 
+static void looped_if(struct image_tally *tally, bool reached, enum looped item)
+{
+    if (reached)
+        tally->looped[item] += 1;
+}
+
+static void tally_inside(struct image_tally *tally, const struct bench *bench)
+{
+    for (unsigned seat = 0; seat < SEATS; seat += 1) {
+        const struct channel *channel = &bench->seats[seat];
+        bool inside = channel_in_loopback(channel);
+        bool other = channel_inputs(channel) != channel->modem_levels;
+        looped_if(tally, inside, LOOPED_SAVED);
+        looped_if(tally, inside && other, LOOPED_SAVED_OTHER);
+        looped_if(tally, inside && channel->modem_changes != 0, LOOPED_SAVED_CHANGES);
+        looped_if(tally, inside && channel->shift_full, LOOPED_SAVED_LEAVING);
+    }
+}
+
 void image_tally_stop(struct image_tally *tally, const uint8_t image[IMAGE_BYTES])
 {
     struct bench bench = image_fields(image);
     tally->stops += 1;
     tally_left(tally, image);
+    tally_inside(tally, &bench);
     watches_restore(&tally->watches, &bench);
     for (unsigned i = 0; i < IMAGE_BYTES; i += 1)
         if (image[i] != 0)
@@ -118,11 +141,31 @@ static void tally_refusal_12(struct image_tally *tally, const struct damage *dam
         tally->too_short_for_header += 1;
 }
 
+/* An MCR was the only byte wounded. */
+static void tally_mcr(struct image_tally *tally, const struct damage *damage)
+{
+    unsigned was = damage->was;
+    unsigned is = damage->lent[damage->place + damage->position];
+    bool read = damage->refusal == REFUSAL_NONE;
+    looped_if(tally, read && (is & ~was & MCR_LOOP) != 0, LOOPED_READ);
+    looped_if(tally, read && (was & ~is & MCR_LOOP) != 0, LOOPED_READ_OUT);
+    looped_if(tally, read && is == 0x1F && was != 0x1F, LOOPED_READ_1F);
+    looped_if(tally, damage->refusal == REFUSAL_NO_BENCH && is == 0x20, LOOPED_REFUSED_20);
+}
+
+/* One byte was wounded, and all of the image was lent. */
+static void tally_wounded(struct image_tally *tally, const struct damage *damage)
+{
+    tally->wounded[damage->position] += 1;
+    if (field_of(damage->position) == IMAGE_AT_SEATS + SEAT_AT_MCR)
+        tally_mcr(tally, damage);
+}
+
 void image_tally_damage(struct image_tally *tally, const struct damage *damage)
 {
     tally->damages += 1;
     if (has_bytes(damage, IMAGE_BYTES) && damage->position < IMAGE_BYTES)
-        tally->wounded[damage->position] += 1;
+        tally_wounded(tally, damage);
     switch (damage->refusal) {
     case REFUSAL_NONE: tally->read += 1; break;
     case REFUSAL_NO_ROOM: tally_refusal_12(tally, damage); break;
@@ -168,6 +211,8 @@ int image_tally_print(const struct image_tally *tally)
                              count_words[i]);
     for (unsigned i = 0; i < RESTORED_COUNT; i += 1)
         result |= print_item(tally->restored[i], "letter from a saved bench, ", restored_words[i]);
+    for (unsigned i = 0; i < LOOPED_COUNT; i += 1)
+        result |= print_item(tally->looped[i], looped_words[i], "");
     result |= print_some(tally->damages, DAMAGES_LEAST, "damaged images", "");
     result |= print_item(tally->read, "damaged images ", "read");
     result |= print_some(tally->written_back, tally->read, "damaged images ",

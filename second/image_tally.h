@@ -26,6 +26,21 @@
 enum restored { RESTORED_ITEMS(RESTORED_NAME) RESTORED_COUNT };
 #undef RESTORED_NAME
 
+/* Ticket 7: "A saved MCR may now be up to 1F." Inside is with MCR bit 4 set. */
+#define LOOPED_ITEMS(ITEM) \
+    ITEM(SAVED, "saved seats inside") \
+    ITEM(SAVED_OTHER, "saved seats inside with levels that are not the inputs") \
+    ITEM(SAVED_CHANGES, "saved seats inside with a change bit") \
+    ITEM(SAVED_LEAVING, "saved seats inside with a character that is to leave") \
+    ITEM(READ, "damaged images read whose only wound put a seat inside") \
+    ITEM(READ_OUT, "damaged images read whose only wound put a seat outside") \
+    ITEM(READ_1F, "damaged images read whose only wound made MCR 1F") \
+    ITEM(REFUSED_20, "damaged images refused by 15 whose only wound made MCR 20")
+
+#define LOOPED_NAME(name, words) LOOPED_##name,
+enum looped { LOOPED_ITEMS(LOOPED_NAME) LOOPED_COUNT };
+#undef LOOPED_NAME
+
 /* What the trials of saved benches reach. */
 struct image_tally {
     uint64_t stops;
@@ -34,6 +49,7 @@ struct image_tally {
     uint64_t left[TIMEOUT_COUNTS]; /* saved benches with a seat as such an arrival left it */
     struct watches watches;
     uint64_t restored[RESTORED_COUNT];
+    uint64_t looped[LOOPED_COUNT];
     uint64_t damages;
     uint64_t read;
     uint64_t written_back; /* as they were read */
@@ -47,12 +63,13 @@ struct image_tally {
 };
 
 /* A damaged image as it was lent, and what came of it. The position is that of
-   its only wound; IMAGE_BYTES if there were two. */
+   its only wound, with the byte that stood there; IMAGE_BYTES if there were two. */
 struct damage {
     const uint8_t *lent;
     size_t length;
     uint64_t place;
     unsigned position;
+    uint8_t was;
     enum refusal refusal;
 };
 

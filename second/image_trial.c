@@ -25,6 +25,7 @@
 const struct trial image_trials[IMAGE_TRIALS] = {
     {101, 20000, 0, 0}, {102, 20000, 0, 0}, {103, 20000, 0, 0}, {104, 20000, 0, 0},
     {105, 20000, 0, 0}, {106, 20000, 0, 0}, {107, 20000, 0, 0}, {108, 20000, 0, 0},
+    {109, 20000, 1, 0}, {112, 20000, 1, 0},
 };
 
 struct buffer {
@@ -132,17 +133,29 @@ static unsigned wound_once_or_twice(struct image_trial *trial, uint8_t *image)
     return IMAGE_BYTES;
 }
 
+/* A damage for the tally alone. The byte that stood at a position is that of the
+   image before its wound. */
+static void tally_damage(const struct image_trial *trial, const struct kept *kept,
+                         struct damage damage)
+{
+    if (trial->tally == NULL)
+        return;
+    if (damage.position < IMAGE_BYTES)
+        damage.was = kept->buffer.bytes[kept->place + damage.position];
+    image_tally_damage(trial->tally, &damage);
+}
+
 /* The copy of the image is damaged and restored. */
-static enum refusal restore_damaged(struct image_trial *trial, struct kept *copy)
+static enum refusal restore_damaged(struct image_trial *trial, const struct kept *kept,
+                                    struct kept *copy)
 {
     unsigned position = wound_once_or_twice(trial, copy->buffer.bytes + copy->place);
     unsigned way = pick(trial, 24);
     struct lending lending = damage_lending(way, pick_spot(&trial->picker), copy->place);
     const uint8_t *bytes = copy->buffer.bytes;
     enum refusal refusal = image_restore(&trial->other, bytes, lending.length, lending.place);
-    if (trial->tally != NULL)
-        image_tally_damage(trial->tally, &(struct damage){bytes, lending.length, lending.place,
-                                                          position, refusal});
+    tally_damage(trial, kept, (struct damage){bytes, lending.length, lending.place, position, 0,
+                                              refusal});
     return refusal;
 }
 
@@ -158,7 +171,7 @@ static void compare_back(struct image_trial *trial, const struct kept *read,
 static void damage(struct image_trial *trial, const struct kept *kept, unsigned number)
 {
     struct kept copy = *kept;
-    enum refusal refusal = restore_damaged(trial, &copy);
+    enum refusal refusal = restore_damaged(trial, kept, &copy);
     bool is_read = refusal == REFUSAL_NONE;
     add(trial, refusal);
     if (is_read || number % KEPT_EACH == 0) {

@@ -119,14 +119,14 @@ static void write_fcr(struct channel *channel, unsigned byte)
     channel->fcr = fifo ? byte & 0xC9U : 0;
 }
 
-static struct outcome write_mcr(struct channel *channel, unsigned byte)
+static void write_mcr(struct channel *channel, unsigned byte)
 {
-    /* "not served: .. MCR write with bit 4 set" */
-    if ((byte & MCR_LOOP) != 0)
-        return refused(REFUSAL_NOT_SERVED);
+    unsigned inputs_before = channel_inputs(channel);
     /* "MCR its low 5" */
     channel->mcr = byte & 0x1FU;
-    return accepted(0);
+    /* "with change bits as for real inputs, also where a write of MCR enters or
+       leaves". Outside loopback the inputs are the same before and after. */
+    channel_note_changes(channel, inputs_before);
 }
 
 /* "With LCR bit 7 set, 0 and 1 are DLL and DLM, for reads and writes." */
@@ -150,7 +150,7 @@ struct outcome channel_write(struct channel *channel, unsigned number, unsigned 
     case 1: write_0_or_1(channel, number, byte); return accepted(0);
     case 2: write_fcr(channel, byte); return accepted(0);
     case 3: channel->lcr = byte; return accepted(0);
-    case 4: return write_mcr(channel, byte);
+    case 4: write_mcr(channel, byte); return accepted(0);
     /* "Writes to LSR and MSR are accepted and change nothing." */
     case 5:
     case 6: return accepted(0);

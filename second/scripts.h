@@ -15,7 +15,7 @@ struct row {
     uint8_t times_most;
 };
 
-#define SCRIPTS 61U
+#define SCRIPTS 74U
 
 extern const struct row rows[];
 extern const uint16_t first_row[SCRIPTS + 1];

@@ -8,7 +8,7 @@
 #define MOODS 8U
 #define PICKS 16U
 #define SPOILS 12U
-#define SETS 1U
+#define SETS 2U
 
 struct spoil {
     uint8_t which; /* byte of the record: 0 kind, 1 seat, 2 number, 3 value */

@@ -8,6 +8,7 @@
 
 #include "image.h"
 #include "letter_spoons.h"
+#include "loopback_spoons.h"
 #include "output.h"
 #include "steps.h"
 
@@ -202,5 +203,6 @@ int spoons_run(void)
 {
     int own = run_each(spoons, sizeof spoons / sizeof spoons[0]);
     int letters = run_each(letter_spoons, LETTER_SPOONS);
-    return output_result(own | letters);
+    int loopback = run_each(loopback_spoons, LOOPBACK_SPOONS);
+    return output_result(own | letters | loopback);
 }

@@ -5,6 +5,7 @@
 #include <stdint.h>
 
 #include "bench.h"
+#include "loopback_items.h"
 #include "watch.h"
 
 /* What the trial streams are to reach, each with the words it is printed by. */
@@ -48,7 +49,7 @@
     ITEM(REFUSED_8_PORT_0, "refusal 8, port 0 write") \
     ITEM(REFUSED_8_PORT_1, "refusal 8, port 1 write before any ICW1") \
     ITEM(REFUSED_9_ICW1, "refusal 9, ICW1") ITEM(REFUSED_9_ICW4, "refusal 9, ICW4") \
-    ITEM(REFUSED_9_OCW3, "refusal 9, OCW3") ITEM(REFUSED_9_MCR, "refusal 9, MCR") \
+    ITEM(REFUSED_9_OCW3, "refusal 9, OCW3") \
     ITEM(IIR_06, "IIR 06") ITEM(IIR_04, "IIR 04") ITEM(IIR_02, "IIR 02") \
     ITEM(IIR_00, "IIR 00") ITEM(IIR_01, "IIR 01") \
     ITEM(IIR_C6, "IIR C6") ITEM(IIR_C4, "IIR C4") ITEM(IIR_CC, "IIR CC") \
@@ -206,7 +207,8 @@
     ITEM(LAST_0, "line 0 becomes last-ranked") ITEM(LAST_1, "line 1 becomes last-ranked") \
     ITEM(LAST_2, "line 2 becomes last-ranked") ITEM(LAST_3, "line 3 becomes last-ranked") \
     ITEM(LAST_4, "line 4 becomes last-ranked") ITEM(LAST_5, "line 5 becomes last-ranked") \
-    ITEM(LAST_6, "line 6 becomes last-ranked") ITEM(LAST_7, "line 7 becomes last-ranked")
+    ITEM(LAST_6, "line 6 becomes last-ranked") ITEM(LAST_7, "line 7 becomes last-ranked") \
+    LOOPBACK_ITEMS(ITEM)
 
 #define TALLY_NAME(name, words) TALLY_##name,
 enum tally_item { TALLY_ITEMS(TALLY_NAME) TALLY_COUNT };
@@ -218,6 +220,8 @@ struct tally {
     uint64_t reached[TALLY_COUNT];
     bool left[SEATS]; /* the seat's time-out stood at an arrival and stands since */
     struct watches watches;
+    bool given[SEATS];        /* levels were given inside since the seat's last MCR write */
+    bool moved_inside[SEATS]; /* the seat's last character time was inside */
 };
 
 void tally_if(struct tally *tally, bool reached, enum tally_item item);
@@ -229,6 +233,7 @@ void tally_refusal(struct tally *tally, const struct moment *moment);
 void tally_seat(struct tally *tally, const struct moment *moment);
 void tally_timeout(struct tally *tally, const struct moment *moment);
 void tally_letter(struct tally *tally, const struct moment *moment);
+void tally_loopback(struct tally *tally, const struct moment *moment);
 void tally_controller(struct tally *tally, const struct moment *moment);
 
 #endif

@@ -80,13 +80,11 @@ static void tally_not_ready(struct tally *tally, const struct moment *moment)
 
 static void tally_unserved(struct tally *tally, const struct moment *moment)
 {
-    bool seat = moment->event.kind == KIND_WRITE_REGISTER;
-    bool port_0 = !seat && moment->event.number == 0;
+    bool port_0 = moment->event.number == 0;
     bool icw1 = (moment->event.value & 0x10U) != 0;
-    tally_if(tally, seat, TALLY_REFUSED_9_MCR);
     tally_if(tally, port_0 && icw1, TALLY_REFUSED_9_ICW1);
     tally_if(tally, port_0 && !icw1, TALLY_REFUSED_9_OCW3);
-    tally_if(tally, !seat && !port_0, TALLY_REFUSED_9_ICW4);
+    tally_if(tally, !port_0, TALLY_REFUSED_9_ICW4);
 }
 
 void tally_refusal(struct tally *tally, const struct moment *moment)

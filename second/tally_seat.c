@@ -149,6 +149,9 @@ void tally_seat(struct tally *tally, const struct moment *moment)
     bool registers = moment->event.kind <= KIND_WRITE_REGISTER;
     tally_if(tally, moment->event.seat == 7, TALLY_EDGE_SEAT_7);
     tally_if(tally, registers && moment->event.number == 7, TALLY_EDGE_REGISTER_7);
+    /* In loopback the last three are others: tally_loopback. */
+    if (!registers && channel_in_loopback(seat_before(moment)))
+        return;
     switch (moment->event.kind) {
     case KIND_READ_REGISTER: tally_read(tally, moment); break;
     case KIND_WRITE_REGISTER: tally_write(tally, moment); break;

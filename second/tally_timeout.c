@@ -39,14 +39,15 @@ static void tally_left(struct tally *tally, const struct moment *moment)
     tally_if(tally, shown && number == 1, TALLY_LEFT_IER);
     tally_if(tally, shown && number == 2, TALLY_LEFT_TRIGGER);
     tally_if(tally, write && number == 2 && queue_is_empty(&after->receive), TALLY_LEFT_EMPTIED);
-    tally_if(tally, moment->event.kind == KIND_ARRIVAL, TALLY_LEFT_ARRIVAL);
+    tally_if(tally, moment_arrives(moment), TALLY_LEFT_ARRIVAL);
     tally_if(tally, moment->event.kind == KIND_CHARACTER_TIME, TALLY_LEFT_TIME);
 }
 
 void tally_timeout(struct tally *tally, const struct moment *moment)
 {
     unsigned seat = moment->event.seat;
-    bool arrival = moment->event.kind == KIND_ARRIVAL;
+    /* One that comes in: "an arrival changes nothing" in loopback. */
+    bool arrival = moment_arrives(moment);
     bool stands = moment->before->seats[seat].timeout_count == 4;
     /* Between two events of a seat only a master reset or a new stream changes its count, to 0. */
     bool left = tally->left[seat] && stands;

@@ -11,7 +11,7 @@ struct trial {
     unsigned start; /* below STARTS */
 };
 
-#define TRIALS 16U
+#define TRIALS 20U
 
 /* The streams that are run each time. */
 extern const struct trial trials[TRIALS];

@@ -1,12 +1,25 @@
 #include "watch.h"
 
+bool moment_arrives(const struct moment *moment)
+{
+    return moment->event.kind == KIND_ARRIVAL
+        && !channel_in_loopback(&moment->before->seats[moment->event.seat]);
+}
+
+bool moment_receives(const struct moment *moment)
+{
+    const struct channel *before = &moment->before->seats[moment->event.seat];
+    bool leaves = moment->event.kind == KIND_CHARACTER_TIME && before->shift_full;
+    return moment_arrives(moment) || (leaves && channel_in_loopback(before));
+}
+
 /* All the places of a queue. */
 static unsigned all_of(const struct queue *queue)
 {
     return (1U << queue->count) - 1U;
 }
 
-static void watch_arrival(struct watch *watch, const struct channel *before)
+static void watch_received(struct watch *watch, const struct channel *before)
 {
     bool full = before->receive.count == channel_places(before);
     watch->emptied = false;
@@ -55,8 +68,8 @@ static void watch_seat(struct watch *watch, const struct moment *moment)
     const struct channel *after = &moment->after->seats[moment->event.seat];
     bool reads = moment->event.kind == KIND_READ_REGISTER;
     bool writes = moment->event.kind == KIND_WRITE_REGISTER;
-    if (moment->event.kind == KIND_ARRIVAL)
-        watch_arrival(watch, before);
+    if (moment_receives(moment))
+        watch_received(watch, before);
     if (reads && moment->event.number == 5)
         watch_lsr(watch, before);
     if (reads && moment->event.number == 0 && (before->lcr & LCR_DIVISOR) == 0)

@@ -13,6 +13,11 @@ struct moment {
     struct outcome outcome;
 };
 
+/* Of an accepted event of a seat: a character comes in, from the wire; or so, or
+   from the shift register. In loopback "an arrival changes nothing". */
+bool moment_arrives(const struct moment *moment);
+bool moment_receives(const struct moment *moment);
+
 /* What has become of the characters in a seat's receive queue and cannot be
    told from the queue any more: for the tallies alone. Sets of characters hold
    the one at place n as bit n, the oldest as bit 0. */

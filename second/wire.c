@@ -18,14 +18,9 @@ static enum refusal refusal_of_arrival(const struct channel *channel, struct cha
     return REFUSAL_NONE;
 }
 
-struct outcome channel_arrival(struct channel *channel, struct character character)
+/* What comes in, from the wire or in loopback from the shift register. */
+static void receive(struct channel *channel, struct character character)
 {
-    if (channel_divisor_is_zero(channel))
-        return refused(REFUSAL_NO_DIVISOR);
-    enum refusal refusal = refusal_of_arrival(channel, character);
-    if (refusal != REFUSAL_NONE)
-        return refused(refusal);
-
     bool fifo = channel_in_fifo_mode(channel);
     bool full = channel->receive.count == channel_places(channel);
     if (full)
@@ -41,6 +36,18 @@ struct outcome channel_arrival(struct channel *channel, struct character charact
     /* Ticket 5: "an arrival leaves a count of 4 at 4 and sets a smaller one to 0" */
     if (channel->timeout_count < 4)
         channel->timeout_count = 0;
+}
+
+struct outcome channel_arrival(struct channel *channel, struct character character)
+{
+    if (channel_divisor_is_zero(channel))
+        return refused(REFUSAL_NO_DIVISOR);
+    enum refusal refusal = refusal_of_arrival(channel, character);
+    if (refusal != REFUSAL_NONE)
+        return refused(refusal);
+    /* Ticket 7: "arrivals .. are checked as before, but an arrival changes nothing" */
+    if (!channel_in_loopback(channel))
+        receive(channel, character);
     return accepted(0);
 }
 
@@ -48,11 +55,11 @@ struct outcome channel_modem_inputs(struct channel *channel, unsigned levels)
 {
     if (levels > 15)
         return refused(REFUSAL_LEVELS_ABOVE);
-    unsigned changed = channel->modem_levels ^ levels;
-    /* "bits 0, 1, 3 set when CTS, DSR, DCD change; bit 2 when RI goes from
-       active to inactive" */
-    channel->modem_changes |= (changed & 0xBU) | (changed & channel->modem_levels & 0x4U);
+    unsigned inputs_before = channel_inputs(channel);
     channel->modem_levels = levels;
+    /* "modem levels are only remembered": in loopback they are not the inputs,
+       which are the same before and after. */
+    channel_note_changes(channel, inputs_before);
     return accepted(0);
 }
 
@@ -79,24 +86,38 @@ static void move_oldest_in(struct channel *channel)
         channel->holding_empty = true;
 }
 
+/* What goes out on the wire by a character time; ANSWER_IDLE if nothing does. */
+static unsigned answer_to_time(const struct channel *channel, unsigned sent)
+{
+    /* Ticket 7: "the answer is 100, even with break set" */
+    if (channel_in_loopback(channel))
+        return ANSWER_IDLE;
+    /* "With LCR bit 6 set the answer is 200, and all else goes on." */
+    return (channel->lcr & LCR_BREAK) != 0 ? ANSWER_BREAK : sent;
+}
+
 struct outcome channel_character_time(struct channel *channel)
 {
     if (channel_divisor_is_zero(channel))
         return refused(REFUSAL_NO_DIVISOR);
     unsigned sent = let_character_leave(channel);
+    /* Ticket 7: "the character that leaves is received at once, cut to the word
+       length and without marks, before the next one moves in" */
+    if (channel_in_loopback(channel) && sent != ANSWER_IDLE)
+        receive(channel, (struct character){sent, 0});
     move_oldest_in(channel);
     /* "in FIFO mode with a character in the receive queue the time-out count
        rises, up to 4" */
     if (channel_in_fifo_mode(channel) && !queue_is_empty(&channel->receive)
         && channel->timeout_count < 4)
         channel->timeout_count += 1;
-    /* "With LCR bit 6 set the answer is 200, and all else goes on." */
-    return accepted((channel->lcr & LCR_BREAK) != 0 ? ANSWER_BREAK : sent);
+    return accepted(answer_to_time(channel, sent));
 }
 
 void channel_master_reset(struct channel *channel)
 {
-    /* "divisor, scratch, modem levels and last byte read kept" */
+    /* "divisor, scratch, modem levels and last byte read kept". The inputs may
+       be others after it, by which "a master reset sets none". */
     *channel = (struct channel){
         .divisor_low = channel->divisor_low,
         .divisor_high = channel->divisor_high,

@@ -46,11 +46,17 @@ static int same_places(const struct hailstoat_bench *lent, const struct bench *s
     return 1;
 }
 
+/* Document 004, of MCR bit 4: "The modem control output terminals are forced to their inactive (high) state". */
+static unsigned active_outputs(unsigned mcr)
+{
+    return (mcr & HAILSTOAT_MCR_LOOP) != 0 ? 0 : mcr & OUTPUTS;
+}
+
 static int same_outputs(const struct hailstoat_bench *lent, const struct bench *second, uint32_t seat)
 {
     struct outcome outcome = refused(REFUSAL_SEAT_ABOVE);
     if (seat < SEATS)
-        outcome = accepted(second->seats[seat].mcr & OUTPUTS);
+        outcome = accepted(active_outputs(second->seats[seat].mcr));
     return told(hailstoat_modem_outputs(lent, seat), outcome, 0);
 }
 

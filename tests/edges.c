@@ -1,14 +1,15 @@
 /* Each number by which an event is refused at its edges, and their order:
-   document 01's list, and ticket 4 of document 02. */
+   document 01's list, and tickets 4 and 7 of document 02. */
 #include "edges.h"
 
 #include <string.h>
 
 /* From power-up: divisor 1 with five bits and no parity, with eight bits, with
-   eight bits and parity; a controller after ICW2, and one that is ready. */
+   eight bits and parity; loopback; a controller after ICW2, and one that is ready. */
 #define FIVE_BITS {{1, 0, 3, 0x80}, {1, 0, 0, 1}, {1, 0, 3, 0x00}}, 3
 #define EIGHT_BITS {{1, 0, 3, 0x80}, {1, 0, 0, 1}, {1, 0, 3, 0x03}}, 3
 #define PARITY {{1, 0, 3, 0x80}, {1, 0, 0, 1}, {1, 0, 3, 0x0B}}, 3
+#define LOOPBACK {{1, 0, 4, 0x1F}}, 1
 #define AWAITS_ICW4 {{7, 0, 0, 0x13}, {7, 0, 1, 0x40}}, 2
 #define READY {{7, 0, 0, 0x13}, {7, 0, 1, 0x40}, {7, 0, 1, 0x01}}, 3
 #define POWER_UP {{0}}, 0
@@ -45,7 +46,8 @@ const struct edge edge_list[] = {
     {"ICW1 with bit 1, without", POWER_UP, {7, 0, 0, 0x13}, {7, 0, 0, 0x11}, 9},
     {"ICW4 with bit 0, without", AWAITS_ICW4, {7, 0, 1, 0x03}, {7, 0, 1, 0x02}, 9},
     {"OCW3 without bit 2, with", READY, {7, 0, 0, 0x0A}, {7, 0, 0, 0x0E}, 9},
-    {"MCR 0F, 10", POWER_UP, {1, 0, 4, 0x0F}, {1, 0, 4, 0x10}, 9},
+    {"modem levels 15, 16 in loopback", LOOPBACK, {3, 0, 0, 15}, {3, 0, 0, 16}, 7},
+    {"a write of MCR in loopback, an arrival without a divisor", LOOPBACK, {1, 0, 4, 0xFF}, {2, 0, 0, 1}, 5},
     {"order: kind before seat and register", POWER_UP, {5, 8, 8, 0}, {9, 8, 8, 0}, 3},
     {"order: seat before register", POWER_UP, {1, 7, 7, 0x10}, {1, 8, 8, 0x10}, 1},
     {"order: divisor before marks", FIVE_BITS, {2, 0, 0, 0}, {2, 1, 8, 0xFF}, 5},

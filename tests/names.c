@@ -196,11 +196,30 @@ static void modem_outputs(void)
         is("MCR", play(HAILSTOAT_READ_REGISTER, seat, HAILSTOAT_MCR, 0), bits[seat % 4]);
         is("the modem outputs", hailstoat_word_answer(hailstoat_modem_outputs(&worked, seat)), bits[seat % 4]);
     }
-    is_refused("MCR_LOOP", HAILSTOAT_WRITE_REGISTER, HAILSTOAT_MCR, HAILSTOAT_MCR_LOOP, HAILSTOAT_NOT_SERVED);
     is("seat 8", hailstoat_word_refusal(hailstoat_modem_outputs(&worked, 8)), HAILSTOAT_SEAT_ABOVE);
     is("seat 258", hailstoat_word_refusal(hailstoat_modem_outputs(&worked, 258)), HAILSTOAT_SEAT_ABOVE);
     play(HAILSTOAT_MASTER_RESET, 0, 0, 0);
     is("the modem outputs after a master reset", hailstoat_word_answer(hailstoat_modem_outputs(&worked, 3)), 0);
+}
+
+/* In loopback a seat hears itself and nothing else, and whoever is wired to it sees no output. */
+static void loopback(void)
+{
+    set_up(0);
+    writes(0, HAILSTOAT_MCR, HAILSTOAT_MCR_LOOP | HAILSTOAT_MCR_RTS | HAILSTOAT_MCR_OUT2);
+    reads("MCR in loopback", HAILSTOAT_MCR, 0x1A);
+    is("the modem outputs in loopback", hailstoat_word_answer(hailstoat_modem_outputs(&worked, 0)), 0);
+    reads("RTS and OUT2, fed back", HAILSTOAT_MSR,
+          HAILSTOAT_MSR_CTS | HAILSTOAT_MSR_DCD | HAILSTOAT_MSR_CTS_CHANGED | HAILSTOAT_MSR_DCD_CHANGED);
+    arrives(0, 0x42);
+    writes(0, HAILSTOAT_THR, 0x41);
+    time_passes("41 moves in", HAILSTOAT_IDLE);
+    time_passes("41 comes back", HAILSTOAT_IDLE);
+    reads_letter("what was sent", 0x41, 0, 0);
+    reads("LSR, all read", HAILSTOAT_LSR, HAILSTOAT_LSR_HOLDING_EMPTY | HAILSTOAT_LSR_EMPTY);
+    writes(0, HAILSTOAT_MCR, HAILSTOAT_MCR_RTS);
+    is("the modem outputs outside it", hailstoat_word_answer(hailstoat_modem_outputs(&worked, 0)), HAILSTOAT_MCR_RTS);
+    reads("neither CTS nor DCD outside it", HAILSTOAT_MSR, HAILSTOAT_MSR_CTS_CHANGED | HAILSTOAT_MSR_DCD_CHANGED);
 }
 
 /* They do nothing: of IER and MCR they read 0, of LCR as written. */
@@ -243,7 +262,7 @@ static void arrivals_that_cannot_be(void)
 void names_mean(void)
 {
     static void (*const parts[])(void) = {divisor_and_scratch, line_status, queues, letters_in_fifo_mode,
-                                          letters_in_16450_mode, triggers, causes, levels, sending, modem_outputs,
+                                          letters_in_16450_mode, triggers, causes, levels, sending, modem_outputs, loopback,
                                           bits_without_a_name, all_refusals_have_words, arrivals_that_cannot_be};
     size_t count = each_from_power_up(parts, sizeof parts / sizeof parts[0]) + controller_names_mean();
     printf("names: %zu ways to work a bench by them, each as the documents have it\n", count);

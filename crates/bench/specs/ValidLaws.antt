@@ -82,7 +82,7 @@ sound-reset (x ∷ l) all =
     rw (reset-sound x (h .0), sound-reset l (h .1))
 
 module _ (b : Bench) (s : Sound b) where
-  at-seat : (n : ℕ) → sound (seat b n) ≡ true
+  pub at-seat : (n : ℕ) → sound (seat b n) ≡ true
   unfolding seat
   at-seat n = sound-at (b .seats) (chair n) noSeat (s .seats) (subst (λ (k : ℕ). chair n < k) (sym (s .wired .all)) (chair-small n))
 

@@ -8,18 +8,19 @@ use Rattle.base.specs.Bits.{bit, digit, bits}
 use Rattle.base.specs.Answers.{valueOf, isLetter}
 use Rattle.base.specs.Refusals.{firstOf, refusalBy}
 use Rattle.queue.specs.Queue.{room, entered, replaced, capacity, accepted, movedDown, taken, oldest, unmarked, anyMarked, marked}
-use Rattle.receiver.specs.Receiver.{noneQueued, received, got, shownMarks, someMarked, lsrSeen, cleared, afterModeChange, dataStands, timeoutStands}
-use Rattle.transmitter.specs.Transmitter.{noneWaiting, allSent, flagSetIf, written, emptied, enabled}
-use Rattle.registers.specs.Words.{trigger}
+use Rattle.receiver.specs.Receiver.{noneQueued, received, got, shownMarks, someMarked, lsrSeen, cleared, afterModeChange, dataStands, timeoutStands, waited}
+use Rattle.transmitter.specs.Transmitter.{noneWaiting, allSent, flagSetIf, written, next, shifted, emptied, enabled}
+use Rattle.registers.specs.Words.{trigger, cut}
 use Rattle.registers.specs.Registers.{plainRegister, registerAt, fcrKept}
-use Rattle.registers.specs.Modem.{msrOf, someChange}
+use Rattle.registers.specs.Modem.{msrOf, changesAfter, someChange}
+use Rattle.registers.specs.Loopback.{inputsOf}
 use Rattle.channel.specs.declared.Channel.{Channel}
 use Rattle.registers.specs.declared.SeatEvent.{SeatEvent}
-use Rattle.registers.specs.declared.SeatEvent.the-variants.{Read, Write, Arrival}
+use Rattle.registers.specs.declared.SeatEvent.the-variants.{Read, Write, Arrival, Levels, Time}
 use Rattle.channel.specs.Parts.{powerUp, withSettings}
 use Rattle.status.specs.Status.{lsrOf, lineTrouble, causes, firstCause, causeOf, iirOf}
 use Rattle.channel.specs.Status.{lsr, msr, cause, iir}
-use Rattle.channel.specs.Effects.{iirRead, lsrRead, answerAt, afterRead, ierWritten, modeChanged, fcrReceiver, fcrTransmitter, fcrWritten, afterWrite, afterArrival}
+use Rattle.channel.specs.Effects.{iirRead, lsrRead, answerAt, afterRead, ierWritten, modeChanged, fcrReceiver, fcrTransmitter, fcrWritten, noticed, mcrWritten, afterWrite, receives, heardOutside, afterArrival, afterLevels, heardBack, afterTime, timeAnswer}
 use Rattle.registers.specs.Refusals.{grounds, refusal}
 use Rattle.channel.specs.Steps.{effect, stepped}
 
@@ -31,7 +32,9 @@ unfolding stepped effect valueOf registerAt plainRegister pick bit digit bits
     iir iirOf cause causeOf causes firstCause lineTrouble someChange dataStands timeoutStands trigger
     lsr lsrOf msr msrOf noneQueued shownMarks someMarked oldest anyMarked marked noneWaiting allSent
     afterWrite ierWritten enabled flagSetIf fcrWritten fcrKept fcrReceiver fcrTransmitter modeChanged cleared afterModeChange emptied
-    afterArrival received written accepted capacity room entered replaced
+    afterArrival heardOutside receives received written accepted capacity room entered replaced
+    mcrWritten afterLevels noticed inputsOf changesAfter
+    afterTime heardBack shifted next waited timeAnswer cut
 told c [] = []
 told c (e ∷ es) = valueOf (stepped c e .answer) ∷ told (stepped c e .channel) es
 
@@ -58,3 +61,27 @@ mode-change-empties-the-transmit-queue = refl
 dll-is-no-letter : isLetter (stepped (withSettings powerUp (record { ier = 0; fcr = 0; lcr = 0x83; mcr = 0; scratch = 0; dll = 12; dlm = 0 })) (Read 0) .answer) ≡ false
 unfolding told isLetter
 dll-is-no-letter = refl
+
+-- power-up with divisor 12, words of five bits, FIFO mode, and loopback
+abbrev looping : Channel
+looping = withSettings powerUp (record { ier = 0; fcr = 0x01; lcr = 0x00; mcr = 0x10; scratch = 0; dll = 12; dlm = 0 })
+
+-- ticket 7: "the character that leaves is received": of an empty shift register none leaves, and LSR is 60. Of `none-received`
+idle-time-receives-nothing : told looping (Time ∷ Read 5 ∷ []) ≡ 0x100 ∷ 0x60 ∷ []
+unfolding told
+idle-time-receives-nothing = refl
+
+-- ticket 7: "cut to the word length". Of `leaver-received`
+received-by-five-bits : told looping (Write 0 0x41 ∷ Time ∷ Time ∷ Read 0 ∷ []) ≡ 0x00 ∷ 0x100 ∷ 0x100 ∷ 0x01 ∷ []
+unfolding told
+received-by-five-bits = refl
+
+-- ticket 7: "modem levels are only remembered": MSR shows nothing of CTS. Of `levels-remembered`
+levels-only-remembered : told looping (Levels 0x01 ∷ Read 6 ∷ []) ≡ 0x00 ∷ 0x00 ∷ []
+unfolding told
+levels-only-remembered = refl
+
+-- ticket 7: "also where a write of MCR enters or leaves": RTS feeds CTS, which has changed. Of `mcr-noticed`
+entering-is-noticed : told powerUp (Write 4 0x12 ∷ Read 6 ∷ []) ≡ 0x00 ∷ 0x11 ∷ []
+unfolding told
+entering-is-noticed = refl

@@ -2,21 +2,25 @@
 use Prim.Native.Nat.{ℕ}
 use mathlib.Core.Bool.{Bool, not, _&&_, _||_}
 use lib.Dec.{eqb}
+use Rattle.base.specs.Pick.{pick}
 use Rattle.base.specs.Bits.{bit}
 use Rattle.base.specs.declared.Answer.{Answer}
 use Rattle.base.specs.declared.Answer.the-variants.{Byte, Letter}
+use Rattle.queue.specs.declared.Character.{Character}
 use Rattle.receiver.specs.declared.Receiver.{Receiver}
 use Rattle.receiver.specs.Receiver.{received, got, lsrSeen, waited, fcrHeard}
 use Rattle.transmitter.specs.declared.Transmitter.{Transmitter}
 use Rattle.transmitter.specs.Transmitter.{written, shifted, iirSeen, ierSent, fcrSent}
+use Rattle.channel.specs.declared.Modem.{Modem}
 use Rattle.channel.specs.declared.Channel.{Channel}
 use Rattle.channel.specs.declared.Stepped.{Stepped}
 use Rattle.registers.specs.declared.Register.{Register}
 use Rattle.registers.specs.declared.Register.the-variants.{RbrThr, Ier, IirFcr, Lcr, Mcr, Lsr, Msr, Scratch, Dll, Dlm}
-use Rattle.channel.specs.Parts.{withSettings, withReceiver, withTransmitter, withModem, fifo}
-use Rattle.registers.specs.Words.{wireAnswer}
-use Rattle.registers.specs.Registers.{kept, shownBy}
+use Rattle.channel.specs.Parts.{withSettings, withReceiver, withTransmitter, withModem, fifo, inLoopback}
+use Rattle.registers.specs.Words.{cut, wireAnswer}
+use Rattle.registers.specs.Registers.{mcrKept, kept, shownBy}
 use Rattle.registers.specs.Modem.{differ, changesAfter}
+use Rattle.registers.specs.Loopback.{inputsOf}
 use Rattle.channel.specs.Status.{lsr, msr, inputs, cause, iir}
 
 -- ---- reads
@@ -97,13 +101,28 @@ fcrWritten c byte =
       modem = c .modem;
     }
 
+-- "bits 0, 1, 3 set when CTS, DSR, DCD change; bit 2 when RI goes from active to inactive": the modem side where the MCR and the levels become these.
+-- The inputs are asked for before and after, and both are those that the channel sees
+unfoldable pub noticed : Channel → ℕ → ℕ → Modem
+noticed c mcr levels = record { levels = levels; changes = changesAfter (c .modem .changes) (inputs c) (inputsOf mcr levels) }
+
+-- ticket 7: "with change bits as for real inputs, also where a write of MCR enters or leaves"
+unfoldable pub mcrWritten : Channel → ℕ → Channel
+mcrWritten c byte =
+    record {
+      settings = kept (c .settings) Mcr byte;
+      receiver = c .receiver;
+      transmitter = c .transmitter;
+      modem = noticed c (mcrKept byte) (c .modem .levels);
+    }
+
 -- "write register". "Writes to LSR and MSR are accepted and change nothing."
 unfoldable pub afterWrite : Channel → Register → ℕ → Channel
 afterWrite c RbrThr byte = withTransmitter c (written (fifo c) (c .transmitter) byte)
 afterWrite c Ier byte = ierWritten c byte
 afterWrite c IirFcr byte = fcrWritten c byte
 afterWrite c Lcr byte = withSettings c (kept (c .settings) Lcr byte)
-afterWrite c Mcr byte = withSettings c (kept (c .settings) Mcr byte)
+afterWrite c Mcr byte = mcrWritten c byte
 afterWrite c Lsr byte = c
 afterWrite c Msr byte = c
 afterWrite c Scratch byte = withSettings c (kept (c .settings) Scratch byte)
@@ -112,25 +131,41 @@ afterWrite c Dlm byte = withSettings c (kept (c .settings) Dlm byte)
 
 -- ---- the wire
 
+-- a character is received in the channel's mode, wherever it comes from: the receive side after it
+unfoldable pub receives : Channel → Character → Receiver
+receives c ch = received (fifo c) (c .receiver) ch
+
+-- ticket 7: in loopback "an arrival changes nothing"
+unfoldable pub heardOutside : Channel → Character → Receiver
+heardOutside c ch = pick (inLoopback c) (c .receiver) (receives c ch)
+
 -- "character arrives"
 unfoldable pub afterArrival : Channel → ℕ → ℕ → Channel
-afterArrival c marks byte = withReceiver c (received (fifo c) (c .receiver) (record { «data» = byte; marks = marks }))
+afterArrival c marks byte = withReceiver c (heardOutside c (record { «data» = byte; marks = marks }))
 
--- "modem inputs": "levels (1 CTS, 2 DSR, 4 RI, 8 DCD; set = active)"
+-- "modem inputs": "levels (1 CTS, 2 DSR, 4 RI, 8 DCD; set = active)". Ticket 7: in loopback "modem levels are only remembered"
 unfoldable pub afterLevels : Channel → ℕ → Channel
-afterLevels c levels = withModem c (record { levels = levels; changes = changesAfter (c .modem .changes) (inputs c) levels })
+afterLevels c levels = withModem c (noticed c (c .settings .mcr) levels)
+
+-- "a character in the shift register leaves, cut to the word length". Ticket 7: "without marks"
+abbrev pub leaver : Channel → Character
+leaver c = record { «data» = cut (c .settings .lcr) (c .transmitter .shift); marks = 0 }
+
+-- ticket 7: in loopback "the character that leaves is received at once, cut to the word length and without marks"
+unfoldable pub heardBack : Channel → Receiver
+heardBack c = pick (inLoopback c && c .transmitter .busy) (receives c (leaver c)) (c .receiver)
 
 -- "one character time passes": "a character in the shift register leaves, cut to the word length; the oldest queued moves in"; "in FIFO mode
--- with a character in the receive queue the time-out count rises, up to 4"
+-- with a character in the receive queue the time-out count rises, up to 4". Ticket 7: what leaves is received "before the next one moves in"
 unfoldable pub afterTime : Channel → Channel
 afterTime c =
     record {
       settings = c .settings;
-      receiver = waited (fifo c) (c .receiver);
+      receiver = waited (fifo c) (heardBack c);
       transmitter = shifted (c .transmitter);
       modem = c .modem;
     }
 
 -- and what is answered: by what was in the shift register
 unfoldable pub timeAnswer : Channel → Answer
-timeAnswer c = wireAnswer (c .settings .lcr) (c .transmitter .busy) (c .transmitter .shift)
+timeAnswer c = wireAnswer (c .settings .mcr) (c .settings .lcr) (c .transmitter .busy) (c .transmitter .shift)

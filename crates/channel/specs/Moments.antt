@@ -7,6 +7,7 @@ use Rattle.base.specs.Pick.{pick}
 use Rattle.base.specs.Bits.{bit}
 use Rattle.base.specs.Answers.{valueOf, figuresOf}
 use Rattle.base.specs.declared.Answer.{Answer}
+use Rattle.queue.specs.declared.Character.{Character}
 use Rattle.receiver.specs.Receiver.{noneQueued}
 use Rattle.receiver.specs.Ledger.{Moment, arrives, rbr, lsr, passes, empties, changes, resets, Side, Handed}
 use Rattle.channel.specs.declared.Channel.{Channel}
@@ -14,9 +15,9 @@ use Rattle.registers.specs.declared.SeatEvent.{SeatEvent}
 use Rattle.registers.specs.declared.SeatEvent.the-variants.{Read, Write, Arrival, Levels, Time}
 use Rattle.registers.specs.declared.Register.{Register}
 use Rattle.registers.specs.declared.Register.the-variants.{RbrThr, Ier, IirFcr, Lcr, Mcr, Lsr, Msr, Scratch, Dll, Dlm}
-use Rattle.channel.specs.Parts.{fifo, divisorShown}
+use Rattle.channel.specs.Parts.{fifo, inLoopback, divisorShown}
 use Rattle.registers.specs.Registers.{registerAt}
-use Rattle.channel.specs.Effects.{modeChanged}
+use Rattle.channel.specs.Effects.{modeChanged, leaver}
 use Rattle.registers.specs.Refusals.{refusal}
 
 -- the receive side of a channel, with its mode
@@ -53,13 +54,21 @@ writeMoments c Scratch byte = []
 writeMoments c Dll byte = []
 writeMoments c Dlm byte = []
 
+-- ticket 7: in loopback "an arrival changes nothing"
+unfoldable pub arrivalMoments : Channel → Character → List Moment
+arrivalMoments c ch = pick (inLoopback c) [] (arrives ch ∷ [])
+
+-- ticket 7: "the character that leaves is received at once", and then the time passes
+unfoldable pub timeMoments : Channel → List Moment
+timeMoments c = pick (inLoopback c && c .transmitter .busy) (arrives (leaver c) ∷ passes ∷ []) (passes ∷ [])
+
 -- of an accepted event
 unfoldable pub acceptedMoments : Channel → SeatEvent → List Moment
 acceptedMoments c (Read n) = readMoments (registerAt (divisorShown c) n)
 acceptedMoments c (Write n byte) = writeMoments c (registerAt (divisorShown c) n) byte
-acceptedMoments c (Arrival marks byte) = arrives (record { «data» = byte; marks = marks }) ∷ []
+acceptedMoments c (Arrival marks byte) = arrivalMoments c (record { «data» = byte; marks = marks })
 acceptedMoments c (Levels levels) = []
-acceptedMoments c Time = passes ∷ []
+acceptedMoments c Time = timeMoments c
 
 -- of any event: "The answer of every refusal is FFF and nothing changes."
 unfoldable pub momentsOf : Channel → SeatEvent → List Moment

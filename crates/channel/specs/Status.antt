@@ -4,15 +4,16 @@ use mathlib.Core.Bool.{Bool}
 use Rattle.channel.specs.declared.Channel.{Channel}
 use Rattle.channel.specs.Parts.{fifo}
 use Rattle.registers.specs.Modem.{msrOf}
+use Rattle.registers.specs.Loopback.{inputsOf}
 use Rattle.status.specs.Status.{lsrOf, causeOf, iirOf, lineOf}
 
 -- the LSR of the two sides in the channel's mode
 unfoldable pub lsr : Channel → ℕ
 lsr c = lsrOf (fifo c) (c .receiver) (c .transmitter)
 
--- the modem inputs as the channel sees them: the levels last given
+-- the modem inputs as the channel sees them: by its MCR, and the levels last given
 abbrev pub inputs : Channel → ℕ
-inputs c = c .modem .levels
+inputs c = inputsOf (c .settings .mcr) (c .modem .levels)
 
 -- the MSR of those inputs, and of the changes that stand
 unfoldable pub msr : Channel → ℕ

@@ -14,11 +14,20 @@ use Rattle.queue.specs.Queue.{oldest, marked}
 use Rattle.receiver.specs.Receiver.{noneQueued, shownMarks, someMarked}
 use Rattle.transmitter.specs.Transmitter.{noneWaiting, allSent}
 use Rattle.channel.specs.declared.Channel.{Channel}
-use Rattle.channel.specs.Parts.{fifo}
+use Rattle.channel.specs.Parts.{fifo, inLoopback}
 use Rattle.registers.specs.ModemLaws.{shows-changes, shows-inputs, msr-small}
-use Rattle.channel.specs.Status.{lsr, msr, cause, iir}
+use Rattle.registers.specs.LoopbackLaws.{inputs-looped, inputs-plain}
+use Rattle.channel.specs.Status.{lsr, msr, inputs, cause, iir}
 use Rattle.status.specs.Status.{lsrOf, iirOf}
 use Rattle.status.specs.StatusLaws.{cause-small}
+
+-- document 004: ‘When the serial channel is in the loop mode (MCR4 is set), MSR4 reflects the value of RTS in the MCR.’, and so MSR5 DTR, MSR6 OUT1
+-- and MSR7 OUT2: MCR bits 1, 0, 2 and 3
+pub record ShowsOutputs (mcr msr : ℕ) : Type 0 where
+  pub bit-4-is-rts : bit 4 msr ≡ bit 1 mcr
+  pub bit-5-is-dtr : bit 5 msr ≡ bit 0 mcr
+  pub bit-6-is-out1 : bit 6 msr ≡ bit 2 mcr
+  pub bit-7-is-out2 : bit 7 msr ≡ bit 3 mcr
 
 module _ (c : Channel) where
   -- 0: the receive queue is not empty
@@ -72,17 +81,32 @@ module _ (c : Channel) where
   -- MSR bits 0 to 3 are the changes that stand
   pub msr-changes : (k : ℕ) → k < 4 → bit k (msr c) ≡ bit k (c .modem .changes)
   unfolding msr
-  msr-changes = shows-changes (c .modem .changes) (c .modem .levels)
+  msr-changes = shows-changes (c .modem .changes) (inputs c)
 
-  -- MSR bits 4 to 7 are the levels, CTS, DSR, RI and DCD
-  pub msr-levels : (k : ℕ) → k < 4 → bit (4 + k) (msr c) ≡ bit k (c .modem .levels)
+  -- MSR bits 4 to 7 are CTS, DSR, RI and DCD, as the channel sees them
+  pub msr-inputs : (k : ℕ) → k < 4 → bit (4 + k) (msr c) ≡ bit k (inputs c)
   unfolding msr
-  msr-levels = shows-inputs (c .modem .changes) (c .modem .levels)
+  msr-inputs = shows-inputs (c .modem .changes) (inputs c)
+
+  -- which are the levels last given, outside loopback
+  pub msr-levels : inLoopback c ≡ false → (k : ℕ) → k < 4 → bit (4 + k) (msr c) ≡ bit k (c .modem .levels)
+  msr-levels clear k less = msr-inputs k less ∙ ap (bit k) (inputs-plain (c .settings .mcr) (c .modem .levels) clear)
+
+  -- and the outputs in it
+  pub msr-looped : inLoopback c ≡ true → ShowsOutputs (c .settings .mcr) (msr c)
+  msr-looped set =
+      let fed = inputs-looped (c .settings .mcr) (c .modem .levels) set in
+      record {
+        bit-4-is-rts = msr-inputs 0 (omega arith) ∙ fed .cts-by-rts;
+        bit-5-is-dtr = msr-inputs 1 (omega arith) ∙ fed .dsr-by-dtr;
+        bit-6-is-out1 = msr-inputs 2 (omega arith) ∙ fed .ri-by-out1;
+        bit-7-is-out2 = msr-inputs 3 (omega arith) ∙ fed .dcd-by-out2;
+      }
 
   -- and there are no more
   pub msr-byte : msr c < 0x100
   unfolding msr
-  msr-byte = msr-small (c .modem .changes) (c .modem .levels)
+  msr-byte = msr-small (c .modem .changes) (inputs c)
 
 -- C0 beside a code
 added : (mode : Bool) (n : ℕ) → n ≤ 12 → (n + pick mode 0xC0 0x00) % 16 ≡ n

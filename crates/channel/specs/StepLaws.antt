@@ -4,10 +4,10 @@ use mathlib.Core.Path.{_≡_, refl, ap, sym, _∙_}
 use mathlib.Core.Logic.{⊎-elim}
 use lib.Dec.{eqb}
 use borrow.Author.Tests.{eqb-true}
-use Rattle.base.specs.Pick.{pick}
-use Rattle.base.specs.PickLaws.{pick-true, pick-false, pick-same, pick-through, either-way}
+use Rattle.base.specs.PickLaws.{pick-true, pick-false, pick-either, either-way}
 use Rattle.base.specs.Bits.{bit}
 use Rattle.base.specs.Answers.{refusalOf}
+use Rattle.base.specs.declared.Answer.{Answer}
 use Rattle.base.specs.declared.Answer.the-variants.{Refused}
 use Rattle.channel.specs.declared.Channel.{Channel}
 use Rattle.channel.specs.declared.Stepped.{Stepped}
@@ -18,16 +18,19 @@ use Rattle.registers.specs.declared.Register.{Register}
 use Rattle.registers.specs.declared.Register.the-variants.{RbrThr, Ier, IirFcr, Lcr, Mcr, Lsr, Msr, Scratch, Dll, Dlm}
 use Rattle.registers.specs.Registers.{registerAt}
 use Rattle.registers.specs.Refusals.{refusal}
-use Rattle.channel.specs.Parts.{divisorShown}
+use Rattle.channel.specs.Parts.{divisorShown, inLoopback}
 use Rattle.channel.specs.Steps.{effect, stepped}
+
+-- an answer that tells no refusal
+abbrev Taken : Answer → Type 0
+Taken a = refusalOf a ≡ 0
 
 -- what is done is answered with no refusal
 time-taken : (c : Channel) → refusalOf (timeAnswer c) ≡ 0
 unfolding timeAnswer refusalOf
 time-taken c =
-    pick-through refusalOf (bit 6 (c .settings .lcr)) _ _
-    ∙ ap (pick (bit 6 (c .settings .lcr)) 0) (pick-through refusalOf (c .transmitter .busy) _ _ ∙ pick-same (c .transmitter .busy) 0)
-    ∙ pick-same (bit 6 (c .settings .lcr)) 0
+    pick-either Taken (inLoopback c) _ _ refl
+    (pick-either Taken (bit 6 (c .settings .lcr)) _ _ refl (pick-either Taken (c .transmitter .busy) _ _ refl refl))
 
 read-taken : (c : Channel) (r : Register) → refusalOf (answerAt c r) ≡ 0
 unfolding answerAt refusalOf

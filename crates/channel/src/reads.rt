@@ -55,7 +55,8 @@ impl Channel {
                 };
             }
             Register::Msr => {
-                let byte = registers::modem_status(self.modem.changes, self.modem.levels);
+                let inputs = registers::inputs(self.settings.mcr, self.modem.levels);
+                let byte = registers::modem_status(self.modem.changes, inputs);
                 self.modem.changes = 0;
                 return Stepped {
                     channel: self,

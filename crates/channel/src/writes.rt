@@ -5,7 +5,7 @@ use base::Answer;
 use registers::Register;
 use registers::Settings;
 ghost use mathlib.Core.Path.{_≡_};
-ghost use Rattle.channel.specs.Effects.{fcrWritten};
+ghost use Rattle.channel.specs.Effects.{fcrWritten, mcrWritten};
 ghost use Rattle.channel.specs.Steps.{effect};
 ghost use Rattle.registers.specs.declared.SeatEvent.the-variants.{Write};
 
@@ -20,6 +20,16 @@ impl Channel {
         self.receiver = self.receiver.fcr_written(changed, receive);
         self.transmitter = self.transmitter.fcr_written(changed | transmit);
         self.settings = self.settings.write(Register::IirFcr, byte);
+        self
+    }
+
+    fn mcr_written(mut self, byte: u8) -> Channel
+        ensures { λ r. ⌜ r ≡ mcrWritten self byte ⌝ }
+    {
+        let settings = self.settings.write(Register::Mcr, byte);
+        let modem = self.noticed(settings.mcr, self.modem.levels);
+        self.settings = settings;
+        self.modem = modem;
         self
     }
 
@@ -47,6 +57,10 @@ impl Channel {
             }
             Register::IirFcr => return Stepped {
                 channel: self.fcr_written(byte),
+                answer: Answer::Done,
+            },
+            Register::Mcr => return Stepped {
+                channel: self.mcr_written(byte),
                 answer: Answer::Done,
             },
             _ => {

@@ -13,7 +13,7 @@ use Rattle.registers.specs.declared.SeatEvent.{SeatEvent}
 use Rattle.registers.specs.declared.SeatEvent.the-variants.{Read, Write, Arrival, Levels, Time}
 use Rattle.channel.specs.Parts.{divisorShown}
 use Rattle.registers.specs.Registers.{registerAt}
-use Rattle.channel.specs.Effects.{iirRead, lsrRead, msrRead, ierWritten, fcrWritten, afterRead, afterWrite, afterArrival, afterLevels, afterTime}
+use Rattle.channel.specs.Effects.{iirRead, lsrRead, msrRead, ierWritten, fcrWritten, mcrWritten, afterRead, afterWrite, afterArrival, afterLevels, afterTime}
 use Rattle.registers.specs.Refusals.{refusal}
 use Rattle.channel.specs.Steps.{effect, stepped}
 
@@ -48,7 +48,7 @@ byWrite RbrThr = row false false true false
 byWrite Ier = row true false true false
 byWrite IirFcr = row true true true false
 byWrite Lcr = row true false false false
-byWrite Mcr = row true false false false
+byWrite Mcr = row true false false true
 byWrite Lsr = nothing
 byWrite Msr = nothing
 byWrite Scratch = row true false false false
@@ -87,7 +87,7 @@ read-touches c Dll = refl
 read-touches c Dlm = refl
 
 write-touches : (c : Channel) (register : Register) (byte : ℕ) → afterWrite c register byte ≡ mixed (byWrite register) (afterWrite c register byte) c
-unfolding afterWrite ierWritten fcrWritten pick
+unfolding afterWrite ierWritten fcrWritten mcrWritten pick
 write-touches c RbrThr byte = refl
 write-touches c Ier byte = refl
 write-touches c IirFcr byte = refl

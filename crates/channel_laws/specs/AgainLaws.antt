@@ -24,7 +24,7 @@ use Rattle.channel.specs.Effects.{iirRead, lsrRead, msrRead}
 use Rattle.channel_laws.specs.CauseLaws.{moved}
 use Rattle.channel_laws.specs.IirLaws.{flagged, iir-clears, iir-again}
 use Rattle.channel.specs.StatusLaws.{iir-cause}
-use Rattle.channel_laws.specs.ReadLaws.{read-iir, read-lsr, read-msr, msr-again-changes, msr-again-levels}
+use Rattle.channel_laws.specs.ReadLaws.{read-iir, read-lsr, read-msr, msr-again-changes, msr-again-inputs}
 use Rattle.channel_laws.specs.ReadLaws.{lsr-again-overrun, lsr-again-marks, lsr-again-data, lsr-again-sending, lsr-again-marked}
 use Rattle.channel_laws.specs.Shown.{shown, after}
 
@@ -80,10 +80,10 @@ module _ (c : Channel) where
   msr-bits (suc zero) less = gone (bit 1 (msr c)) (msr-again-changes c 1 (omega arith))
   msr-bits (suc (suc zero)) less = gone (bit 2 (msr c)) (msr-again-changes c 2 (omega arith))
   msr-bits (suc (suc (suc zero))) less = gone (bit 3 (msr c)) (msr-again-changes c 3 (omega arith))
-  msr-bits (suc (suc (suc (suc zero)))) less = stays (msr-again-levels c 0 (omega arith))
-  msr-bits (suc (suc (suc (suc (suc zero))))) less = stays (msr-again-levels c 1 (omega arith))
-  msr-bits (suc (suc (suc (suc (suc (suc zero)))))) less = stays (msr-again-levels c 2 (omega arith))
-  msr-bits (suc (suc (suc (suc (suc (suc (suc zero))))))) less = stays (msr-again-levels c 3 (omega arith))
+  msr-bits (suc (suc (suc (suc zero)))) less = stays (msr-again-inputs c 0 (omega arith))
+  msr-bits (suc (suc (suc (suc (suc zero))))) less = stays (msr-again-inputs c 1 (omega arith))
+  msr-bits (suc (suc (suc (suc (suc (suc zero)))))) less = stays (msr-again-inputs c 2 (omega arith))
+  msr-bits (suc (suc (suc (suc (suc (suc (suc zero))))))) less = stays (msr-again-inputs c 3 (omega arith))
   msr-bits (suc (suc (suc (suc (suc (suc (suc (suc k)))))))) less = absurd (omega arith)
 
   -- "A read clears bits 0-3 after answering.", and bits 4 to 7 are as before

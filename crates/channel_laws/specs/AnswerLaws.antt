@@ -1,12 +1,12 @@
 -- What an accepted event is answered with, by its kind.
 use Prim.Native.Nat.{ℕ}
 use mathlib.Core.Bool.{Bool, true, false}
-use mathlib.Core.Path.{_≡_, refl, ap₂, subst, sym, _∙_}
-use mathlib.Core.Logic.{_⊎_, inl, inr, ⊎-elim}
+use mathlib.Core.Path.{_≡_, refl, ap₂, subst, sym}
+use mathlib.Core.Logic.{_⊎_, inl, inr}
 use lib.Dec.{eqb}
 use borrow.Author.Tests.{ne-eqb}
 use Rattle.base.specs.Pick.{pick}
-use Rattle.base.specs.PickLaws.{pick-true, pick-false, pick-either, pick-cases, either-way}
+use Rattle.base.specs.PickLaws.{pick-false, pick-either, pick-cases}
 use Rattle.base.specs.Bits.{bit}
 use Rattle.base.specs.declared.Answer.{Answer}
 use Rattle.base.specs.declared.Answer.the-variants.{Byte, Letter, Done, Sent, Idle, Break}
@@ -17,7 +17,7 @@ use Rattle.registers.specs.declared.Register.{Register}
 use Rattle.registers.specs.declared.Register.the-variants.{Ier, IirFcr, Lcr, Mcr, Lsr, Msr, Scratch}
 use Rattle.registers.specs.Registers.{plainRegister, registerAt}
 use Rattle.receiver.specs.Receiver.{got}
-use Rattle.channel.specs.Parts.{divisorShown}
+use Rattle.channel.specs.Parts.{divisorShown, inLoopback}
 use Rattle.channel.specs.Effects.{answerAt, timeAnswer}
 use Rattle.channel.specs.Steps.{effect, stepped}
 use Rattle.registers.specs.RefusalLaws.{accepts}
@@ -42,14 +42,9 @@ Answers c Time a = ((byte : ℕ) × (a ≡ Sent byte)) ⊎ ((a ≡ Idle) ⊎ (a 
 time-answers : (c : Channel) → Answers c Time (timeAnswer c)
 unfolding timeAnswer
 time-answers c =
-    ⊎-elim
-    (λ (set : bit 6 (c .settings .lcr) ≡ true). inr (inr (pick-true _ _ _ set)))
-    (λ (clear : bit 6 (c .settings .lcr) ≡ false).
-    ⊎-elim
-    (λ (full : c .transmitter .busy ≡ true). inl (_, pick-false _ _ _ clear ∙ pick-true _ _ _ full))
-    (λ (empty : c .transmitter .busy ≡ false). inr (inl (pick-false _ _ _ clear ∙ pick-false _ _ _ empty)))
-    (either-way (c .transmitter .busy)))
-    (either-way (bit 6 (c .settings .lcr)))
+    let OnWire : Answer → Type 0 = λ a. Answers c Time a in
+    pick-either OnWire (inLoopback c) _ _ (inr (inl refl))
+    (pick-either OnWire (bit 6 (c .settings .lcr)) _ _ (inr (inr refl)) (pick-either OnWire (c .transmitter .busy) _ _ (inl (_, refl)) (inr (inl refl))))
 
 -- "the byte" alone
 abbrev ByteAt : Channel → Register → Type 0

@@ -1,10 +1,10 @@
 -- What a register keeps of a byte: written and read back, through the register numbers.
 use Prim.Native.Nat.{ℕ, _%_, _^_}
-use mathlib.Core.Bool.{Bool, true, false, not}
+use mathlib.Core.Bool.{Bool, true, false}
 use mathlib.Core.Path.{_≡_, refl, ap, _∙_}
-use lib.Dec.{ltb, eqb}
+use lib.Dec.{eqb}
 use Rattle.base.specs.Pick.{pick}
-use Rattle.base.specs.PickLaws.{pick-same, both-hold}
+use Rattle.base.specs.PickLaws.{pick-same}
 use Rattle.base.specs.Bits.{bit}
 use Rattle.base.specs.declared.Answer.{Answer}
 use Rattle.base.specs.declared.Answer.the-variants.{Byte, Done}
@@ -15,7 +15,7 @@ use Rattle.registers.specs.declared.Register.the-variants.{RbrThr, Ier, IirFcr,
 use Rattle.registers.specs.declared.SeatEvent.the-variants.{Read, Write}
 use Rattle.channel.specs.Parts.{withSettings, divisorShown}
 use Rattle.registers.specs.Registers.{plainRegister, registerAt, fcrKept, withDll, withDlm}
-use Rattle.channel.specs.Effects.{ierWritten, fcrWritten, answerAt, afterRead, afterWrite}
+use Rattle.channel.specs.Effects.{ierWritten, fcrWritten, mcrWritten, answerAt, afterRead, afterWrite}
 use Rattle.channel.specs.Steps.{effect, stepped}
 use Rattle.registers.specs.RefusalLaws.{accepts}
 use Rattle.channel_laws.specs.RefusalLaws.{done}
@@ -50,7 +50,7 @@ rewritten s r byte =
     }
 
 pub settings-after : (c : Channel) (r : Register) (byte : ℕ) → afterWrite c r byte .settings ≡ rewritten (c .settings) r byte
-unfolding afterWrite ierWritten fcrWritten pick
+unfolding afterWrite ierWritten fcrWritten mcrWritten pick
 settings-after c RbrThr byte = refl
 settings-after c Ier byte = refl
 settings-after c IirFcr byte = refl
@@ -74,7 +74,7 @@ module _ (c : Channel) (n byte : ℕ) (r : Register) (served : accepts (c .setti
       → stepped (stepped c (Write n byte) .channel) (Read n) .answer ≡ answerAt (afterWrite c r byte) r
   back still =
       ap (λ s. stepped (s .channel) (Read n) .answer) write-at
-      ∙ ap (λ s. s .answer) (read-at (afterWrite c r byte) n r (both-hold (ltb n 8) _ served .0) still)
+      ∙ ap (λ s. s .answer) (read-at (afterWrite c r byte) n r served still)
 
 abbrev readBack : Channel → ℕ → ℕ → Answer
 readBack c n byte = stepped (stepped c (Write n byte) .channel) (Read n) .answer
@@ -85,9 +85,9 @@ module _ (c : Channel) (byte : ℕ) where
   unfolding registerAt plainRegister pick afterWrite answerAt
   lcr-back = back c 3 byte Lcr refl (pick-same (divisorShown c) Lcr) (pick-same (bit 7 byte) Lcr)
 
-  pub mcr-back : bit 4 byte ≡ false → readBack c 4 byte ≡ Byte (byte % 2 ^ 5)
-  unfolding registerAt plainRegister pick afterWrite answerAt
-  mcr-back unlooped = back c 4 byte Mcr (ap not unlooped) (pick-same (divisorShown c) Mcr) (pick-same (divisorShown c) Mcr)
+  pub mcr-back : readBack c 4 byte ≡ Byte (byte % 2 ^ 5)
+  unfolding registerAt plainRegister pick afterWrite mcrWritten answerAt
+  mcr-back = back c 4 byte Mcr refl (pick-same (divisorShown c) Mcr) (pick-same (divisorShown c) Mcr)
 
   pub scratch-back : readBack c 7 byte ≡ Byte byte
   unfolding registerAt plainRegister pick afterWrite answerAt

@@ -4,10 +4,10 @@ use mathlib.Core.Bool.{Bool, true, false, not, _&&_, _||_, xor}
 use mathlib.Core.Path.{_≡_, refl, ap, sym, subst, _∙_}
 use mathlib.Core.Logic.{⊎-elim}
 use native.Mathlib.Omega.{arith}
-use lib.Dec.{ltb, eqb}
+use lib.Dec.{eqb}
 use borrow.Author.Tests.{ltb-true, ltb-false, ne-eqb}
 use Rattle.base.specs.Pick.{pick}
-use Rattle.base.specs.PickLaws.{both-hold, either-way, never}
+use Rattle.base.specs.PickLaws.{either-way, never}
 use Rattle.base.specs.Bits.{bit}
 use Rattle.base.specs.BitLaws.{bit-cut}
 use Rattle.base.specs.EveryLaws.{every-each}
@@ -21,7 +21,7 @@ use Rattle.channel.specs.declared.Stepped.{Stepped}
 use Rattle.registers.specs.declared.SeatEvent.{SeatEvent}
 use Rattle.registers.specs.declared.SeatEvent.the-variants.{Read, Write, Arrival, Levels, Time}
 use Rattle.channel.specs.Parts.{divisorShown, fifo}
-use Rattle.channel.specs.Effects.{iirRead, lsrRead, msrRead, ierWritten, fcrWritten, afterRead, afterWrite, afterArrival, afterLevels, afterTime}
+use Rattle.channel.specs.Effects.{iirRead, lsrRead, msrRead, ierWritten, fcrWritten, mcrWritten, afterRead, afterWrite, afterArrival, afterLevels, afterTime}
 use Rattle.channel.specs.Steps.{effect}
 use Rattle.channel.specs.StatusLaws.{lsr-empty}
 use Rattle.channel_laws.specs.IirLaws.{iir-clears}
@@ -80,7 +80,7 @@ abbrev isIir : Register → Bool
 isIir r = eqb (ordinal r) 2
 
 -- two tests that do not differ
-alike : (a b : Bool) → not (xor a b) ≡ true → a ≡ b
+pub alike : (a b : Bool) → not (xor a b) ≡ true → a ≡ b
 unfolding xor
 alike true true e = refl
 alike true false e = absurd (never e)
@@ -167,7 +167,7 @@ module _ (c : Channel) where
   by-read Dlm = quiet c c refl refl
 
   by-write : (r : Register) (byte : ℕ) → Stands c (afterWrite c r byte) (isThr r) false
-  unfolding afterWrite written ierWritten fcrWritten
+  unfolding afterWrite written ierWritten fcrWritten mcrWritten
   by-write RbrThr byte = by-counts c (afterWrite c RbrThr byte) true false refl
   by-write Ier byte =
       let rise : bit 1 byte ≡ bit 1 (byte % 2 ^ 4) = sym (bit-cut 1 4 byte) in
@@ -219,7 +219,7 @@ by-effect c (Read n) served =
     (iir-at (divisorShown c) n (ltb-true n 8 served)) (by-read c (registerAt (divisorShown c) n))
 by-effect c (Write n byte) served =
     subst (λ (thr : Bool). Stands c (afterWrite c (registerAt (divisorShown c) n) byte) thr false)
-    (thr-at (divisorShown c) n (ltb-true n 8 (both-hold (ltb n 8) _ served .0))) (by-write c (registerAt (divisorShown c) n) byte)
+    (thr-at (divisorShown c) n (ltb-true n 8 served)) (by-write c (registerAt (divisorShown c) n) byte)
 by-effect c (Arrival marks byte) served = quiet c (afterArrival c marks byte) refl refl
 by-effect c (Levels levels) served = quiet c (afterLevels c levels) refl refl
 by-effect c Time served = by-time c

@@ -22,7 +22,7 @@ use Rattle.channel.specs.declared.Channel.{Channel}
 use Rattle.channel.specs.declared.Stepped.{Stepped}
 use Rattle.registers.specs.declared.SeatEvent.{SeatEvent}
 use Rattle.registers.specs.declared.SeatEvent.the-variants.{Read, Arrival}
-use Rattle.channel.specs.Parts.{withReceiver, fifo}
+use Rattle.channel.specs.Parts.{withReceiver, fifo, inLoopback}
 use Rattle.channel.specs.Steps.{stepped}
 use Rattle.registers.specs.RefusalLaws.{accepts}
 use Rattle.channel_laws.specs.SideLaws.{arrival-received, rbr-gets}
@@ -94,8 +94,8 @@ reads-give (ch ∷ l) c plain held fits k =
     ∙ ap (λ (s : Stepped). s .answer ∷ answersTo (s .channel) (reading (length l + k))) (rbr-takes c plain ch l held (omega arith))
     ∙ ap (λ (rest : List Answer). Letter (ch .«data») (record { marks = ch .marks; behind = length l }) ∷ rest) (reads-give l (withReceiver c (taken (c .receiver) ch l)) plain refl (omega arith) k)
 
--- an arrival, and then the reads
-module _ (c : Channel) (marks byte : ℕ) (served : accepts (c .settings) (Arrival marks byte) ≡ true) (plain : bit 7 (c .settings .lcr) ≡ false)
+-- an arrival, outside loopback, and then the reads
+module _ (c : Channel) (outside : inLoopback c ≡ false) (marks byte : ℕ) (served : accepts (c .settings) (Arrival marks byte) ≡ true) (plain : bit 7 (c .settings .lcr) ≡ false)
     (l : List Character) (held : c .receiver .queue ≡ holding l) (within : length l ≤ places (fifo c)) where
   abbrev waiting : List Character
   waiting = joined (fifo c) l (record { «data» = byte; marks = marks })
@@ -105,10 +105,10 @@ module _ (c : Channel) (marks byte : ℕ) (served : accepts (c .settings) (Arriv
       ≡ Done ∷ (lettersOf waiting ++ replicate k (again (lastRead (c .receiver .last) waiting)))
   unfolding answersTo received
   arrival-read k =
-      let did = arrival-received c marks byte served in
+      let did = arrival-received c outside marks byte served in
       let still : bit 7 (after c (Arrival marks byte) .settings .lcr) ≡ false = ap (λ (s : Stepped). bit 7 (s .channel .settings .lcr)) did ∙ plain in
       let last : after c (Arrival marks byte) .receiver .last ≡ c .receiver .last = ap (λ (s : Stepped). s .channel .receiver .last) did in
       ap₂ (λ (a : Answer) (rest : List Answer). a ∷ rest) (ap (λ (s : Stepped). s .answer) did)
-      (reads-give waiting (after c (Arrival marks byte)) still (arrival-joins c marks byte served l held within)
+      (reads-give waiting (after c (Arrival marks byte)) still (arrival-joins c outside marks byte served l held within)
       (joined-fits (fifo c) l (record { «data» = byte; marks = marks }) within) k
       ∙ ap (λ (b : ℕ). lettersOf waiting ++ replicate k (again (lastRead b waiting))) last)

@@ -20,9 +20,9 @@ use Rattle.registers.specs.Registers.{plainRegister, registerAt}
 use Rattle.registers.specs.Refusals.{refusal}
 use Rattle.registers.specs.RefusalLaws.{accepts, accepted}
 use Rattle.channel.specs.declared.Channel.{Channel}
-use Rattle.channel.specs.Parts.{divisorShown}
+use Rattle.channel.specs.Parts.{divisorShown, inLoopback}
 use Rattle.channel.specs.Effects.{modeChanged}
-use Rattle.channel.specs.Moments.{side, readMoments, fcrMoments, writeMoments, acceptedMoments, momentsOf}
+use Rattle.channel.specs.Moments.{side, readMoments, fcrMoments, writeMoments, arrivalMoments, timeMoments, acceptedMoments, momentsOf}
 use Rattle.channel_laws.specs.Lasting.{endingEvent}
 
 -- an event that is one moment, and this one ends a time-out
@@ -125,7 +125,7 @@ fcr-harmless c byte none =
     ap (endsIn (side c)) (pick-false _ _ _ (two .1) ∙ pick-false _ _ _ (two .0))
 
 access-harmless : (c : Channel) (e : SeatEvent) → endingEvent c e ≡ false → Harmless c (acceptedMoments c e)
-unfolding endingEvent acceptedMoments endsIn ending
+unfolding endingEvent acceptedMoments arrivalMoments timeMoments endsIn ending
 access-harmless c (Read n) none =
     ⊎-elim
     (λ (at : eqb n 0 ≡ true).
@@ -139,9 +139,9 @@ access-harmless c (Write n byte) none =
     (ap (endsIn (side c)) (fcr-write c byte) ∙ fcr-harmless c byte (rw at at none)))
     (λ (other : eqb n 2 ≡ false). write-harmless c n byte other)
     (either-way (eqb n 2))
-access-harmless c (Arrival marks byte) none = refl
+access-harmless c (Arrival marks byte) none = pick-either (Harmless c) (inLoopback c) _ _ refl refl
 access-harmless c (Levels levels) none = refl
-access-harmless c Time none = refl
+access-harmless c Time none = pick-either (Harmless c) (inLoopback c && c .transmitter .busy) _ _ refl refl
 
 pub event-leaves : (c : Channel) (e : SeatEvent) → endingEvent c e ≡ false → endsIn (side c) (momentsOf c e) ≡ false
 unfolding momentsOf endsIn

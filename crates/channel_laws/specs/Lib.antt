@@ -26,3 +26,7 @@ pub mod SendingLaws
 pub mod HearingLaws
 pub mod DrainLaws
 pub mod TimeOutLaws
+pub mod LoopbackLaws
+pub mod EchoLaws
+pub mod Unlooped
+pub mod UnloopedLaws

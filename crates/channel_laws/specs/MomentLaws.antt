@@ -6,14 +6,15 @@ use mathlib.Core.Path.{_≡_, refl, ap, sym, _∙_}
 use mathlib.Core.Logic.{⊎-elim}
 use lib.Dec.{eqb}
 use Rattle.base.specs.Pick.{pick}
-use Rattle.base.specs.PickLaws.{pick-true, pick-false, pick-through, pick-cases, either-way}
+use Rattle.base.specs.PickLaws.{pick-true, pick-false, pick-through, pick-either, pick-cases, either-way}
 use Rattle.base.specs.Bits.{bit}
 use Rattle.base.specs.BitLaws.{bit-bits}
 use Rattle.base.specs.Answers.{valueOf, figuresOf}
 use Rattle.base.specs.declared.Answer.{Answer}
 use Rattle.base.specs.declared.Answer.the-variants.{Done}
+use Rattle.queue.specs.declared.Character.{Character}
 use Rattle.receiver.specs.declared.Receiver.{Receiver}
-use Rattle.receiver.specs.Receiver.{afterModeChange, cleared}
+use Rattle.receiver.specs.Receiver.{afterModeChange, cleared, waited}
 use Rattle.receiver.specs.Ledger.{Moment, empties, changes, resets, Side, after, afterAll, readIn}
 use Rattle.channel.specs.declared.Channel.{Channel}
 use Rattle.channel.specs.declared.Stepped.{Stepped}
@@ -21,12 +22,12 @@ use Rattle.registers.specs.declared.SeatEvent.{SeatEvent}
 use Rattle.registers.specs.declared.SeatEvent.the-variants.{Read, Write, Arrival, Levels, Time}
 use Rattle.registers.specs.declared.Register.{Register}
 use Rattle.registers.specs.declared.Register.the-variants.{RbrThr, Ier, IirFcr, Lcr, Mcr, Lsr, Msr, Scratch, Dll, Dlm}
-use Rattle.channel.specs.Parts.{masterReset, fifo, divisorShown}
+use Rattle.channel.specs.Parts.{masterReset, withReceiver, fifo, divisorShown, inLoopback}
 use Rattle.registers.specs.Registers.{registerAt, fcrKept}
-use Rattle.channel.specs.Effects.{lsrRead, iirRead, msrRead, answerAt, afterRead, ierWritten, modeChanged, fcrReceiver, fcrWritten, afterWrite, afterArrival, afterLevels, afterTime}
+use Rattle.channel.specs.Effects.{lsrRead, iirRead, msrRead, answerAt, afterRead, ierWritten, modeChanged, fcrReceiver, fcrWritten, mcrWritten, afterWrite, receives, heardOutside, afterArrival, afterLevels, heardBack, afterTime, timeAnswer}
 use Rattle.registers.specs.Refusals.{refusal}
 use Rattle.channel.specs.Steps.{effect, stepped}
-use Rattle.channel.specs.Moments.{side, readMoments, fcrMoments, writeMoments, acceptedMoments, momentsOf, handedBy, telling, toldIn}
+use Rattle.channel.specs.Moments.{side, readMoments, fcrMoments, writeMoments, arrivalMoments, timeMoments, acceptedMoments, momentsOf, handedBy, telling, toldIn}
 
 -- ---- the mode after an FCR write
 
@@ -93,7 +94,7 @@ read-side c Dll = refl
 read-side c Dlm = refl
 
 write-side : (c : Channel) (r : Register) (byte : ℕ) → side (afterWrite c r byte) ≡ afterAll (side c) (writeMoments c r byte)
-unfolding afterWrite writeMoments ierWritten afterAll
+unfolding afterWrite writeMoments ierWritten mcrWritten afterAll
 write-side c RbrThr byte = refl
 write-side c Ier byte = refl
 write-side c IirFcr byte = fcr-side c byte
@@ -105,13 +106,26 @@ write-side c Scratch byte = refl
 write-side c Dll byte = refl
 write-side c Dlm byte = refl
 
+-- what the receive side hears of a character from outside
+arrival-side : (c : Channel) (ch : Character) → side (withReceiver c (heardOutside c ch)) ≡ afterAll (side c) (arrivalMoments c ch)
+unfolding heardOutside receives arrivalMoments after afterAll
+arrival-side c ch =
+    pick-through (λ (r : Receiver). side (withReceiver c r)) (inLoopback c) _ _ ∙ sym (pick-through (afterAll (side c)) (inLoopback c) _ _)
+
+-- and of one that leaves in loopback, before the time passes
+time-side : (c : Channel) → side (afterTime c) ≡ afterAll (side c) (timeMoments c)
+unfolding afterTime heardBack receives timeMoments after afterAll
+time-side c =
+    let heard = inLoopback c && c .transmitter .busy in
+    pick-through (λ (r : Receiver). side (withReceiver c (waited (fifo c) r))) heard _ _ ∙ sym (pick-through (afterAll (side c)) heard _ _)
+
 effect-side : (c : Channel) (e : SeatEvent) → side (effect c e .channel) ≡ afterAll (side c) (acceptedMoments c e)
-unfolding effect acceptedMoments afterArrival afterLevels afterTime after afterAll
+unfolding effect acceptedMoments afterArrival afterLevels after afterAll
 effect-side c (Read n) = read-side c (registerAt (divisorShown c) n)
 effect-side c (Write n byte) = write-side c (registerAt (divisorShown c) n) byte
-effect-side c (Arrival marks byte) = refl
+effect-side c (Arrival marks byte) = arrival-side c (record { «data» = byte; marks = marks })
 effect-side c (Levels levels) = refl
-effect-side c Time = refl
+effect-side c Time = time-side c
 
 pub step-side : (c : Channel) (e : SeatEvent) → side (stepped c e .channel) ≡ afterAll (side c) (momentsOf c e)
 unfolding stepped momentsOf afterAll
@@ -160,13 +174,18 @@ write-told c Scratch byte a = refl
 write-told c Dll byte a = refl
 write-told c Dlm byte a = refl
 
+-- neither of two runs of moments tells other characters than are read
+none-told : (c : Channel) (a : Answer) (t : Bool) (ms ns : List Moment) → toldIn (side c) a ms ≡ readIn (side c) ms → toldIn (side c) a ns ≡ readIn (side c) ns
+    → toldIn (side c) a (pick t ms ns) ≡ readIn (side c) (pick t ms ns)
+none-told c a t ms ns first second = pick-either (λ (l : List Moment). toldIn (side c) a l ≡ readIn (side c) l) t ms ns first second
+
 effect-told : (c : Channel) (e : SeatEvent) → toldIn (side c) (effect c e .answer) (acceptedMoments c e) ≡ readIn (side c) (acceptedMoments c e)
-unfolding effect acceptedMoments toldIn telling readIn
+unfolding effect acceptedMoments arrivalMoments timeMoments toldIn telling readIn
 effect-told c (Read n) = read-told c (registerAt (divisorShown c) n)
 effect-told c (Write n byte) = write-told c (registerAt (divisorShown c) n) byte Done
-effect-told c (Arrival marks byte) = refl
+effect-told c (Arrival marks byte) = none-told c Done (inLoopback c) _ _ refl refl
 effect-told c (Levels levels) = refl
-effect-told c Time = refl
+effect-told c Time = none-told c (timeAnswer c) (inLoopback c && c .transmitter .busy) _ _ refl refl
 
 by-test : (s : Side) (t : Bool) (x y : Stepped) (ms ns : List Moment) → toldIn s (x .answer) ms ≡ readIn s ms → toldIn s (y .answer) ns ≡ readIn s ns
     → toldIn s (pick t x y .answer) (pick t ms ns) ≡ readIn s (pick t ms ns)

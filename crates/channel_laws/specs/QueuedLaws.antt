@@ -26,7 +26,7 @@ use Rattle.transmitter.specs.SoundLaws as sending
 use Rattle.channel.specs.declared.Channel.{Channel}
 use Rattle.channel.specs.declared.Stepped.{Stepped}
 use Rattle.registers.specs.declared.SeatEvent.the-variants.{Write, Arrival}
-use Rattle.channel.specs.Parts.{fifo}
+use Rattle.channel.specs.Parts.{fifo, inLoopback}
 use Rattle.channel.specs.Sound.{soundChannel}
 use Rattle.channel.specs.StatusLaws.{lsr-data, lsr-overrun, lsr-kept, lsr-oldest, lsr-empty, lsr-idle, lsr-marked}
 use Rattle.registers.specs.RefusalLaws.{accepts}
@@ -65,9 +65,9 @@ holds-marks c l held mode k less =
     ap (bit (2 + k)) (shows-lsr c) ∙ lsr-oldest c mode k less ∙ ap (λ (q : Queue). bit k (oldest q .marks)) held
     ∙ ap (λ (ch : Character). bit k (ch .marks)) (first-is l)
 
--- ---- an arrival
+-- ---- an arrival, outside loopback
 
-module _ (c : Channel) (marks byte : ℕ) (served : accepts (c .settings) (Arrival marks byte) ≡ true) where
+module _ (c : Channel) (outside : inLoopback c ≡ false) (marks byte : ℕ) (served : accepts (c .settings) (Arrival marks byte) ≡ true) where
   abbrev arrived : Character
   arrived = record { «data» = byte; marks = marks }
 
@@ -80,14 +80,14 @@ module _ (c : Channel) (marks byte : ℕ) (served : accepts (c .settings) (Arriv
     pub arrival-joins : later .receiver .queue ≡ holding (joined (fifo c) l arrived)
     unfolding received
     arrival-joins =
-        ap (λ (s : Stepped). s .channel .receiver .queue) (arrival-received c marks byte served)
+        ap (λ (s : Stepped). s .channel .receiver .queue) (arrival-received c outside marks byte served)
         ∙ ap (λ (q : Queue). accepted (fifo c) q arrived .queue) held ∙ takes (fifo c) l arrived within
 
     pub arrival-overruns : bit 1 (shown later 5) ≡ (bit 1 (shown c 5) || leb (places (fifo c)) (length l))
     unfolding capacity
     arrival-overruns =
         ap (bit 1) (shows-lsr later) ∙ lsr-overrun later
-        ∙ ap (λ (s : Stepped). s .channel .receiver .overrun) (arrival-received c marks byte served)
+        ∙ ap (λ (s : Stepped). s .channel .receiver .overrun) (arrival-received c outside marks byte served)
         ∙ arrive-overrun (fifo c) (c .receiver) l arrived held within
         ∙ ap (λ (b : Bool). b || leb (places (fifo c)) (length l)) (sym (ap (bit 1) (shows-lsr c) ∙ lsr-overrun c))
 
@@ -100,29 +100,29 @@ module _ (c : Channel) (marks byte : ℕ) (served : accepts (c .settings) (Arriv
   pub arrival-marks : fifo c ≡ false → (k : ℕ) → k < 3 → bit (2 + k) (shown later 5) ≡ (bit (2 + k) (shown c 5) || bit k marks)
   unfolding received
   arrival-marks mode k less =
-      let same : later .settings ≡ c .settings = ap (λ (s : Stepped). s .channel .settings) (arrival-received c marks byte served) in
+      let same : later .settings ≡ c .settings = ap (λ (s : Stepped). s .channel .settings) (arrival-received c outside marks byte served) in
       ap (bit (2 + k)) (shows-lsr later) ∙ lsr-kept later (ap (λ s. bit 0 (s .fcr)) same ∙ mode) k less
-      ∙ ap (λ (s : Stepped). bit k (s .channel .receiver .kept)) (arrival-received c marks byte served)
+      ∙ ap (λ (s : Stepped). bit k (s .channel .receiver .kept)) (arrival-received c outside marks byte served)
       ∙ ap (bit k) (pick-false _ _ _ mode) ∙ bit-or k (c .receiver .kept) marks
       ∙ ap (λ (b : Bool). b || bit k marks) (sym (ap (bit (2 + k)) (shows-lsr c) ∙ lsr-kept c mode k less))
 
   -- ticket 5: "an arrival leaves a count of 4 at 4"
   pub arrival-leaves-four : c .receiver .timeout ≡ 4 → later .receiver .timeout ≡ 4
   arrival-leaves-four four =
-      ap (λ (s : Stepped). s .channel .receiver .timeout) (arrival-received c marks byte served) ∙ effects.arrival-leaves-four (fifo c) (c .receiver) arrived four
+      ap (λ (s : Stepped). s .channel .receiver .timeout) (arrival-received c outside marks byte served) ∙ effects.arrival-leaves-four (fifo c) (c .receiver) arrived four
 
   -- ticket 5: it "sets a smaller one to 0"
   pub arrival-sets-back : c .receiver .timeout < 4 → later .receiver .timeout ≡ 0
   arrival-sets-back less =
-      ap (λ (s : Stepped). s .channel .receiver .timeout) (arrival-received c marks byte served)
+      ap (λ (s : Stepped). s .channel .receiver .timeout) (arrival-received c outside marks byte served)
       ∙ effects.arrival-sets-back (fifo c) (c .receiver) arrived (λ (four : c .receiver .timeout ≡ 4). omega arith)
 
   -- what arrives is not yet read: the last byte read stays; and in FIFO mode nothing is added to kept marks
   pub arrival-leaves : (later .receiver .last ≡ c .receiver .last) × (fifo c ≡ true → later .receiver .kept ≡ c .receiver .kept)
   unfolding received
   arrival-leaves = (
-    ap (λ (s : Stepped). s .channel .receiver .last) (arrival-received c marks byte served),
-    λ mode. ap (λ (s : Stepped). s .channel .receiver .kept) (arrival-received c marks byte served) ∙ pick-true _ _ _ mode,
+    ap (λ (s : Stepped). s .channel .receiver .last) (arrival-received c outside marks byte served),
+    λ mode. ap (λ (s : Stepped). s .channel .receiver .kept) (arrival-received c outside marks byte served) ∙ pick-true _ _ _ mode,
   )
 
 -- ---- a THR write

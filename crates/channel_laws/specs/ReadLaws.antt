@@ -26,7 +26,7 @@ use Rattle.registers.specs.Registers.{plainRegister, registerAt}
 use Rattle.channel.specs.Status.{lsr, msr, iir}
 use Rattle.channel.specs.Effects.{iirRead, lsrRead, msrRead, answerAt, afterRead}
 use Rattle.channel.specs.Steps.{effect, stepped}
-use Rattle.channel.specs.StatusLaws.{lsr-data, lsr-overrun, lsr-kept, lsr-oldest, lsr-empty, lsr-idle, lsr-marked, msr-changes, msr-levels}
+use Rattle.channel.specs.StatusLaws.{lsr-data, lsr-overrun, lsr-kept, lsr-oldest, lsr-empty, lsr-idle, lsr-marked, msr-changes, msr-inputs}
 use Rattle.channel_laws.specs.RefusalLaws.{done}
 
 module _ (c : Channel) where
@@ -127,7 +127,7 @@ module _ (c : Channel) where
   unfolding msrRead
   msr-again-changes k less = msr-changes (msrRead c) k less ∙ no-bit k
 
-  -- the levels stay
-  pub msr-again-levels : (k : ℕ) → k < 4 → bit (4 + k) (msr (msrRead c)) ≡ bit (4 + k) (msr c)
+  -- the inputs stay
+  pub msr-again-inputs : (k : ℕ) → k < 4 → bit (4 + k) (msr (msrRead c)) ≡ bit (4 + k) (msr c)
   unfolding msrRead
-  msr-again-levels k less = msr-levels (msrRead c) k less ∙ sym (msr-levels c k less)
+  msr-again-inputs k less = msr-inputs (msrRead c) k less ∙ sym (msr-inputs c k less)

@@ -2,7 +2,7 @@
 use Prim.Native.Nat.{ℕ, _+_, _<_}
 use mathlib.Core.Bool.{false}
 use mathlib.Core.List.{List, [], _∷_}
-use mathlib.Core.Path.{_≡_, refl, sym, _∙_}
+use mathlib.Core.Path.{_≡_, refl, _∙_}
 use lib.Pow.{pow-pos}
 use Rattle.base.specs.Pick.{pick}
 use Rattle.base.specs.Bits.{bit, digit, bits}
@@ -13,6 +13,7 @@ use Rattle.base.specs.Refusals.{firstOf, refusalBy}
 use Rattle.receiver.specs.Receiver.{restarted, noneQueued, got, shownMarks, someMarked}
 use Rattle.transmitter.specs.Transmitter.{noneWaiting, allSent}
 use Rattle.registers.specs.Modem.{msrOf}
+use Rattle.registers.specs.Loopback.{inputsOf}
 use Rattle.registers.specs.Registers.{plainRegister, registerAt}
 use Rattle.channel.specs.declared.Channel.{Channel}
 use Rattle.registers.specs.declared.SeatEvent.the-variants.{Write}
@@ -62,6 +63,10 @@ pub reset-at-power-up : masterReset powerUp ≡ powerUp
 unfolding masterReset restarted
 reset-at-power-up = refl
 
+no-loop : bit 4 0 ≡ false
+unfolding bit
+no-loop = refl
+
 module _ (c : Channel) where
   -- after it LSR is 60 and IIR is 01, as at power-up, and the line is low
   pub reset-lsr : lsr (masterReset c) ≡ 0x60
@@ -76,14 +81,15 @@ module _ (c : Channel) where
   unfolding masterReset line lineOf causeOf causes firstCause bit pick
   reset-line = refl
 
-  -- MSR bits 0 to 3 are 0, and bits 4 to 7 as before
+  -- MSR bits 0 to 3 are 0. Ticket 7: "a master reset sets none", though it leaves loopback and the inputs may be others then
   pub reset-changes : (k : ℕ) → k < 4 → bit k (msr (masterReset c)) ≡ false
   unfolding masterReset
   reset-changes k less = msr-changes (masterReset c) k less ∙ bit-past k 0 (pow-pos k)
 
-  pub reset-levels : (k : ℕ) → k < 4 → bit (4 + k) (msr (masterReset c)) ≡ bit (4 + k) (msr c)
+  -- and bits 4 to 7 are the levels last given, in loopback too, which it leaves
+  pub reset-levels : (k : ℕ) → k < 4 → bit (4 + k) (msr (masterReset c)) ≡ bit k (c .modem .levels)
   unfolding masterReset
-  reset-levels k less = msr-levels (masterReset c) k less ∙ sym (msr-levels c k less)
+  reset-levels k less = msr-levels (masterReset c) no-loop k less
 
 -- ---- as reads show it, register by register
 
@@ -91,7 +97,7 @@ module _ (c : Channel) where
 -- queues, IIR that there is no cause
 pub power-up-reads : listed 8 (shown powerUp) ≡ 0x00 ∷ 0x00 ∷ 0x01 ∷ 0x00 ∷ 0x00 ∷ 0x60 ∷ 0x00 ∷ 0x00 ∷ []
 unfolding stepped effect refusal grounds refusalBy firstOf
-    registerAt plainRegister pick bit digit bits valueOf answerAt afterWrite got iir iirOf causeOf causes firstCause lsr lsrOf msr msrOf
+    registerAt plainRegister pick bit digit bits valueOf answerAt afterWrite got iir iirOf causeOf causes firstCause lsr lsrOf msr msrOf inputsOf
     noneQueued shownMarks someMarked noneWaiting allSent
 power-up-reads = refl
 
@@ -108,7 +114,7 @@ divisorReads c = listed 2 (shown (after c (Write 3 0x80)))
 
 pub power-up-divisor : divisorReads powerUp ≡ 0x00 ∷ 0x00 ∷ []
 unfolding stepped effect refusal grounds refusalBy firstOf
-    registerAt plainRegister pick bit digit bits valueOf answerAt afterWrite got iir iirOf causeOf causes firstCause lsr lsrOf msr msrOf
+    registerAt plainRegister pick bit digit bits valueOf answerAt afterWrite got iir iirOf causeOf causes firstCause lsr lsrOf msr msrOf inputsOf
     noneQueued shownMarks someMarked noneWaiting allSent
 power-up-divisor = refl
 
@@ -117,6 +123,6 @@ pub reset-reads : (c : Channel)
     → (listed 6 (shown (masterReset c)) ≡ c .receiver .last ∷ 0x00 ∷ 0x01 ∷ 0x00 ∷ 0x00 ∷ 0x60 ∷ [])
     × (shown (masterReset c) 7 ≡ c .settings .scratch) × (divisorReads (masterReset c) ≡ c .settings .dll ∷ c .settings .dlm ∷ [])
 unfolding masterReset restarted stepped effect refusal grounds refusalBy firstOf
-    registerAt plainRegister pick bit digit bits valueOf answerAt afterWrite got iir iirOf causeOf causes firstCause lsr lsrOf msr msrOf
+    registerAt plainRegister pick bit digit bits valueOf answerAt afterWrite got iir iirOf causeOf causes firstCause lsr lsrOf msr msrOf inputsOf
     noneQueued shownMarks someMarked noneWaiting allSent
 reset-reads c = (refl, refl, refl)

@@ -14,6 +14,8 @@ use Rattle.base.specs.declared.Answer.{Answer}
 use Rattle.base.specs.declared.Answer.the-variants.{Byte, Letter, Done, Sent, Idle, Break, Vector, Spurious, Place, Divisor, Refused}
 use Rattle.queue.specs.Queue.{capacity}
 use Rattle.registers.specs.Words.{cut}
+use Rattle.registers.specs.Loopback.{looped}
+use Rattle.registers.specs.declared.Settings.{Settings}
 use Rattle.registers.specs.Registers.{fcrKept}
 use Rattle.transmitter.specs.declared.Transmitter.{Transmitter}
 use Rattle.transmitter.specs.Transmitter.{noneWaiting, allSent, written, shifted}
@@ -27,7 +29,8 @@ use Rattle.channel.specs.declared.Channel.{Channel}
 use Rattle.channel.specs.declared.Stepped.{Stepped}
 use Rattle.registers.specs.declared.SeatEvent.{SeatEvent}
 use Rattle.registers.specs.declared.SeatEvent.the-variants.{Write, Time}
-use Rattle.channel.specs.Parts.{powerUp, withSettings, withTransmitter, divisorShown, fifo}
+use Rattle.channel.specs.Parts.{powerUp, withSettings, withTransmitter, divisorShown, fifo, inLoopback}
+use Rattle.channel.specs.Effects.{heardBack}
 use Rattle.channel.specs.Sound.{soundChannel}
 use Rattle.channel.specs.Steps.{stepped}
 use Rattle.registers.specs.RefusalLaws.{undivided}
@@ -38,7 +41,7 @@ use Rattle.channel_laws.specs.Sends.{afterEvents, answersTo, sending}
 
 -- ---- events in two parts
 
-after-both : (c : Channel) (es fs : List SeatEvent) → afterEvents c (es ++ fs) ≡ afterEvents (afterEvents c es) fs
+pub after-both : (c : Channel) (es fs : List SeatEvent) → afterEvents c (es ++ fs) ≡ afterEvents (afterEvents c es) fs
 unfolding afterEvents
 after-both c [] fs = refl
 after-both c (e ∷ es) fs = after-both (stepped c e .channel) es fs
@@ -50,7 +53,7 @@ answers-both c (e ∷ es) fs = ap (λ (l : List Answer). stepped c e .answer ∷
 
 -- ---- bytes written to the THR
 
-after-writes : (bytes : List ℕ) (c : Channel) → divisorShown c ≡ false
+pub after-writes : (bytes : List ℕ) (c : Channel) → divisorShown c ≡ false
     → afterEvents c (map (Write 0) bytes) ≡ withTransmitter c (writtenAll (fifo c) (c .transmitter) bytes)
 unfolding afterEvents writtenAll
 after-writes [] c plain = refl
@@ -69,7 +72,7 @@ writes-told (byte ∷ bytes) c plain =
 
 -- the channel after one
 abbrev pub passed : Channel → Channel
-passed c = record { settings = c .settings; receiver = waited (fifo c) (c .receiver); transmitter = shifted (c .transmitter); modem = c .modem }
+passed c = record { settings = c .settings; receiver = waited (fifo c) (heardBack c); transmitter = shifted (c .transmitter); modem = c .modem }
 
 after-times : (k : ℕ) (c : Channel) → undivided (c .settings) ≡ false → afterEvents c (replicate k Time) .transmitter ≡ afterTimes k (c .transmitter)
 unfolding afterEvents afterTimes
@@ -91,30 +94,31 @@ onWire lcr (Place p) = Place p
 onWire lcr (Divisor d) = Divisor d
 onWire lcr (Refused n) = Refused n
 
--- one character time, without break
-leaves : (c : Channel) → undivided (c .settings) ≡ false → bit 6 (c .settings .lcr) ≡ false
+-- one character time, outside loopback and without break
+leaves : (c : Channel) → undivided (c .settings) ≡ false → inLoopback c ≡ false → bit 6 (c .settings .lcr) ≡ false
     → stepped c Time .answer ≡ onWire (c .settings .lcr) (leaving (c .transmitter))
-leaves c going clear =
+leaves c going outside clear =
     ⊎-elim
-    (λ (full : c .transmitter .busy ≡ true). sent c going clear full ∙ sym (ap (onWire (c .settings .lcr)) (pick-true _ _ _ full)))
-    (λ (empty : c .transmitter .busy ≡ false). idle c going clear empty ∙ sym (ap (onWire (c .settings .lcr)) (pick-false _ _ _ empty)))
+    (λ (full : c .transmitter .busy ≡ true). sent c going outside clear full ∙ sym (ap (onWire (c .settings .lcr)) (pick-true _ _ _ full)))
+    (λ (empty : c .transmitter .busy ≡ false). idle c going outside clear empty ∙ sym (ap (onWire (c .settings .lcr)) (pick-false _ _ _ empty)))
     (either-way (c .transmitter .busy))
 
-times-told : (k : ℕ) (c : Channel) → undivided (c .settings) ≡ false → bit 6 (c .settings .lcr) ≡ false
+times-told : (k : ℕ) (c : Channel) → undivided (c .settings) ≡ false → inLoopback c ≡ false → bit 6 (c .settings .lcr) ≡ false
     → answersTo c (replicate k Time) ≡ map (onWire (c .settings .lcr)) (side.sending k (c .transmitter))
 unfolding answersTo side.sending
-times-told zero c going clear = refl
-times-told (suc k) c going clear =
-    ap₂ (λ (a : Answer) (l : List Answer). a ∷ l) (leaves c going clear)
-    (ap (λ (d : Channel). answersTo d (replicate k Time)) (time-shifts c going) ∙ times-told k (passed c) going clear)
+times-told zero c going outside clear = refl
+times-told (suc k) c going outside clear =
+    ap₂ (λ (a : Answer) (l : List Answer). a ∷ l) (leaves c going outside clear)
+    (ap (λ (d : Channel). answersTo d (replicate k Time)) (time-shifts c going) ∙ times-told k (passed c) going outside clear)
 
--- with break, whatever leaves
-times-broken : (k : ℕ) (c : Channel) → undivided (c .settings) ≡ false → bit 6 (c .settings .lcr) ≡ true → answersTo c (replicate k Time) ≡ replicate k Break
+-- where the settings alone say what a character time is answered with, whatever leaves: with break, and in loopback
+pub times-alike : (a : Answer) (s : Settings) → undivided s ≡ false → ((d : Channel) → d .settings ≡ s → stepped d Time .answer ≡ a)
+    → (k : ℕ) (c : Channel) → c .settings ≡ s → answersTo c (replicate k Time) ≡ replicate k a
 unfolding answersTo
-times-broken zero c going set = refl
-times-broken (suc k) c going set =
-    ap₂ (λ (a : Answer) (l : List Answer). a ∷ l) (broken c going set)
-    (ap (λ (d : Channel). answersTo d (replicate k Time)) (time-shifts c going) ∙ times-broken k (passed c) going set)
+times-alike a s going each zero c same = refl
+times-alike a s going each (suc k) c same =
+    ap₂ (λ (b : Answer) (l : List Answer). b ∷ l) (each c same)
+    (ap (λ (d : Channel). answersTo d (replicate k Time)) (time-shifts c (ap undivided same ∙ going)) ∙ times-alike a s going each k (passed c) same)
 
 -- ---- bytes written, and then character times
 
@@ -125,35 +129,40 @@ wire-idle lcr (suc k) = ap (λ (l : List Answer). Idle ∷ l) (wire-idle lcr k)
 
 module _ (c : Channel) (sound : soundChannel c ≡ true) (at-rest : allSent (c .transmitter) ≡ true) (going : undivided (c .settings) ≡ false)
     (plain : bit 7 (c .settings .lcr) ≡ false) (bytes : List ℕ) (fits : length bytes ≤ capacity (fifo c)) where
-  abbrev filled : Channel
+  abbrev pub filled : Channel
   filled = withTransmitter c (writtenAll (fifo c) (c .transmitter) bytes)
 
-  told : (k : ℕ) → answersTo c (sending bytes k) ≡ replicate (length bytes) Done ++ answersTo filled (replicate k Time)
+  pub told : (k : ℕ) → answersTo c (sending bytes k) ≡ replicate (length bytes) Done ++ answersTo filled (replicate k Time)
   told k =
       answers-both c (map (Write 0) bytes) (replicate k Time)
       ∙ ap₂ (λ (l : List Answer) (d : Channel). l ++ answersTo d (replicate k Time)) (writes-told bytes c plain) (after-writes bytes c plain)
 
-  -- as many bytes as the queue takes, written to a channel at rest, are each answered 000; then come one idle character time, the bytes in order,
-  -- each cut to the word length, and idle for as long as one looks
-  pub sends : bit 6 (c .settings .lcr) ≡ false → (k : ℕ)
+  -- outside loopback: as many bytes as the queue takes, written to a channel at rest, are each answered 000; then come one idle character time, the
+  -- bytes in order, each cut to the word length, and idle for as long as one looks
+  pub sends : inLoopback c ≡ false → bit 6 (c .settings .lcr) ≡ false → (k : ℕ)
       → answersTo c (sending bytes (suc (length bytes) + k))
       ≡ replicate (length bytes) Done ++ (Idle ∷ (map (λ (byte : ℕ). Sent (cut (c .settings .lcr) byte)) bytes ++ replicate k Idle))
-  sends clear k =
+  sends outside clear k =
       let lcr = c .settings .lcr in
       told (suc (length bytes) + k)
       ∙ ap (λ (l : List Answer). replicate (length bytes) Done ++ l)
-      (times-told (suc (length bytes) + k) filled going clear
+      (times-told (suc (length bytes) + k) filled going outside clear
       ∙ ap (map (onWire lcr)) (sends-in-order (fifo c) (c .transmitter) (parts c sound .transmitter) at-rest bytes fits k)
       ∙ ap (λ (l : List Answer). Idle ∷ l)
       (map-append (onWire lcr) (map Sent bytes) (replicate k Idle)
       ∙ ap₂ (λ (l r : List Answer). l ++ r) (map-map (onWire lcr) Sent bytes) (wire-idle lcr k)))
 
   -- "With LCR bit 6 set the answer is 200, and all else goes on."
-  pub breaks : bit 6 (c .settings .lcr) ≡ true → (k : ℕ)
+  pub breaks : inLoopback c ≡ false → bit 6 (c .settings .lcr) ≡ true → (k : ℕ)
       → answersTo c (sending bytes k) ≡ replicate (length bytes) Done ++ replicate k Break
-  breaks set k = told k ∙ ap (λ (l : List Answer). replicate (length bytes) Done ++ l) (times-broken k filled going set)
+  breaks outside set k =
+      told k
+      ∙ ap (λ (l : List Answer). replicate (length bytes) Done ++ l)
+      (times-alike Break (c .settings) going
+      (λ d same. broken d (ap undivided same ∙ going) (ap (λ (s : Settings). looped (s .mcr)) same ∙ outside) (ap (λ (s : Settings). bit 6 (s .lcr)) same ∙ set)) k
+      filled refl)
 
-  -- with break or without: the send side after so many character times
+  -- with break or without, in loopback or not: the send side after so many character times
   sides-after : (k : ℕ) → afterEvents c (sending bytes k) .transmitter ≡ afterTimes k (writtenAll (fifo c) (c .transmitter) bytes)
   sides-after k =
       ap (λ (d : Channel). d .transmitter) (after-both c (map (Write 0) bytes) (replicate k Time))
@@ -198,4 +207,4 @@ five-sound =
 pub five-bits : answersTo five (sending (0x41 ∷ 0x20 ∷ 0x1F ∷ []) 5)
     ≡ Done ∷ Done ∷ Done ∷ Idle ∷ Sent 0x01 ∷ Sent 0x00 ∷ Sent 0x1F ∷ Idle ∷ []
 unfolding allSent noneWaiting capacity cut bit pick
-five-bits = sends five five-sound refl refl refl (0x41 ∷ 0x20 ∷ 0x1F ∷ []) (omega arith) refl 1
+five-bits = sends five five-sound refl refl refl (0x41 ∷ 0x20 ∷ 0x1F ∷ []) (omega arith) refl refl 1

@@ -1,18 +1,21 @@
 -- What reaches the two sides of a channel: an arrival, a character time, a THR write and an RBR read are each one call of a side, and nothing
 -- else moves.
 use Prim.Native.Nat.{ℕ}
-use mathlib.Core.Bool.{Bool, true, false, not}
-use mathlib.Core.Path.{_≡_, refl, ap}
+use mathlib.Core.Bool.{Bool, true, false, not, _&&_}
+use mathlib.Core.Path.{_≡_, refl, ap, _∙_}
 use Rattle.base.specs.Pick.{pick}
+use Rattle.base.specs.PickLaws.{pick-false}
 use Rattle.base.specs.declared.Answer.the-variants.{Letter, Done}
+use Rattle.receiver.specs.declared.Receiver.{Receiver}
 use Rattle.receiver.specs.Receiver.{received, got, waited}
 use Rattle.transmitter.specs.Transmitter.{written, shifted}
 use Rattle.registers.specs.declared.Register.the-variants.{RbrThr}
 use Rattle.registers.specs.Registers.{plainRegister, registerAt}
 use Rattle.channel.specs.declared.Channel.{Channel}
+use Rattle.channel.specs.declared.Stepped.{Stepped}
 use Rattle.registers.specs.declared.SeatEvent.the-variants.{Read, Write, Arrival, Time}
-use Rattle.channel.specs.Parts.{withReceiver, withTransmitter, divisorShown, fifo}
-use Rattle.channel.specs.Effects.{answerAt, afterRead, afterWrite, afterArrival, afterTime}
+use Rattle.channel.specs.Parts.{withReceiver, withTransmitter, divisorShown, fifo, inLoopback}
+use Rattle.channel.specs.Effects.{answerAt, afterRead, afterWrite, receives, heardOutside, afterArrival, heardBack, afterTime}
 use Rattle.channel.specs.Steps.{effect, stepped}
 use Rattle.registers.specs.RefusalLaws.{undivided, accepts}
 use Rattle.channel_laws.specs.RefusalLaws.{done}
@@ -20,20 +23,27 @@ use Rattle.channel_laws.specs.ReadLaws.{read-at}
 use Rattle.channel_laws.specs.BackLaws.{write-at}
 
 module _ (c : Channel) where
-  -- "character arrives": "000"
-  pub arrival-received : (marks byte : ℕ) → accepts (c .settings) (Arrival marks byte) ≡ true
+  -- "character arrives": "000"; outside loopback it is received
+  pub arrival-received : inLoopback c ≡ false → (marks byte : ℕ) → accepts (c .settings) (Arrival marks byte) ≡ true
       → stepped c (Arrival marks byte)
       ≡ record { channel = withReceiver c (received (fifo c) (c .receiver) (record { «data» = byte; marks = marks })); answer = Done }
-  unfolding effect afterArrival
-  arrival-received marks byte served = done c (Arrival marks byte) served
+  unfolding effect afterArrival heardOutside receives
+  arrival-received outside marks byte served =
+      done c (Arrival marks byte) served
+      ∙ ap {B = Stepped} (λ (r : Receiver). record { channel = withReceiver c r; answer = Done }) (pick-false _ _ _ outside)
 
   -- "a character in the shift register leaves, cut to the word length; the oldest queued moves in"; "in FIFO mode with a character in the receive
-  -- queue the time-out count rises, up to 4"
+  -- queue the time-out count rises, up to 4", once the receive side has heard what leaves in loopback
   pub time-shifts : undivided (c .settings) ≡ false
       → stepped c Time .channel
-      ≡ record { settings = c .settings; receiver = waited (fifo c) (c .receiver); transmitter = shifted (c .transmitter); modem = c .modem }
+      ≡ record { settings = c .settings; receiver = waited (fifo c) (heardBack c); transmitter = shifted (c .transmitter); modem = c .modem }
   unfolding effect afterTime
   time-shifts going = ap (λ s. s .channel) (done c Time (ap not going))
+
+  -- it hears nothing outside loopback, and nothing of an empty shift register
+  pub none-back : (inLoopback c && c .transmitter .busy) ≡ false → heardBack c ≡ c .receiver
+  unfolding heardBack
+  none-back none = pick-false _ _ _ none
 
   -- with LCR bit 7 clear, register 0 is the RBR for reads and the THR for writes
   module _ (plain : divisorShown c ≡ false) where

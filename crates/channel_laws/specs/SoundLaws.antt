@@ -24,7 +24,7 @@ use Rattle.channel.specs.Sound.{soundChannel}
 pub record Sound (c : Channel) : Type 0 where
   pub enables : c .settings .ier < 16
   pub modes : fcrKept (c .settings .fcr) ≡ c .settings .fcr
-  pub outputs : c .settings .mcr < 16
+  pub outputs : c .settings .mcr < 32
   pub levels : c .modem .levels < 16
   pub changes : c .modem .changes < 16
   pub receiver : soundReceiver (fifo c) (c .receiver) ≡ true
@@ -37,7 +37,7 @@ parts c sound =
     let six = both-hold _ (soundReceiver (fifo c) (c .receiver)) (seven .0) in
     let five = both-hold _ (ltb (c .modem .changes) 16) (six .0) in
     let four = both-hold _ (ltb (c .modem .levels) 16) (five .0) in
-    let three = both-hold _ (ltb (c .settings .mcr) 16) (four .0) in
+    let three = both-hold _ (ltb (c .settings .mcr) 32) (four .0) in
     let two = both-hold (ltb (c .settings .ier) 16) (eqb (fcrKept (c .settings .fcr)) (c .settings .fcr)) (three .0) in
     record {
       enables = ltb-true _ _ (two .0);
@@ -130,14 +130,14 @@ with-modem c m s small few =
       transmitter = s .transmitter;
     }
 
--- the registers whose bits are all free, and the MCR
-pub with-settings : (c : Channel) (lcr mcr scratch dll dlm : ℕ) → Sound c → mcr < 16
-    → Sound (withSettings c (record { ier = c .settings .ier; fcr = c .settings .fcr; lcr = lcr; mcr = mcr; scratch = scratch; dll = dll; dlm = dlm }))
-with-settings c lcr mcr scratch dll dlm s small =
+-- the registers whose bits are all free
+pub with-settings : (c : Channel) (lcr scratch dll dlm : ℕ) → Sound c
+    → Sound (withSettings c (record { ier = c .settings .ier; fcr = c .settings .fcr; lcr = lcr; mcr = c .settings .mcr; scratch = scratch; dll = dll; dlm = dlm }))
+with-settings c lcr scratch dll dlm s =
     record {
       enables = s .enables;
       modes = s .modes;
-      outputs = small;
+      outputs = s .outputs;
       levels = s .levels;
       changes = s .changes;
       receiver = s .receiver;

@@ -1,16 +1,17 @@
 -- Every event, refused or not, leaves a sound channel sound.
-use Prim.Native.Nat.{ℕ, _/_, _%_, _^_, _<_}
+use Prim.Native.Nat.{ℕ, _<_}
 use mathlib.Core.Bool.{Bool, true, false, not, _&&_, _||_, xor}
 use mathlib.Core.List.{[], _∷_}
 use mathlib.Core.Path.{_≡_, refl, ap, sym, subst, _∙_}
 use mathlib.Core.Logic.{⊎-elim}
 use native.Mathlib.Omega.{arith}
 use lib.Dec.{ltb, eqb}
-use borrow.Author.Tests.{eq-eqb, ltb-true, eqb-false, not-true}
+use borrow.Author.Tests.{eq-eqb, ltb-true}
 use Rattle.base.specs.Pick.{pick}
 use Rattle.base.specs.PickLaws.{pick-true, pick-false, pick-either, both-hold, either-way}
 use Rattle.base.specs.Bits.{bit, bits}
 use Rattle.base.specs.BitLaws.{bit-bits}
+use Rattle.queue.specs.declared.Character.{Character}
 use Rattle.receiver.specs.declared.Receiver.{Receiver}
 use Rattle.receiver.specs.Receiver.{noneQueued, timeoutStands}
 use Rattle.receiver.specs.Sound.{soundReceiver}
@@ -24,10 +25,10 @@ use Rattle.registers.specs.declared.Register.{Register}
 use Rattle.registers.specs.declared.Register.the-variants.{RbrThr, Ier, IirFcr, Lcr, Mcr, Lsr, Msr, Scratch, Dll, Dlm}
 use Rattle.registers.specs.declared.SeatEvent.{SeatEvent}
 use Rattle.registers.specs.declared.SeatEvent.the-variants.{Read, Write, Arrival, Levels, Time}
-use Rattle.channel.specs.Parts.{divisorShown, fifo}
-use Rattle.registers.specs.Registers.{plainRegister, registerAt, fcrKept}
+use Rattle.channel.specs.Parts.{divisorShown, fifo, inLoopback}
+use Rattle.registers.specs.Registers.{registerAt, fcrKept}
 use Rattle.channel.specs.Status.{cause}
-use Rattle.channel.specs.Effects.{iirRead, lsrRead, msrRead, afterRead, ierWritten, modeChanged, fcrReceiver, fcrTransmitter, fcrWritten, afterWrite, afterArrival, afterLevels, afterTime}
+use Rattle.channel.specs.Effects.{iirRead, lsrRead, msrRead, afterRead, ierWritten, modeChanged, fcrReceiver, fcrTransmitter, fcrWritten, noticed, mcrWritten, afterWrite, receives, heardOutside, afterArrival, afterLevels, leaver, heardBack, afterTime}
 use Rattle.channel.specs.Steps.{effect, stepped}
 use Rattle.channel.specs.Sound.{soundChannel}
 use Rattle.channel_laws.specs.CauseLaws.{late-at-four}
@@ -146,71 +147,61 @@ module _ (c : Channel) (byte : ℕ) (s : Sound c) where
             (sending.enable-sound (fifo c) (c .transmitter) (s .transmitter)) (s .transmitter);
       }
 
--- a byte that the register takes: an MCR without bit 4
-abbrev taken : Register → ℕ → Bool
-taken RbrThr byte = true
-taken Ier byte = true
-taken IirFcr byte = true
-taken Lcr byte = true
-taken Mcr byte = not (bit 4 byte)
-taken Lsr byte = true
-taken Msr byte = true
-taken Scratch byte = true
-taken Dll byte = true
-taken Dlm byte = true
+  -- ticket 7: "change bits as for real inputs, also where a write of MCR enters or leaves": these are four bits still
+  mcr-sound : Sound (mcrWritten c byte)
+  unfolding mcrWritten noticed
+  mcr-sound =
+      record {
+        enables = s .enables;
+        modes = s .modes;
+        outputs = omega arith;
+        levels = s .levels;
+        changes = changes-small _ _ _;
+        receiver = s .receiver;
+        transmitter = s .transmitter;
+      }
 
-low-four : (byte : ℕ) → bit 4 byte ≡ false → byte % 2 ^ 5 < 16
-unfolding bit
-low-four byte clear = omega (arith, eqb-false (byte / 16 % 2) 1 clear)
-
-write-sound : (c : Channel) (r : Register) (byte : ℕ) → taken r byte ≡ true → Sound c → Sound (afterWrite c r byte)
+write-sound : (c : Channel) (r : Register) (byte : ℕ) → Sound c → Sound (afterWrite c r byte)
 unfolding afterWrite
-write-sound c RbrThr byte fine s = with-transmitter c _ s (sending.write-sound (fifo c) (c .transmitter) byte (s .transmitter))
-write-sound c Ier byte fine s = ier-sound c byte s
-write-sound c IirFcr byte fine s = fcr-sound c byte s
-write-sound c Lcr byte fine s = with-settings c _ _ _ _ _ s (s .outputs)
-write-sound c Mcr byte fine s = with-settings c _ _ _ _ _ s (low-four byte (not-true (bit 4 byte) fine))
-write-sound c Lsr byte fine s = s
-write-sound c Msr byte fine s = s
-write-sound c Scratch byte fine s = with-settings c _ _ _ _ _ s (s .outputs)
-write-sound c Dll byte fine s = with-settings c _ _ _ _ _ s (s .outputs)
-write-sound c Dlm byte fine s = with-settings c _ _ _ _ _ s (s .outputs)
+write-sound c RbrThr byte s = with-transmitter c _ s (sending.write-sound (fifo c) (c .transmitter) byte (s .transmitter))
+write-sound c Ier byte s = ier-sound c byte s
+write-sound c IirFcr byte s = fcr-sound c byte s
+write-sound c Lcr byte s = with-settings c _ _ _ _ s
+write-sound c Mcr byte s = mcr-sound c byte s
+write-sound c Lsr byte s = s
+write-sound c Msr byte s = s
+write-sound c Scratch byte s = with-settings c _ _ _ _ s
+write-sound c Dll byte s = with-settings c _ _ _ _ s
+write-sound c Dlm byte s = with-settings c _ _ _ _ s
 
--- an accepted write brings no other
-module _ (n byte : ℕ) (served : not (eqb n 4 && bit 4 byte) ≡ true) where
-  plain-taken : taken (plainRegister n) byte ≡ true
-  unfolding plainRegister
-  plain-taken =
-      let either = pick-either (λ (r : Register). taken r byte ≡ true) in
-      either (eqb n 0) _ _ refl
-      (either (eqb n 1) _ _ refl
-      (either (eqb n 2) _ _ refl
-      (either (eqb n 3) _ _ refl
-      (⊎-elim
-      (λ (four : eqb n 4 ≡ true).
-      ap (λ (r : Register). taken r byte) (pick-true _ _ _ four) ∙ ap (λ (b : Bool). not (b && bit 4 byte)) (sym four) ∙ served)
-      (λ (other : eqb n 4 ≡ false).
-      ap (λ (r : Register). taken r byte) (pick-false _ _ _ other) ∙ either (eqb n 5) _ _ refl (either (eqb n 6) _ _ refl refl))
-      (either-way (eqb n 4))))))
+-- ---- a character received, from outside or in loopback
 
-  register-taken : (shown : Bool) → taken (registerAt shown n) byte ≡ true
-  unfolding registerAt
-  register-taken shown =
-      let either = pick-either (λ (r : Register). taken r byte ≡ true) in
-      either shown _ _ (either (eqb n 0) _ _ refl (either (eqb n 1) _ _ refl plain-taken)) plain-taken
+received-sound : (c : Channel) (ch : Character) → ch .marks < 8 → Sound c → soundReceiver (fifo c) (receives c ch) ≡ true
+unfolding receives
+received-sound c ch few s = heard.receive-sound (fifo c) (c .receiver) ch (s .receiver) few
+
+outside-sound : (c : Channel) (ch : Character) → ch .marks < 8 → Sound c → soundReceiver (fifo c) (heardOutside c ch) ≡ true
+unfolding heardOutside
+outside-sound c ch few s =
+    pick-either (λ (r : Receiver). soundReceiver (fifo c) r ≡ true) (inLoopback c) _ _ (s .receiver) (received-sound c ch few s)
+
+back-sound : (c : Channel) → Sound c → soundReceiver (fifo c) (heardBack c) ≡ true
+unfolding heardBack
+back-sound c s =
+    pick-either (λ (r : Receiver). soundReceiver (fifo c) r ≡ true) (inLoopback c && c .transmitter .busy) _ _ (received-sound c (leaver c) (omega arith) s)
+    (s .receiver)
 
 -- ---- every event
 
 effect-sound : (c : Channel) (e : SeatEvent) → accepts (c .settings) e ≡ true → Sound c → Sound (effect c e .channel)
-unfolding effect afterArrival afterLevels afterTime
+unfolding effect afterArrival afterLevels noticed afterTime
 effect-sound c (Read n) fine s = read-sound c (registerAt (divisorShown c) n) s
-effect-sound c (Write n byte) fine s =
-    write-sound c (registerAt (divisorShown c) n) byte (register-taken n byte (both-hold (ltb n 8) _ fine .1) (divisorShown c)) s
+effect-sound c (Write n byte) fine s = write-sound c (registerAt (divisorShown c) n) byte s
 effect-sound c (Arrival marks byte) fine s =
     let all = both-hold (not (undivided (c .settings))) _ fine .1 in
     let small : marks < 8 = ltb-true _ _ (both-hold (ltb marks 8) _ all .0) in
-    with-receiver c _ s (heard.receive-sound (fifo c) (c .receiver) (record { «data» = byte; marks = marks }) (s .receiver) small)
-effect-sound c (Levels levels) fine s = with-modem c _ s (ltb-true levels 16 fine) (changes-small (c .modem .changes) (c .modem .levels) levels)
+    with-receiver c _ s (outside-sound c (record { «data» = byte; marks = marks }) small s)
+effect-sound c (Levels levels) fine s = with-modem c _ s (ltb-true levels 16 fine) (changes-small _ _ _)
 effect-sound c Time fine s =
     record {
       enables = s .enables;
@@ -218,7 +209,7 @@ effect-sound c Time fine s =
       outputs = s .outputs;
       levels = s .levels;
       changes = s .changes;
-      receiver = heard.wait-sound (fifo c) (c .receiver) (s .receiver);
+      receiver = heard.wait-sound (fifo c) (heardBack c) (back-sound c s);
       transmitter = sending.shift-sound (fifo c) (c .transmitter) (s .transmitter);
     }
 

@@ -23,3 +23,5 @@ pub mod WrongPrograms
 pub mod Needed
 pub mod SheetMeant
 pub mod Statements
+pub mod Loopback
+pub mod LoopbackRuns

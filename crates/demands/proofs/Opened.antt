@@ -7,6 +7,7 @@ use Rattle.transmitter.specs.Transmitter as sender
 use Rattle.registers.specs.Registers as registers
 use Rattle.registers.specs.Words as words
 use Rattle.registers.specs.Modem as modem
+use Rattle.registers.specs.Loopback as loopback
 use Rattle.registers.specs.Refusals as refusing
 use Rattle.channel.specs.Parts as parts
 use Rattle.status.specs.Status as status
@@ -41,7 +42,7 @@ unfolding sender.noneWaiting sender.allSent sender.flagSetIf sender.written send
 of-transmitter = 0
 
 unfoldable pub of-registers : ℕ
-unfolding parts.masterReset words.trigger words.cut registers.plainRegister registers.registerAt registers.fcrKept modem.changesAfter modem.msrOf modem.someChange
+unfolding parts.masterReset words.trigger words.cut registers.plainRegister registers.registerAt registers.fcrKept modem.changesAfter modem.msrOf modem.someChange loopback.inputsOf
     refusing.grounds refusing.refusal
 of-registers = 0
 
@@ -52,7 +53,8 @@ of-status = 0
 
 unfoldable pub of-effects : ℕ
 unfolding effects.iirRead effects.lsrRead effects.msrRead effects.answerAt effects.afterRead effects.ierWritten effects.modeChanged effects.fcrReceiver
-    effects.fcrTransmitter effects.fcrWritten effects.afterWrite effects.afterArrival effects.afterLevels effects.afterTime effects.timeAnswer
+    effects.fcrTransmitter effects.fcrWritten effects.noticed effects.mcrWritten effects.afterWrite effects.receives effects.heardOutside
+    effects.afterArrival effects.afterLevels effects.heardBack effects.afterTime effects.timeAnswer
 of-effects = 0
 
 unfoldable pub of-steps : ℕ
@@ -65,7 +67,7 @@ unfolding sets.withLine events.early events.eventOf events.decoded events.refuse
 of-bench = 0
 
 unfoldable pub of-moments : ℕ
-unfolding runs.own moments.readMoments moments.fcrMoments moments.writeMoments moments.acceptedMoments moments.momentsOf moments.handedBy moments.telling moments.toldIn
+unfolding runs.own moments.readMoments moments.fcrMoments moments.writeMoments moments.arrivalMoments moments.timeMoments moments.acceptedMoments moments.momentsOf moments.handedBy moments.telling moments.toldIn
 of-moments = 0
 
 unfoldable pub of-ledger : ℕ

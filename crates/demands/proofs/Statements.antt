@@ -9,6 +9,8 @@ use Rattle.demands.proofs.Demand3Restores.{starts-anew, demand-3-from-i
 use Rattle.demands.proofs.SeatLedger.{seat-ledger, seat-ledger-from-power-up}
 use Rattle.demands.proofs.SeatLetters.{seat-letters, seat-letters-from-power-up, only-rbr, in-16450-mode, in-fifo-mode}
 use Rattle.demands.proofs.TimeOut.{time-out-lasts, at-arrival, untouched-stays, time-out-ends}
+use Rattle.demands.proofs.Loopback.{fed-back, changes-noticed, changes-stand, reset-sets-none, arrivals-unheard, levels-kept, levels-last-on, leaver-is-received, sent-is-received, idle-receives-nothing, seats-sound, outside-as-before}
+use Rattle.demands.proofs.LoopbackRuns.{self-test, overrun-inside, time-out-inside, ledger-inside, fed-in-turn, entering-leaving, reset-inside, levels-outlast, from-outside, line-gated, calls-from-within, before-differs, loopback-met}
 use Rattle.demands.proofs.SheetMeant.{sheet-meant}
 use Rattle.demands.proofs.WrongPrograms.{shut-out, let-in}
 use Rattle.demands.proofs.Needed.{needed}
@@ -41,6 +43,31 @@ statements =
       at-arrival = at-arrival;
       untouched-stays = untouched-stays;
       time-out-ends = time-out-ends;
+      fed-back = fed-back;
+      changes-noticed = changes-noticed;
+      changes-stand = changes-stand;
+      reset-sets-none = reset-sets-none;
+      arrivals-unheard = arrivals-unheard;
+      levels-kept = levels-kept;
+      levels-last = levels-last-on;
+      leaver-received = leaver-is-received;
+      sent-is-received = sent-is-received;
+      idle-receives-nothing = idle-receives-nothing;
+      seats-sound = seats-sound;
+      outside-as-before = outside-as-before;
+      self-test = self-test;
+      overrun-inside = overrun-inside;
+      time-out-inside = time-out-inside;
+      ledger-inside = ledger-inside;
+      fed-in-turn = fed-in-turn;
+      entering-leaving = entering-leaving;
+      reset-inside = reset-inside;
+      levels-outlast = levels-outlast;
+      from-outside = from-outside;
+      line-gated = line-gated;
+      calls-from-within = calls-from-within;
+      before-differs = before-differs;
+      loopback-met = loopback-met;
       sheet-meant = sheet-meant;
       shut-out = shut-out;
       let-in = let-in;

@@ -60,9 +60,9 @@ module _ (n : ℕ) (b : Bench) (rs : List Record) (all : length (b .seats) ≡ s
       record {
         stays = λ four none. ap timeoutCount (seat-runs b all n rs) ∙ seat-lasting (seat b n) (ownAll (chair n) rs) .stays four none;
         ends = λ r e. one-more r ∙ own-ends (seat (afterAll b rs) n) (chair n) (decoded r) e;
-        set-back = λ r marks byte is served less.
+        set-back = λ r marks byte is outside served less.
             one-more r ∙ ap (λ (acts : List Act). timeoutCount (actedAll (seat (afterAll b rs) n) (acts ++ []))) is
-            ∙ seat-lasting (seat (afterAll b rs) n) [] .set-back marks byte served less;
+            ∙ seat-lasting (seat (afterAll b rs) n) [] .set-back marks byte outside served less;
       }
 
 pub time-out-lasts : TimeOutLasts

@@ -34,7 +34,8 @@ abbrev pub Suffices : (Step → Type 0) → Type 0
 Suffices meets = (f : Step) → meets f → (b : Bench) (rs : List Record) → (run f b rs ≡ outcomes b rs) × (ends f b rs ≡ afterAll b rs)
 
 -- The tender: each event's answer, the bench after it and the interrupt output equal those that document 01 condenses. Ticket 5: "Document 01's
--- arrival rule and demand 2 read so from now on.", and so does `received` of the room receiver
+-- arrival rule and demand 2 read so from now on.", and so does `received` of the room receiver.
+-- Ticket 7: "Demand 2 includes this.", and so do `afterWrite`, `afterArrival`, `afterLevels` and `afterTime` of the room channel
 abbrev pub Demand2 : Type 0
 Demand2 = Suffices Meets
 

@@ -19,3 +19,5 @@ pub mod OnceCalls
 pub mod WrongPrograms
 pub mod Needed
 pub mod Statements
+pub mod Loopback
+pub mod LoopbackRuns

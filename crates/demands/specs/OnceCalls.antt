@@ -93,6 +93,9 @@ pub record RegistersOnce (M : Type 1) : Type 2 where
   pub registers·Settings·fcr-kept : Once M registers.Settings.fcr_kept.ended registers.Settings.fcr_kept.clauses registers.Settings.fcr_kept.spec
   pub registers·Settings·shown : Once M registers.Settings.shown.ended registers.Settings.shown.clauses registers.Settings.shown.spec
   pub registers·Settings·wire-answer : Once M registers.Settings.wire_answer.ended registers.Settings.wire_answer.clauses registers.Settings.wire_answer.spec
+  pub registers·Settings·cut : Once M registers.Settings.cut.ended registers.Settings.cut.clauses registers.Settings.cut.spec
+  pub registers·Settings·is-looped : Once M registers.Settings.is_looped.ended registers.Settings.is_looped.clauses registers.Settings.is_looped.spec
+  pub registers·inputs : Once M registers.inputs.ended registers.inputs.clauses registers.inputs.spec
   pub registers·changes-after : Once M registers.changes_after.ended registers.changes_after.clauses registers.changes_after.spec
   pub registers·modem-status : Once M registers.modem_status.ended registers.modem_status.clauses registers.modem_status.spec
   pub registers·any-change : Once M registers.any_change.ended registers.any_change.clauses registers.any_change.spec

@@ -27,7 +27,7 @@ abbrev pub befallsIn : Step → ℕ → Bench → List Record → List Moment
 befallsIn f n b [] = []
 befallsIn f n b (r ∷ rs) = befalls n b r ++ befallsIn f n (f b r .bench) rs
 
--- the characters whose arrival at seat n is accepted, first to last, with their marks
+-- the characters that arrive at seat n, first to last, with their marks: those of accepted arrivals outside loopback, and in loopback those that come back
 abbrev pub arrivedAt : Step → ℕ → Bench → List Record → List Character
 arrivedAt f n b [] = []
 arrivedAt f n b (r ∷ rs) = arrivedIn (befalls n b r) ++ arrivedAt f n (f b r .bench) rs

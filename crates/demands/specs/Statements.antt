@@ -8,6 +8,8 @@ use Rattle.demands.specs.Demand3Restores.{StartsAnew, Demand3FromItems}
 use Rattle.demands.specs.SeatLedger.{SeatLedger, SeatLedgerFromPowerUp}
 use Rattle.demands.specs.SeatLetters.{SeatLetters, SeatLettersFromPowerUp, OnlyRbr, In16450Mode, InFifoMode}
 use Rattle.demands.specs.TimeOut.{TimeOutLasts, AtArrival, Untouched, TimeOutEnds}
+use Rattle.demands.specs.Loopback.{FedBack, ChangesNoticed, ChangesStand, ResetSetsNone, ArrivalsUnheard, LevelsKept, LevelsLast, LeaverReceived, SentIsReceived, IdleReceivesNothing, SeatsSound, OutsideAsBefore}
+use Rattle.demands.specs.LoopbackRuns.{SelfTest, OverrunInside, TimeOutInside, LedgerInside, FedInTurn, EnteringLeaving, ResetInside, LevelsOutlast, FromOutside, LineGated, CallsFromWithin, BeforeDiffers, LoopbackMet}
 use Rattle.demands.specs.SheetMeant.{SheetMeant}
 use Rattle.demands.specs.WrongPrograms.{ShutOut, LetIn}
 use Rattle.demands.specs.Needed.{Needed}
@@ -38,6 +40,31 @@ pub record Statements : Type 0 where
   pub at-arrival : AtArrival
   pub untouched-stays : Untouched
   pub time-out-ends : TimeOutEnds
+  pub fed-back : FedBack
+  pub changes-noticed : ChangesNoticed
+  pub changes-stand : ChangesStand
+  pub reset-sets-none : ResetSetsNone
+  pub arrivals-unheard : ArrivalsUnheard
+  pub levels-kept : LevelsKept
+  pub levels-last : LevelsLast
+  pub leaver-received : LeaverReceived
+  pub sent-is-received : SentIsReceived
+  pub idle-receives-nothing : IdleReceivesNothing
+  pub seats-sound : SeatsSound
+  pub outside-as-before : OutsideAsBefore
+  pub self-test : SelfTest
+  pub overrun-inside : OverrunInside
+  pub time-out-inside : TimeOutInside
+  pub ledger-inside : LedgerInside
+  pub fed-in-turn : FedInTurn
+  pub entering-leaving : EnteringLeaving
+  pub reset-inside : ResetInside
+  pub levels-outlast : LevelsOutlast
+  pub from-outside : FromOutside
+  pub line-gated : LineGated
+  pub calls-from-within : CallsFromWithin
+  pub before-differs : BeforeDiffers
+  pub loopback-met : LoopbackMet
   pub sheet-meant : SheetMeant
   pub shut-out : ShutOut
   pub let-in : LetIn

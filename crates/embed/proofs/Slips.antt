@@ -42,15 +42,15 @@ outputs-of-out1 : outputs 0x04 ≡ 0x04
 unfolding outputs bits bit digit pick
 outputs-of-out1 = refl
 
--- `outputs-low`: RTS, OUT2 and the loop bit
-outputs-of-1A : outputs 0x1A ≡ 0x0A
+-- `outputs-low`: RTS and OUT2
+outputs-of-0A : outputs 0x0A ≡ 0x0A
+unfolding outputs bits bit digit pick
+outputs-of-0A = refl
+
+-- `outputs-looped`: the same two, and loopback
+outputs-of-1A : outputs 0x1A ≡ 0x00
 unfolding outputs bits bit digit pick
 outputs-of-1A = refl
-
--- `outputs-low`: RTS, and the loop bit without OUT2
-outputs-of-12 : outputs 0x12 ≡ 0x02
-unfolding outputs bits bit digit pick
-outputs-of-12 = refl
 
 -- `minor-back`: version 1.2.3
 version-of-1-2-3 : versionOf 1 2 3 ≡ 10203

@@ -2,10 +2,12 @@
 use Prim.Native.Nat.{ℕ}
 use mathlib.Core.Bool.{Bool}
 use mathlib.Core.List.{[], _∷_}
+use Rattle.base.specs.Pick.{pick}
 use Rattle.base.specs.Bits.{bit, bits}
 use Rattle.base.specs.Refusals.{SeatAbove, refusalBy, joined}
 use Rattle.base.specs.declared.Answer.{Answer}
 use Rattle.base.specs.declared.Answer.the-variants.{Byte, Refused}
+use Rattle.registers.specs.Loopback.{looped}
 use Rattle.records.specs.Events.{seatAbove}
 use Rattle.bench.specs.declared.Bench.{Bench}
 use Rattle.bench.specs.Seats.{seat}
@@ -28,9 +30,10 @@ out1 mcr = bit 2 mcr
 abbrev pub out2 : ℕ → Bool
 out2 mcr = bit 3 mcr
 
--- all four as one number, DTR first
+-- all four as one number, DTR first; and none in loopback, document 004: ‘The modem control output terminals are forced to their inactive (high) state
+-- on the TL16C552A.’
 unfoldable pub outputs : ℕ → ℕ
-outputs mcr = bits (dtr mcr ∷ rts mcr ∷ out1 mcr ∷ out2 mcr ∷ [])
+outputs mcr = pick (looped mcr) 0 (bits (dtr mcr ∷ rts mcr ∷ out1 mcr ∷ out2 mcr ∷ []))
 
 -- asked by the number of a seat, whose MCR this is: "seat (or line) above 7" is refused
 unfoldable pub outputsOf : ℕ → ℕ → Answer

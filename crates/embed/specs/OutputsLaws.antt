@@ -1,52 +1,51 @@
 -- The modem outputs bit by bit, and what a write of MCR makes of them.
-use Prim.Native.Nat.{ℕ, _+_, _*_, _/_, _%_, _^_, _<_, _≤_}
+use Prim.Native.Nat.{ℕ, _%_, _^_, _<_, _≤_}
+use mathlib.Core.Bool.{true, false}
 use mathlib.Core.List.{[], _∷_}
-use mathlib.Core.Path.{_≡_}
-use native.Mathlib.Omega.{arith}
+use mathlib.Core.Path.{_≡_, ap, _∙_}
+use lib.Pow.{pow-pos}
 use borrow.Author.Tests.{le-leb, lt-leb}
 use Rattle.base.specs.Pick.{pick}
+use Rattle.base.specs.PickLaws.{pick-true, pick-false, pick-either}
 use Rattle.base.specs.Bits.{bit, bits}
-use Rattle.base.specs.BitLaws.{bit-bits, bits-small, bit-cut, digit-bit}
+use Rattle.base.specs.BitLaws.{bit-bits, bits-small, bit-cut, low-four}
 use Rattle.base.specs.Refusals.{firstOf, refusalBy}
 use Rattle.base.specs.declared.Answer.the-variants.{Byte, Refused}
 use Rattle.registers.specs.Registers.{mcrKept}
+use Rattle.registers.specs.Loopback.{looped}
 use Rattle.records.specs.Events.{seatCount}
 use Rattle.embed.specs.Outputs.{dtr, rts, out1, out2, outputs, outputsOf}
 
--- each output in its own bit
-pub output-bits : (mcr : ℕ) → (bit 0 (outputs mcr) ≡ dtr mcr) × (bit 1 (outputs mcr) ≡ rts mcr) × (bit 2 (outputs mcr) ≡ out1 mcr) × (bit 3 (outputs mcr) ≡ out2 mcr)
-unfolding outputs
-output-bits mcr =
-    let four = dtr mcr ∷ rts mcr ∷ out1 mcr ∷ out2 mcr ∷ [] in
-    (bit-bits 0 four, bit-bits 1 four, bit-bits 2 four, bit-bits 3 four)
+module _ (mcr : ℕ) where
+  -- in loopback none is active
+  pub outputs-looped : looped mcr ≡ true → outputs mcr ≡ 0
+  unfolding outputs
+  outputs-looped inside = pick-true _ _ _ inside
 
--- and nothing above them
-pub outputs-small : (mcr : ℕ) → outputs mcr < 2 ^ 4
-unfolding outputs
-outputs-small mcr = bits-small (dtr mcr ∷ rts mcr ∷ out1 mcr ∷ out2 mcr ∷ [])
+  -- outside it they are MCR's lower four bits, in MCR's own order: DTR, RTS, OUT1 and OUT2
+  pub outputs-low : looped mcr ≡ false → outputs mcr ≡ mcr % 2 ^ 4
+  unfolding outputs
+  outputs-low outside = pick-false _ _ _ outside ∙ low-four mcr
 
--- one bit more of a number
-low-2 : (n : ℕ) → n / 2 ^ 0 % 2 + 2 * (n / 2 ^ 1 % 2) ≡ n % 2 ^ 2
-low-2 n = omega arith
+  -- each in its own bit
+  pub output-bits : looped mcr ≡ false
+      → (bit 0 (outputs mcr) ≡ dtr mcr) × (bit 1 (outputs mcr) ≡ rts mcr) × (bit 2 (outputs mcr) ≡ out1 mcr) × (bit 3 (outputs mcr) ≡ out2 mcr)
+  unfolding outputs
+  output-bits outside =
+      let four = dtr mcr ∷ rts mcr ∷ out1 mcr ∷ out2 mcr ∷ [] in
+      let told : outputs mcr ≡ bits four = pick-false _ _ _ outside in
+      (ap (bit 0) told ∙ bit-bits 0 four, ap (bit 1) told ∙ bit-bits 1 four, ap (bit 2) told ∙ bit-bits 2 four, ap (bit 3) told ∙ bit-bits 3 four)
 
-low-3 : (n : ℕ) → n % 2 ^ 2 + 4 * (n / 2 ^ 2 % 2) ≡ n % 2 ^ 3
-low-3 n = omega arith
-
-low-4 : (n : ℕ) → n % 2 ^ 3 + 8 * (n / 2 ^ 3 % 2) ≡ n % 2 ^ 4
-low-4 n = omega arith
-
-summed : (a b c d two three four : ℕ) → a + 2 * b ≡ two → two + 4 * c ≡ three → three + 8 * d ≡ four → a + 2 * (b + 2 * (c + 2 * (d + 2 * 0))) ≡ four
-summed a b c d two three four p q r = omega (arith, p, q, r)
-
--- so they are MCR's lower four bits, in MCR's own order
-pub outputs-low : (mcr : ℕ) → outputs mcr ≡ mcr % 2 ^ 4
-unfolding outputs bits
-outputs-low mcr = rw (digit-bit 0 mcr, digit-bit 1 mcr, digit-bit 2 mcr, digit-bit 3 mcr) (summed _ _ _ _ _ _ _ (low-2 mcr) (low-3 mcr) (low-4 mcr))
+  -- and nothing above them
+  pub outputs-small : outputs mcr < 2 ^ 4
+  unfolding outputs
+  outputs-small =
+      pick-either (λ (n : ℕ). n < 2 ^ 4) (looped mcr) _ _ (pow-pos 4) (bits-small (dtr mcr ∷ rts mcr ∷ out1 mcr ∷ out2 mcr ∷ []))
 
 -- "MCR its low 5": what is kept of a byte has the outputs of the byte
 pub outputs-written : (byte : ℕ) → outputs (mcrKept byte) ≡ outputs byte
 unfolding outputs
-outputs-written byte = rw (bit-cut 0 5 byte, bit-cut 1 5 byte, bit-cut 2 5 byte, bit-cut 3 5 byte)
+outputs-written byte = rw (bit-cut 0 5 byte, bit-cut 1 5 byte, bit-cut 2 5 byte, bit-cut 3 5 byte, bit-cut 4 5 byte)
 
 -- a seat that is there is answered, and "seat (or line) above 7" refused
 pub outputs-told : (mcr n : ℕ) → n < seatCount → outputsOf mcr n ≡ Byte (outputs mcr)

@@ -9,7 +9,7 @@ abbrev major : ℕ
 major = 2
 
 abbrev minor : ℕ
-minor = 2
+minor = 3
 
 abbrev patch : ℕ
 patch = 0

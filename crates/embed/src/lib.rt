@@ -20,7 +20,7 @@ ghost use Rattle.bench.specs.Parts.{partly};
 ghost use Rattle.bench.specs.Steps.{met, outcome};
 ghost use Rattle.embed.specs.Word.{Tells, Told, Parted};
 ghost use Rattle.embed.specs.Numbers.{asByte};
-ghost use Rattle.embed.specs.Outputs.{outputsOf, outputsAt};
+ghost use Rattle.embed.specs.Outputs.{outputs, outputsOf, outputsAt};
 ghost use Rattle.embed.specs.Version.{version};
 ghost use Rattle.embed.specs.Bytes.{benchBytes};
 
@@ -30,7 +30,7 @@ const MASTER_RESET: u32 = Event::MASTER_RESET as u32;
 
 const SEATS: u32 = records::SEATS as u32;
 
-const VERSION: u32 = 20200;
+const VERSION: u32 = 20300;
 
 const BENCH_BYTES: usize = 668;
 
@@ -121,18 +121,27 @@ fn place_word(controller: Controller, line: u32) -> u64
     word(answer, false)
 }
 
+// In loopback the terminals are inactive, whatever the MCR says (document 004, MCR bit 4).
+fn active_outputs(mcr: u8) -> u8
+    ensures { λ r. ⌜ r ≡ outputs mcr ⌝ }
+{
+    if base::bit(Settings::MCR_LOOP, mcr) {
+        return 0;
+    }
+    base::nibble(
+        base::bit(Settings::MCR_DTR, mcr),
+        base::bit(Settings::MCR_RTS, mcr),
+        base::bit(Settings::MCR_OUT1, mcr),
+        base::bit(Settings::MCR_OUT2, mcr),
+    )
+}
+
 // "seat (or line) above 7": refused.
 fn outputs_word(mcr: u8, n: u32) -> u64
     ensures { λ r. ⌜ Tells r (outputsOf mcr n) false ⌝ }
 {
     if n < SEATS {
-        let outputs = base::nibble(
-            base::bit(Settings::MCR_DTR, mcr),
-            base::bit(Settings::MCR_RTS, mcr),
-            base::bit(Settings::MCR_OUT1, mcr),
-            base::bit(Settings::MCR_OUT2, mcr),
-        );
-        return word(Answer::Byte(outputs), false);
+        return word(Answer::Byte(active_outputs(mcr)), false);
     }
     word(Answer::Refused(Answer::SEAT_ABOVE), false)
 }

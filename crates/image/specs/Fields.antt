@@ -16,7 +16,7 @@ abbrev pub stretch : List ℕ → ℕ → List ℕ
 stretch p n = take 66 (drop (16 + 66 * n) p)
 
 -- ticket 2: "a field outside its range in document 01 (MCR to 0F, yes-or-no to 1), a queue beyond its capacity, a time-out count above 0 in
--- 16450 mode or with nothing queued, a latch set on a low line, or an unused byte not 0": of an image none of it
+-- 16450 mode or with nothing queued, a latch set on a low line, or an unused byte not 0": of an image none of it. Ticket 7: "A saved MCR may now be up to 1F."
 pub record ImageFields (p : List ℕ) : Type 0 where
   -- the controller's ranges
   pub stage : byteAt p 5 ≤ 3

@@ -13,8 +13,8 @@ use Rattle.receiver.specs.declared.Receiver.{Receiver}
 use Rattle.receiver.specs.declared.Got.{Got}
 use Rattle.receiver.specs.Receiver.{quiet, noneQueued, received, got, lsrSeen, waited, cleared, afterModeChange, restarted}
 
--- what can befall a receive side: a character arrives, RBR is read, LSR is read, a character time passes, the queue is emptied, the mode
--- changes, a master reset
+-- what can befall a receive side: a character arrives, from outside or in loopback, RBR is read, LSR is read, a character time passes, the
+-- queue is emptied, the mode changes, a master reset
 pub data Moment : Type 0 where
   arrives : Character → Moment
   rbr : Moment

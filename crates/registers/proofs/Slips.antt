@@ -11,6 +11,7 @@ use Rattle.registers.specs.declared.SeatEvent.the-variants.{Arrival}
 use Rattle.registers.specs.Registers.{plainRegister, registerAt, kept, divisor, withDlm}
 use Rattle.registers.specs.Words.{cut}
 use Rattle.registers.specs.Modem.{changesAfter}
+use Rattle.registers.specs.Loopback.{inputsOf}
 use Rattle.registers.specs.Refusals.{grounds, refusal}
 
 -- every register 0
@@ -59,3 +60,8 @@ parity-is-bit-3 = refl
 break-alone-arrives : arriving 0 4 0x00 ≡ 0
 unfolding refusal grounds refusalBy firstOf pick bit
 break-alone-arrives = refl
+
+-- ticket 7: "DTR, RTS, OUT1 and OUT2 feed DSR, CTS, RI and DCD": RTS alone. Of `inputs-looped`
+rts-feeds-cts : inputsOf 0x12 0 ≡ 0x01
+unfolding inputsOf bits digit bit pick
+rts-feeds-cts = refl

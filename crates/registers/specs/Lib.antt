@@ -1,6 +1,7 @@
 pub mod Registers
 pub mod Words
 pub mod Modem
+pub mod Loopback
 pub mod Refusals
 pub mod RegisterLaws
 pub mod RefusalLaws
@@ -8,3 +9,4 @@ pub mod ArrivalLaws
 pub mod KeptLaws
 pub mod WordLaws
 pub mod ModemLaws
+pub mod LoopbackLaws

@@ -2,18 +2,19 @@
 -- ArrivalLaws.
 use Prim.Native.Nat.{ℕ, _+_, _%_, _^_, _<_}
 use mathlib.Core.Bool.{Bool, true, false, not, _&&_, _||_, and-true}
-use mathlib.Core.Path.{_≡_, refl, ap, ap₂, sym, _∙_}
+use mathlib.Core.Path.{_≡_, refl, ap, sym, subst, _∙_}
 use mathlib.Core.Logic.{⊎-elim}
 use lib.Dec.{ltb, leb, eqb}
-use borrow.Author.Tests.{lt-ltb, le-ltb, leb-true, leb-false}
+use borrow.Author.Tests.{lt-ltb, le-ltb, leb-true, leb-false, eqb-true}
 use Rattle.base.specs.Pick.{pick}
-use Rattle.base.specs.PickLaws.{pick-true, either-way}
+use Rattle.base.specs.PickLaws.{pick-true, pick-either, either-way}
 use Rattle.base.specs.Bits.{bit}
 use Rattle.base.specs.Refusals.{refusalOrder, firstHeld}
 use Rattle.base.specs.RefusalLaws.{follows, in-order, noneHolds, none-given}
 use Rattle.registers.specs.declared.Settings.{Settings}
 use Rattle.registers.specs.declared.SeatEvent.{SeatEvent}
 use Rattle.registers.specs.declared.SeatEvent.the-variants.{Read, Write, Arrival, Levels, Time}
+use Rattle.registers.specs.Registers.{withMcr}
 use Rattle.registers.specs.Refusals.{noDivisor, grounds, refusal}
 use Rattle.registers.specs.RegisterLaws.{divisor-none}
 
@@ -53,11 +54,11 @@ parityFits s marks = not (bit 0 marks) || bit 3 (s .lcr)
 abbrev pub breakFits : ℕ → ℕ → Bool
 breakFits marks byte = not (bit 2 marks) || eqb byte 0
 
--- what a seat accepts, told the other way round: a register below 8, and no MCR write with bit 4; levels below 16; with a divisor, a character
--- time, and an arrival of which all four are so
+-- what a seat accepts, told the other way round: a register below 8; levels below 16; with a divisor, a character time, and an arrival of which all
+-- four are so
 abbrev pub accepts : Settings → SeatEvent → Bool
 accepts s (Read n) = ltb n 8
-accepts s (Write n byte) = ltb n 8 && not (eqb n 4 && bit 4 byte)
+accepts s (Write n byte) = ltb n 8
 accepts s (Arrival marks byte) = not (undivided s) && (marksFit marks && (dataFits s byte && (parityFits s marks && breakFits marks byte)))
 accepts s (Levels levels) = ltb levels 16
 accepts s Time = not (undivided s)
@@ -83,7 +84,7 @@ none-held s e = none-given (grounds s e) (in-turn s e)
 pub accepted : (s : Settings) (e : SeatEvent) → eqb (refusal s e) 0 ≡ accepts s e
 unfolding grounds
 accepted s (Read n) = none-held s (Read n) ∙ and-true _ ∙ below n 8
-accepted s (Write n byte) = none-held s (Write n byte) ∙ ap₂ _&&_ (below n 8) (and-true _)
+accepted s (Write n byte) = none-held s (Write n byte) ∙ and-true _ ∙ below n 8
 accepted s (Arrival marks byte) =
     none-held s (Arrival marks byte)
     ∙ (λ i.
@@ -93,6 +94,10 @@ accepted s (Levels levels) = none-held s (Levels levels) ∙ and-true _ ∙ belo
 accepted s Time = none-held s Time ∙ and-true _ ∙ ap not (divisor-none s)
 
 -- ---- which number refuses what
+
+-- a number that is not 9
+abbrev Served : ℕ → Type 0
+Served number = eqb number 9 ≡ false
 
 module _ (s : Settings) where
   -- "register above 7": reads and writes alike
@@ -111,7 +116,27 @@ module _ (s : Settings) where
   unfolding grounds firstHeld pick
   levels-above levels above = first-held s (Levels levels) ∙ pick-true _ _ _ (lt-ltb 15 levels above)
 
-  -- "MCR write with bit 4 set", in either state of LCR bit 7
-  pub loop-asked : (byte : ℕ) → bit 4 byte ≡ true → refusal s (Write 4 byte) ≡ 9
-  unfolding grounds firstHeld pick
-  loop-asked byte set = first-held s (Write 4 byte) ∙ pick-true _ _ _ set
+  -- ticket 7: "9 is no longer given for MCR": any byte is taken, in either state of LCR bit 7
+  pub mcr-taken : (byte : ℕ) → refusal s (Write 4 byte) ≡ 0
+  mcr-taken byte = eqb-true (refusal s (Write 4 byte)) 0 (accepted s (Write 4 byte))
+
+  -- nor for any other event on a seat: none is refused as "not served"
+  pub all-served : (e : SeatEvent) → eqb (refusal s e) 9 ≡ false
+  unfolding grounds firstHeld
+  all-served (Read n) = subst Served (sym (first-held s (Read n))) (pick-either Served _ _ _ refl refl)
+  all-served (Write n byte) = subst Served (sym (first-held s (Write n byte))) (pick-either Served _ _ _ refl refl)
+  all-served (Arrival marks byte) =
+      subst Served (sym (first-held s (Arrival marks byte)))
+      (pick-either Served _ _ _ refl
+      (pick-either Served _ _ _ refl (pick-either Served _ _ _ refl (pick-either Served _ _ _ refl (pick-either Served _ _ _ refl refl)))))
+  all-served (Levels levels) = subst Served (sym (first-held s (Levels levels))) (pick-either Served _ _ _ refl refl)
+  all-served Time = subst Served (sym (first-held s Time)) (pick-either Served _ _ _ refl refl)
+
+-- ticket 7: "arrivals and modem events are checked as before": the MCR has no part in what any event on a seat is refused by
+pub mcr-has-no-part : (s : Settings) (mcr : ℕ) (e : SeatEvent) → refusal (withMcr s mcr) e ≡ refusal s e
+unfolding refusal grounds
+mcr-has-no-part s mcr (Read n) = refl
+mcr-has-no-part s mcr (Write n byte) = refl
+mcr-has-no-part s mcr (Arrival marks byte) = refl
+mcr-has-no-part s mcr (Levels levels) = refl
+mcr-has-no-part s mcr Time = refl

@@ -1,10 +1,9 @@
 -- What a seat refuses of an event: the settings of its channel decide it alone.
 use Prim.Native.Nat.{ℕ}
-use mathlib.Core.Bool.{Bool, _&&_}
+use mathlib.Core.Bool.{Bool}
 use mathlib.Core.List.{List, [], _∷_}
 use lib.Dec.{ltb, eqb}
-use Rattle.base.specs.Bits.{bit}
-use Rattle.base.specs.Refusals.{NumberAbove, NoDivisor, MarksAbove, BeyondWord, ParityUnasked, BreakWithData, LevelsAbove, NotServed, Ground, refusalBy}
+use Rattle.base.specs.Refusals.{NumberAbove, NoDivisor, MarksAbove, BeyondWord, ParityUnasked, BreakWithData, LevelsAbove, Ground, refusalBy}
 use Rattle.registers.specs.declared.Settings.{Settings}
 use Rattle.registers.specs.declared.SeatEvent.{SeatEvent}
 use Rattle.registers.specs.declared.SeatEvent.the-variants.{Read, Write, Arrival, Levels, Time}
@@ -23,15 +22,12 @@ noDivisor s = eqb (divisor s) 0
 abbrev pub levelsAbove : ℕ → Bool
 levelsAbove levels = ltb 15 levels
 
--- "MCR write with bit 4 set"
-abbrev pub loopAsked : ℕ → ℕ → Bool
-loopAsked n byte = eqb n 4 && bit 4 byte
-
--- the grounds of each event: a register's number; "not served"; "arrival or character time while the divisor is 0"; the four things that may be
--- off with an arrival, ticket 4: "tried in this order where 6 stood"; and the levels
+-- the grounds of each event: a register's number; "arrival or character time while the divisor is 0"; the four things that may be off with an arrival,
+-- ticket 4: "tried in this order where 6 stood"; and the levels. Ticket 7: "9 is no longer given for MCR", so that a write has no other ground than a
+-- read, and in loopback "arrivals and modem events are checked as before", so that no ground asks for the MCR
 unfoldable pub grounds : Settings → SeatEvent → List Ground
 grounds s (Read n) = record { number = NumberAbove; holds = registerAbove n } ∷ []
-grounds s (Write n byte) = record { number = NumberAbove; holds = registerAbove n } ∷ record { number = NotServed; holds = loopAsked n byte } ∷ []
+grounds s (Write n byte) = record { number = NumberAbove; holds = registerAbove n } ∷ []
 grounds s (Arrival marks byte) =
     record { number = NoDivisor; holds = noDivisor s }
     ∷ record { number = MarksAbove; holds = marksAbove marks }

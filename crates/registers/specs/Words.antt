@@ -6,6 +6,7 @@ use Rattle.base.specs.Pick.{pick}
 use Rattle.base.specs.Bits.{bit}
 use Rattle.base.specs.Marks.{MarkParity, MarkBreak}
 use Rattle.base.specs.declared.Answer.{Answer}
+use Rattle.registers.specs.Loopback.{looped}
 use Rattle.base.specs.declared.Answer.the-variants.{Sent, Idle, Break}
 
 -- "bits 7-6 choose trigger 1, 4, 8 or 14"
@@ -20,9 +21,10 @@ wordBits lcr = 5 + lcr % 4
 unfoldable pub cut : ℕ → ℕ → ℕ
 cut lcr byte = byte % 2 ^ wordBits lcr
 
--- "the byte sent; 100 idle; 200 break". "With LCR bit 6 set the answer is 200, and all else goes on."
-abbrev pub wireAnswer : ℕ → Bool → ℕ → Answer
-wireAnswer lcr busy shift = pick (bit 6 lcr) Break (pick busy (Sent (cut lcr shift)) Idle)
+-- "the byte sent; 100 idle; 200 break". "With LCR bit 6 set the answer is 200, and all else goes on." Ticket 7: in loopback "the answer is 100,
+-- even with break set"
+abbrev pub wireAnswer : ℕ → ℕ → Bool → ℕ → Answer
+wireAnswer mcr lcr busy shift = pick (looped mcr) Idle (pick (bit 6 lcr) Break (pick busy (Sent (cut lcr shift)) Idle))
 
 -- parity is off where LCR bit 3 is clear
 abbrev pub parityOff : ℕ → Bool

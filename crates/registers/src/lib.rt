@@ -2,9 +2,11 @@
 use base::Answer;
 
 mod arrivals;
+mod loopback;
 mod modem;
 mod refusals;
 
+pub use loopback::inputs;
 pub use modem::any_change;
 pub use modem::changes_after;
 pub use modem::modem_status;
@@ -250,7 +252,7 @@ impl Settings {
         self.dll as u16 + 256 * self.dlm as u16 == 0
     }
 
-    fn cut(self, byte: u8) -> u8
+    pub fn cut(self, byte: u8) -> u8
         ensures { λ r. ⌜ r ≡ cut (self .lcr) byte ⌝ }
     {
         let length = self.lcr % 4;
@@ -264,8 +266,11 @@ impl Settings {
 
     // What a character time is answered with, given what is in the shift register.
     pub fn wire_answer(self, busy: bool, shift: u8) -> Answer
-        ensures { λ r. ⌜ r ≡ wireAnswer (self .lcr) busy shift ⌝ }
+        ensures { λ r. ⌜ r ≡ wireAnswer (self .mcr) (self .lcr) busy shift ⌝ }
     {
+        if self.is_looped() {
+            return Answer::Idle;
+        }
         if base::bit(Settings::LCR_BREAK, self.lcr) {
             return Answer::Break;
         }

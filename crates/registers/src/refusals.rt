@@ -10,24 +10,12 @@ ghost use Rattle.registers.specs.Refusals.{refusal};
 ghost use Rattle.registers.specs.declared.SeatEvent.the-variants.{Read, Write, Arrival, Levels, Time};
 
 impl Settings {
-    // Whatever the settings are: a read is refused for its number alone.
-    fn refuse_read(number: u8) -> u8
-        ensures { λ r. ⌜ ((settings : _) → r ≡ refusal settings (Read number)) ⌝ }
+    // Whatever the settings are, and whatever is written: a register is refused for its number alone.
+    fn refuse_access(number: u8) -> u8
+        ensures { λ r. ⌜ ((settings : _) → (r ≡ refusal settings (Read number)) × ((byte : _) → r ≡ refusal settings (Write number byte))) ⌝ }
     {
         if Register::SCRATCH < number {
             return Answer::NUMBER_ABOVE;
-        }
-        0
-    }
-
-    fn refuse_write(number: u8, byte: u8) -> u8
-        ensures { λ r. ⌜ ((settings : _) → r ≡ refusal settings (Write number byte)) ⌝ }
-    {
-        if Register::SCRATCH < number {
-            return Answer::NUMBER_ABOVE;
-        }
-        if (number == Register::MCR) & base::bit(Settings::MCR_LOOP, byte) {
-            return Answer::NOT_SERVED;
         }
         0
     }
@@ -75,8 +63,8 @@ impl Settings {
         ensures { λ r. ⌜ r ≡ refusal self e ⌝ }
     {
         match e {
-            SeatEvent::Read(number) => return Settings::refuse_read(number),
-            SeatEvent::Write(number, byte) => return Settings::refuse_write(number, byte),
+            SeatEvent::Read(number) => return Settings::refuse_access(number),
+            SeatEvent::Write(number, _) => return Settings::refuse_access(number),
             SeatEvent::Arrival(marks, byte) => return self.refuse_arrival(marks, byte),
             SeatEvent::Levels(levels) => return Settings::refuse_levels(levels),
             SeatEvent::Time => return self.refuse_time(),

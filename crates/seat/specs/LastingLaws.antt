@@ -4,14 +4,15 @@ use mathlib.Core.Bool.{true, false}
 use mathlib.Core.List.{List, [], _∷_}
 use mathlib.Core.Path.{_≡_, refl, ap, _∙_}
 use borrow.Author.Tests.{eq-eqb}
-use Rattle.base.specs.PickLaws.{pick-true, not-both, neither}
+use Rattle.base.specs.PickLaws.{pick-true, pick-false, not-both, neither}
 use Rattle.receiver.specs.Ledger.{Moment, afterAll}
 use Rattle.receiver.specs.Ledger as moment
 use Rattle.receiver.specs.Lasting as side
 use Rattle.receiver.specs.LastingLaws.{lasting}
 use Rattle.registers.specs.declared.SeatEvent.the-variants.{Arrival}
 use Rattle.registers.specs.Refusals.{refusal}
-use Rattle.channel.specs.Moments.{acceptedMoments, momentsOf}
+use Rattle.channel.specs.Parts.{inLoopback}
+use Rattle.channel.specs.Moments.{arrivalMoments, acceptedMoments, momentsOf}
 use Rattle.channel_laws.specs.LastingLaws.{event-ends, event-leaves}
 use Rattle.seat.specs.declared.Seat.{Seat}
 use Rattle.seat.specs.Acts.{Act, event, resets, acted, actedAll}
@@ -40,11 +41,13 @@ unfolding side.ending
 act-ends s (event e) ended = let one = event-ends (s .channel) e ended in one-ends s (event e) (one .moment) (one .alone) (one .ends)
 act-ends s resets ended = one-ends s resets moment.resets refl refl
 
-arrival-sets-back : (s : Seat) (marks byte : ℕ) → refusal (s .channel .settings) (Arrival marks byte) ≡ 0 → timeoutCount s < 4
+arrival-sets-back : (s : Seat) (marks byte : ℕ) → inLoopback (s .channel) ≡ false → refusal (s .channel .settings) (Arrival marks byte) ≡ 0 → timeoutCount s < 4
     → timeoutCount (acted s (event (Arrival marks byte))) ≡ 0
-unfolding afterAll momentsOf acceptedMoments
-arrival-sets-back s marks byte served less =
-    ap side.timeoutCount (acted-side s (event (Arrival marks byte)) ∙ ap (afterAll (receiving.side s)) (pick-true _ _ _ (eq-eqb _ _ served)))
+unfolding afterAll momentsOf acceptedMoments arrivalMoments
+arrival-sets-back s marks byte outside served less =
+    ap side.timeoutCount
+    (acted-side s (event (Arrival marks byte))
+    ∙ ap (afterAll (receiving.side s)) (pick-true _ _ _ (eq-eqb _ _ served) ∙ pick-false _ _ _ outside))
     ∙ lasting (receiving.side s) [] .set-back _ less
 
 -- ---- any acts

@@ -22,11 +22,11 @@ sixteenSmall l place n most = every 16 (smallFrom l place n most)
 abbrev pub fifoAt : List ℕ → Bool
 fifoAt l = bit 0 (at l Fcr)
 
--- ticket 2: "a field outside its range in document 01 (MCR to 0F, yes-or-no to 1)": of the registers. The FCR holds what it keeps
+-- ticket 2: "a field outside its range in document 01": of the registers. Ticket 7: "A saved MCR may now be up to 1F." The FCR holds what it keeps
 -- of a byte, and nothing else
 unfoldable pub registersInRange : List ℕ → Bool
 registersInRange l =
-    leb (at l Ier) 0x0F && eqb (fcrKept (at l Fcr)) (at l Fcr) && leb (at l Mcr) 0x0F && leb (at l Changes) 0x0F && leb (at l Levels) 0x0F
+    leb (at l Ier) 0x0F && eqb (fcrKept (at l Fcr)) (at l Fcr) && leb (at l Mcr) 0x1F && leb (at l Changes) 0x0F && leb (at l Levels) 0x0F
 
 -- of the flags, the kept marks and the time-out count
 unfoldable pub flagsInRange : List ℕ → Bool

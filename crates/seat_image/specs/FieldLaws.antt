@@ -106,14 +106,14 @@ module _ (l : List ℕ) (good : recordGood l ≡ true) where
       let one = both-hold (registersInRange l) (flagsInRange l) (two .0) in
       (one .0, (one .1, (two .1, (three .1, (four .1, five .1)))))
 
-  pub registers : (at l 0 ≤ 15) × ((fcrKept (at l 1) ≡ at l 1) × ((at l 3 ≤ 15) × ((at l 4 ≤ 15) × (at l 6 ≤ 15))))
+  pub registers : (at l 0 ≤ 15) × ((fcrKept (at l 1) ≡ at l 1) × ((at l 3 ≤ 31) × ((at l 4 ≤ 15) × (at l 6 ≤ 15))))
   unfolding registersInRange
   registers =
       let a = leb (at l 0) 15 in
       let b = eqb (fcrKept (at l 1)) (at l 1) in
-      let four = both-hold (a && b && leb (at l 3) 15 && leb (at l 4) 15) (leb (at l 6) 15) (groups .0) in
-      let three = both-hold (a && b && leb (at l 3) 15) (leb (at l 4) 15) (four .0) in
-      let two = both-hold (a && b) (leb (at l 3) 15) (three .0) in
+      let four = both-hold (a && b && leb (at l 3) 31 && leb (at l 4) 15) (leb (at l 6) 15) (groups .0) in
+      let three = both-hold (a && b && leb (at l 3) 31) (leb (at l 4) 15) (four .0) in
+      let two = both-hold (a && b) (leb (at l 3) 31) (three .0) in
       let one = both-hold a b (two .0) in
       (leb-true _ _ (one .0), (eqb-true _ _ (one .1), (leb-true _ _ (two .1), (leb-true _ _ (three .1), leb-true _ _ (four .1)))))
 

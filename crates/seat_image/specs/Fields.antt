@@ -28,7 +28,8 @@ pub record Fields (l : List ℕ) : Type 0 where
   -- the ranges
   pub ier : byteAt l 0 ≤ 0x0F
   pub fcr : among (byteAt l 1) fcrValues ≡ true
-  pub mcr : byteAt l 3 ≤ 0x0F
+  -- ticket 7: "A saved MCR may now be up to 1F."
+  pub mcr : byteAt l 3 ≤ 0x1F
   pub changes : byteAt l 4 ≤ 0x0F
   pub levels : byteAt l 6 ≤ 0x0F
   pub overrun : byteAt l 10 ≤ 1

@@ -102,7 +102,7 @@ module _ (c : Channel) (p : channel.Sound c) where
       rw (
         le-leb (c .settings .ier) 15 (omega (arith, p .enables)),
         eq-eqb _ _ (p .modes),
-        le-leb (c .settings .mcr) 15 (omega (arith, p .outputs)),
+        le-leb (c .settings .mcr) 31 (omega (arith, p .outputs)),
         le-leb (c .modem .changes) 15 (omega (arith, p .changes)),
         le-leb (c .modem .levels) 15 (omega (arith, p .levels)),
       )

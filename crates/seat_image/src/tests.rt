@@ -27,7 +27,7 @@ fn registers_in_range(b: [u8; 66]) -> bool
     let fcr = b[crate::FCR];
     (b[crate::IER] <= 0x0F)
         & (Settings::fcr_kept(fcr) == fcr)
-        & (b[crate::MCR] <= 0x0F)
+        & (b[crate::MCR] <= 0x1F)
         & (b[crate::CHANGES] <= 0x0F)
         & (b[crate::LEVELS] <= 0x0F)
 }

@@ -63,6 +63,6 @@ causeOf s r t msr = firstCause (causes s r t msr)
 unfoldable pub iirOf : Settings → Receiver → Transmitter → ℕ → ℕ
 iirOf s r t msr = causeOf s r t msr + pick (bit 0 (s .fcr)) 0xC0 0x00
 
--- "The seat's line is high exactly if a cause is named and MCR bit 3 is set."
+-- "The seat's line is high exactly if a cause is named and MCR bit 3 is set." Ticket 7: in loopback too, "MCR bit 3 keeps gating the line."
 unfoldable pub lineOf : Settings → Receiver → Transmitter → ℕ → Bool
 lineOf s r t msr = not (eqb (causeOf s r t msr) 0x01) && bit 3 (s .mcr)

@@ -1,9 +1,9 @@
 // The table of the scripts.
 
-const ROW_COUNT: usize = 201;
+const ROW_COUNT: usize = 263;
 
 // "Each row: kind, number, number most, value, value step, value most, times most." A row is one number, its columns
-// the bytes: an array of 201 arrays costs the prover minutes.
+// the bytes: an array of 263 arrays costs the prover minutes.
 const ROWS: [u64; ROW_COUNT] = [
     // script 0: seat set-up, any word length
     0x01_03_00_80_01_3F_00,
@@ -266,6 +266,81 @@ const ROWS: [u64; ROW_COUNT] = [
     0x00_05_00_00_01_FF_00,
     // script 60: levels 15 and 16
     0x03_00_FF_0F_01_01_01,
+    0x00_06_00_00_01_FF_00,
+    // script 61: enters
+    0x01_04_00_10_01_0F_00,
+    0x00_06_00_00_01_FF_00,
+    // script 62: any seats enter
+    0x11_04_00_10_01_0F_07,
+    0x10_06_00_00_01_FF_03,
+    // script 63: sending, and reading it back
+    0x01_00_00_00_01_FF_02,
+    0x04_00_FF_00_01_FF_04,
+    0x00_05_00_00_01_FF_00,
+    0x00_00_00_00_01_FF_01,
+    // script 64: the word length changes on the way
+    0x01_03_00_00_01_3F_00,
+    0x01_00_00_00_01_FF_01,
+    0x04_00_FF_00_01_FF_01,
+    0x01_03_00_00_01_3F_00,
+    0x04_00_FF_00_01_FF_02,
+    0x00_00_00_00_01_FF_01,
+    // script 65: MCR inside
+    0x01_04_00_10_01_0F_03,
+    0x00_02_00_00_01_FF_00,
+    0x00_06_00_00_01_FF_00,
+    // script 66: modem inputs, then MCR enters, leaves or stays
+    0x03_00_FF_00_01_0F_01,
+    0x00_06_00_00_01_FF_00,
+    0x01_04_00_00_01_1F_00,
+    0x00_06_00_00_01_FF_00,
+    // script 67: arrivals from outside
+    0x01_04_00_10_01_0F_00,
+    0x02_00_08_00_01_1F_02,
+    0x02_00_00_00_01_FF_01,
+    0x00_05_00_00_01_FF_00,
+    0x00_00_00_00_01_FF_00,
+    // script 68: a queue filled outside
+    0x01_04_00_00_01_0F_00,
+    0x02_00_03_00_01_1F_11,
+    0x01_04_00_10_01_0F_00,
+    0x02_00_03_00_01_1F_00,
+    0x01_00_00_00_01_FF_01,
+    0x04_00_FF_00_01_FF_03,
+    0x00_05_00_00_01_FF_00,
+    0x00_00_00_00_01_FF_00,
+    // script 69: break inside
+    0x01_03_00_40_01_3F_00,
+    0x01_00_00_00_01_FF_01,
+    0x04_00_FF_00_01_FF_04,
+    0x00_05_00_00_01_FF_00,
+    0x00_00_00_00_01_FF_00,
+    0x01_03_00_03_08_01_00,
+    // script 70: time-out inside
+    0x01_02_00_43_40_02_00,
+    0x01_04_00_18_01_07_00,
+    0x01_01_00_01_02_01_00,
+    0x01_00_00_00_01_FF_02,
+    0x04_00_FF_00_01_FF_07,
+    0x02_00_00_00_01_1F_00,
+    0x01_00_00_00_01_FF_00,
+    0x04_00_FF_00_01_FF_03,
+    0x00_02_00_00_01_FF_00,
+    0x00_00_00_00_01_FF_00,
+    // script 71: master reset inside
+    0x11_04_00_10_01_0F_07,
+    0x13_00_FF_00_01_0F_07,
+    0x05_00_FF_00_01_FF_00,
+    0x10_06_00_00_01_FF_07,
+    // script 72: entering and leaving with characters on the way
+    0x01_00_00_00_01_FF_03,
+    0x04_00_FF_00_01_FF_01,
+    0x01_04_00_00_10_01_00,
+    0x04_00_FF_00_01_FF_01,
+    0x01_04_00_08_10_01_00,
+    0x04_00_FF_00_01_FF_01,
+    // script 73: leaves
+    0x01_04_00_00_01_0F_00,
     0x00_06_00_00_01_FF_00,
 ];
 

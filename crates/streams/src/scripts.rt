@@ -1,7 +1,7 @@
 // Where the scripts stand in the table of rows.
 
 // One list for all sets: "a later set appends to it".
-const SCRIPTS: usize = 61;
+const SCRIPTS: usize = 74;
 
 // "The first row of each script, in order of the scripts, and last the number of rows."
 const FIRST_ROWS: [u16; SCRIPTS + 1] = [
@@ -67,6 +67,19 @@ const FIRST_ROWS: [u16; SCRIPTS + 1] = [
     194,
     199,
     201,
+    203,
+    205,
+    209,
+    215,
+    218,
+    222,
+    227,
+    235,
+    241,
+    251,
+    255,
+    261,
+    263,
 ];
 
 // A script's first row, and the first row after it.

@@ -2,7 +2,7 @@
 // remainders are there so that it need not be shown that the tables reach so far.
 
 // The number of sets.
-pub const SETS: u8 = 1;
+pub const SETS: u8 = 2;
 
 // "Moods are eight in every set, and spoils twelve."
 const MOODS: u8 = 8;
@@ -14,7 +14,7 @@ const HALF: u8 = 8;
 
 const HALVES: usize = 16;
 
-const PICKS: [[u8; 8]; HALVES] = [
+const PICKS: [[u8; 8]; HALVES * 2] = [
     // set 0
     // mood 0: set-up
     [0, 0, 1, 1, 1, 2, 2, 3],
@@ -40,6 +40,31 @@ const PICKS: [[u8; 8]; HALVES] = [
     // mood 7: edges
     [0, 1, 7, 8, 22, 23, 24, 27],
     [32, 33, 49, 51, 28, 21, 60, 2],
+    // set 1
+    // mood 0: set-up and entering
+    [0, 1, 1, 61, 61, 61, 62, 62],
+    [63, 3, 4, 28, 29, 2, 65, 48],
+    // mood 1: sending through
+    [61, 1, 63, 63, 64, 64, 16, 15],
+    [70, 68, 10, 11, 3, 4, 17, 59],
+    // mood 2: modem
+    [61, 65, 65, 66, 66, 18, 19, 25],
+    [73, 54, 52, 58, 26, 62, 11, 71],
+    // mood 3: edge mode
+    [29, 34, 35, 42, 62, 62, 55, 58],
+    [58, 2, 52, 56, 46, 48, 66, 65],
+    // mood 4: level mode
+    [30, 34, 36, 42, 62, 62, 55, 56],
+    [54, 2, 58, 53, 47, 48, 63, 65],
+    // mood 5: arrivals, time-outs
+    [61, 67, 67, 68, 68, 70, 70, 70],
+    [12, 13, 14, 5, 53, 72, 0, 1],
+    // mood 6: break, on the way
+    [61, 69, 69, 72, 72, 64, 20, 59],
+    [16, 63, 65, 6, 57, 0, 1, 31],
+    // mood 7: edges
+    [61, 21, 22, 23, 24, 27, 71, 67],
+    [60, 8, 7, 28, 51, 26, 69, 0],
 ];
 
 pub(crate) struct Spoil {
@@ -49,7 +74,7 @@ pub(crate) struct Spoil {
 }
 
 // "Twelve entries, 0 to 11: which byte, base, most", for each set. Each is one number, as a row is.
-const SPOILS: [u32; 12] = [
+const SPOILS: [u32; 24] = [
     // set 0
     1_007_001,
     1_000_255,
@@ -63,6 +88,19 @@ const SPOILS: [u32; 12] = [
     0_000_008,
     0_000_255,
     3_000_001,
+    // set 1
+    1_007_001,
+    1_000_255,
+    2_007_001,
+    2_004_002,
+    2_000_255,
+    3_015_001,
+    3_016_015,
+    3_000_255,
+    0_001_003,
+    0_000_008,
+    0_000_255,
+    3_031_001,
 ];
 
 // "Entry e of that mood's picks in the set"

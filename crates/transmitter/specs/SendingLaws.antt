@@ -26,12 +26,12 @@ use Rattle.transmitter.specs.SoundLaws.{idle-holds}
 -- ---- what is written waits, in order
 
 -- after these bytes are written to a send side on which this list waits
-record Waiting (fifo : Bool) (t : Transmitter) (l : List Character) (bytes : List ℕ) : Type 0 where
-  queue : writtenAll fifo t bytes .queue ≡ holding (l ++ map toSend bytes)
-  busy : writtenAll fifo t bytes .busy ≡ t .busy
-  shift : writtenAll fifo t bytes .shift ≡ t .shift
+pub record Waiting (fifo : Bool) (t : Transmitter) (l : List Character) (bytes : List ℕ) : Type 0 where
+  pub queue : writtenAll fifo t bytes .queue ≡ holding (l ++ map toSend bytes)
+  pub busy : writtenAll fifo t bytes .busy ≡ t .busy
+  pub shift : writtenAll fifo t bytes .shift ≡ t .shift
 
-all-wait : (fifo : Bool) (t : Transmitter) (l : List Character) (bytes : List ℕ) → t .queue ≡ holding l → length l + length bytes ≤ capacity fifo
+pub all-wait : (fifo : Bool) (t : Transmitter) (l : List Character) (bytes : List ℕ) → t .queue ≡ holding l → length l + length bytes ≤ capacity fifo
     → Waiting fifo t l bytes
 unfolding writtenAll
 all-wait fifo t l [] held fits = record { queue = held ∙ ap holding (sym (append-nil l)); busy = refl; shift = refl }

@@ -7,7 +7,7 @@ pub(crate) const STREAM: u64 = 0;
 
 pub(crate) const IMAGES: u64 = 1;
 
-pub(crate) const TRIALS: usize = 24;
+pub(crate) const TRIALS: usize = 30;
 
 // Which kind it is, then "seed, count, set, start". The first four are short, so that a fault in every event shows at once.
 pub(crate) const LIST: [[u64; 5]; TRIALS] = [
@@ -27,6 +27,10 @@ pub(crate) const LIST: [[u64; 5]; TRIALS] = [
     [STREAM, 14, 200000, 0, 0],
     [STREAM, 15, 200000, 0, 0],
     [STREAM, 4294967295, 200000, 0, 0],
+    [STREAM, 16, 1000, 1, 0],
+    [STREAM, 17, 200000, 1, 0],
+    [STREAM, 18, 200000, 1, 0],
+    [STREAM, 19, 200000, 1, 0],
     [IMAGES, 101, 20000, 0, 0],
     [IMAGES, 102, 20000, 0, 0],
     [IMAGES, 103, 20000, 0, 0],
@@ -35,4 +39,6 @@ pub(crate) const LIST: [[u64; 5]; TRIALS] = [
     [IMAGES, 106, 20000, 0, 0],
     [IMAGES, 107, 20000, 0, 0],
     [IMAGES, 108, 20000, 0, 0],
+    [IMAGES, 109, 20000, 1, 0],
+    [IMAGES, 112, 20000, 1, 0],
 ];

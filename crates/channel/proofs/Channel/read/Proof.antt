@@ -6,6 +6,7 @@ use denote.Enum.Declared.{tagOf}
 use Rattle.base.specs.declared.Answer.the-variants.{Letter}
 use Rattle.registers.proofs.Register.{the-type}
 use Rattle.registers.specs.Registers.{shownBy}
+use Rattle.registers.specs.Modem.{msrOf}
 use Rattle.registers.specs.declared.Register.{Register}
 use Rattle.registers.specs.declared.Register.the-variants.{RbrThr, Ier, IirFcr, Lcr, Mcr, Lsr, Msr, Scratch, Dll, Dlm}
 use Rattle.receiver.specs.declared.Got.{Got}
@@ -75,15 +76,18 @@ returns-3 c =
 enum-told-4 : tie.Need-enum-told-4
 enum-told-4 c = search needs
 
+inputs-requires : tie.Need-inputs-requires
+inputs-requires c κs = search needs
+
 modem-status-requires : tie.Need-modem-status-requires
 modem-status-requires c κs = search needs
 
 returns-4 : tie.Need-returns-4
 unfolding effect afterRead answerAt msrRead msr
 returns-4 c =
-    let self = c .before .before .before .before .before .args .self in
-    ap (told (msrRead self)) (c .before .modem-status .ensures)
-    ∙ ap (readOf self) (sym (c .before .before .enum-told4 .given .1) ∙ c .before .before .before .before .register .ensures)
+    let self = c .before .before .before .before .before .before .args .self in
+    ap (told (msrRead self)) (c .before .modem-status .ensures ∙ ap (msrOf (self .modem .changes)) (c .before .before .inputs .ensures))
+    ∙ ap (readOf self) (sym (c .before .before .before .enum-told4 .given .1) ∙ c .before .before .before .before .before .register .ensures)
 
 shown-requires : tie.Need-shown-requires
 shown-requires c κs = search needs
@@ -129,6 +133,7 @@ read-spec =
     lsr-read-requires
     returns-3
     enum-told-4
+    inputs-requires
     modem-status-requires
     returns-4
     shown-requires

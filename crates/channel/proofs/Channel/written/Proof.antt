@@ -78,12 +78,25 @@ returns-3 c =
     ap done (c .fcr-written .ensures)
     ∙ ap (λ (r : Register). done (afterWrite (a .self) r (a .byte))) (sym (c .before .enum-told3 .given .1) ∙ c .before .before .before .register .ensures)
 
+enum-told-4 : tie.Need-enum-told-4
+enum-told-4 c = search needs
+
+mcr-written-requires : tie.Need-mcr-written-requires
+mcr-written-requires c κs = search needs
+
+returns-4 : tie.Need-returns-4
+unfolding effect afterWrite
+returns-4 c =
+    let a = c .before .before .before .before .args in
+    ap done (c .mcr-written .ensures)
+    ∙ ap (λ (r : Register). done (afterWrite (a .self) r (a .byte))) (sym (c .before .enum-told4 .given .1) ∙ c .before .before .before .register .ensures)
+
 write-requires-3 : tie.Need-write-requires-3
 write-requires-3 c κs = search needs
 
 -- the variants that the last arm takes, by their numbers
 abbrev rest : List ℕ
-rest = 3 ∷ 4 ∷ 5 ∷ 6 ∷ 7 ∷ 8 ∷ 9 ∷ []
+rest = 3 ∷ 5 ∷ 6 ∷ 7 ∷ 8 ∷ 9 ∷ []
 
 others : (c : Channel) (r : Register) (byte : ℕ) → OneOf rest (tagOf the-type r) → withSettings c (kept (c .settings) r byte) ≡ afterWrite c r byte
 unfolding afterWrite
@@ -91,19 +104,19 @@ others c RbrThr byte k = absurd (miss rest 0 tt k)
 others c Ier byte k = absurd (miss rest 1 tt k)
 others c IirFcr byte k = absurd (miss rest 2 tt k)
 others c Lcr byte k = refl
-others c Mcr byte k = refl
+others c Mcr byte k = absurd (miss rest 4 tt k)
 others c Lsr byte k = refl
 others c Msr byte k = refl
 others c Scratch byte k = refl
 others c Dll byte k = refl
 others c Dlm byte k = refl
 
-returns-4 : tie.Need-returns-4
+returns-5 : tie.Need-returns-5
 unfolding effect
-returns-4 c =
+returns-5 c =
     let a = c .before .before .before .args in
     ap (λ x. done (withSettings (a .self) x)) (c .write3 .ensures)
-    ∙ ap done (others (a .self) (c .before .before .register .result) (a .byte) (c .before .match .keys4))
+    ∙ ap done (others (a .self) (c .before .before .register .result) (a .byte) (c .before .match .keys5))
     ∙ ap (λ (r : Register). done (afterWrite (a .self) r (a .byte))) (c .before .before .register .ensures)
 
 pub written-spec : {M : Type 1} → statement M
@@ -124,5 +137,8 @@ written-spec =
     enum-told-3
     fcr-written-requires
     returns-3
+    enum-told-4
+    mcr-written-requires
+    returns-4
     write-requires-3
-    returns-4)
+    returns-5)

@@ -7,14 +7,14 @@ use Rattle.registers.proofs.Settings.refusal.Tie as tie
 enum-known-e : tie.Need-enum-known-e
 enum-known-e c = search needs
 
-refuse-read-requires : tie.Need-refuse-read-requires
-refuse-read-requires c κs = search needs
+refuse-access-requires : tie.Need-refuse-access-requires
+refuse-access-requires c κs = search needs
 
 enum-known-e-2 : tie.Need-enum-known-e-2
 enum-known-e-2 c = search needs
 
-refuse-write-requires : tie.Need-refuse-write-requires
-refuse-write-requires c κs = search needs
+refuse-access-requires-2 : tie.Need-refuse-access-requires-2
+refuse-access-requires-2 c κs = search needs
 
 enum-known-e-3 : tie.Need-enum-known-e-3
 enum-known-e-3 c = search needs
@@ -35,10 +35,10 @@ refuse-time-requires : tie.Need-refuse-time-requires
 refuse-time-requires c κs = search needs
 
 returns : tie.Need-returns
-returns c = simp (c .before .before .e .given .1, ← c .refuse-read .ensures, pick-true, pick-false)
+returns c = simp (c .before .before .e .given .1, ← c .refuse-access .ensures (c .before .before .before .before .args .self) .0, pick-true, pick-false)
 
 returns-2 : tie.Need-returns-2
-returns-2 c = simp (c .before .before .e2 .given .1, ← c .refuse-write .ensures, pick-true, pick-false)
+returns-2 c = simp (c .before .before .e2 .given .1, ← c .refuse-access2 .ensures (c .before .before .before .before .args .self) .1, pick-true, pick-false)
 
 returns-3 : tie.Need-returns-3
 returns-3 c = simp (c .before .before .e3 .given .1, ← c .refuse-arrival .ensures, pick-true, pick-false)
@@ -54,10 +54,10 @@ refusal-spec =
     tie.close
     (tie.spec
     enum-known-e
-    refuse-read-requires
+    refuse-access-requires
     returns
     enum-known-e-2
-    refuse-write-requires
+    refuse-access-requires-2
     returns-2
     enum-known-e-3
     refuse-arrival-requires
