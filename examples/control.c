@@ -7,8 +7,8 @@
 
 #include "hailstoat.h"
 
-#if HAILSTOAT_VERSION / 10000 != 2
-#error "this software is for version 2 of the bench"
+#if HAILSTOAT_VERSION / 10000 != 3
+#error "this software is for version 3 of the bench"
 #endif
 
 /* The words that this software writes. */

@@ -11,8 +11,9 @@
    on a port. Answers are written in hexadecimal below, as in document 01.
 
    What C cannot be promised, since no contract reaches so far:
-   - a null pointer, or one to fewer than HAILSTOAT_BYTES bytes, is not
-     refused: the call goes where the pointer goes;
+   - a null pointer, one to fewer than HAILSTOAT_BYTES bytes, or one to no
+     multiple of HAILSTOAT_ALIGNMENT, is not refused: the call goes where the
+     pointer goes;
    - a yes-or-no byte holds 0 or 1. In a bench that other code has written, a
      byte above 1 in a bool is no value at all, and no call is bound by it;
    - two calls on one bench at the same time. */
@@ -30,21 +31,25 @@ extern "C" {
 
 /* 10000 times the major number, 100 times the minor, and the patch. The major
    number changes where a program must be changed, or compiled again. */
-#define HAILSTOAT_VERSION 20300
+#define HAILSTOAT_VERSION 30000
 
 #define HAILSTOAT_SEATS 8
 #define HAILSTOAT_SLOTS 16
-#define HAILSTOAT_BYTES 668
+#define HAILSTOAT_BYTES 812
+#define HAILSTOAT_ALIGNMENT 4
 
 /* ---- the bench
 
-   One byte for every number and for every yes or no, in the order written and
-   with nothing between, so
+   Four bytes for every tally and one for every other number and every yes or
+   no, in the order written: 812 bytes, at a multiple of 4. Two bytes at the end
+   of each seat are no field's, since the tallies of the next one lie at a
+   multiple of 4; all else lies with nothing between. So
 
        struct hailstoat_bench bench = {0};
 
    is the bench at power-up (in C++, = {}). The fields may be read and copied
-   at will; events are the way to change them. */
+   at will; events are the way to change them. The two bytes have no value: a
+   call may leave anything in them, so compare benches by their fields. */
 
 /* Marks as in HAILSTOAT_MARK_PARITY. */
 struct hailstoat_character {
@@ -89,7 +94,17 @@ struct hailstoat_modem {
     uint8_t changes; /* MSR bits 0 to 3 */
 };
 
+/* The tallies as in struct hailstoat_five but for the fifth: how many are still
+   queued is the receiver's queue.count. */
+struct hailstoat_four {
+    uint32_t arrived;
+    uint32_t read;
+    uint32_t lost;
+    uint32_t dropped;
+};
+
 struct hailstoat_seat {
+    struct hailstoat_four tallies;
     struct hailstoat_settings settings;
     struct hailstoat_receiver receiver;
     struct hailstoat_transmitter transmitter;
@@ -219,6 +234,8 @@ enum hailstoat_refusal {
     HAILSTOAT_BEYOND_WORD = 16, /* data with more bits than LCR bits 0 and 1 say */
     HAILSTOAT_PARITY_UNASKED = 17, /* a parity mark while LCR bit 3 is clear */
     HAILSTOAT_BREAK_WITH_DATA = 18, /* a break mark with data not 0 */
+    HAILSTOAT_TALLY_FULL = 19, /* a character would be received, from the line or in
+                                  loopback, where arrived is FFFFFFFF; tried last */
 };
 
 /* A refusal in words, for a log. */
@@ -244,6 +261,7 @@ static inline const char *hailstoat_refusal_words(unsigned refusal)
     case HAILSTOAT_BEYOND_WORD: return "arrival: data beyond the word length";
     case HAILSTOAT_PARITY_UNASKED: return "arrival: parity mark with parity off";
     case HAILSTOAT_BREAK_WITH_DATA: return "arrival: break with data not 0";
+    case HAILSTOAT_TALLY_FULL: return "reception that no tally can hold";
     default: return "no refusal that this header knows";
     }
 }
@@ -406,6 +424,23 @@ uint64_t hailstoat_place(const struct hailstoat_bench *bench, uint32_t line);
    loopback none is. Seat above 7 gives refusal 1. The word's output is 0. */
 uint64_t hailstoat_modem_outputs(const struct hailstoat_bench *bench, uint32_t seat);
 
+/* Where a seat's received characters went since power-up. Arrived is the sum of
+   the other four, in every bench that events have made. */
+struct hailstoat_five {
+    uint32_t arrived; /* from outside, or in loopback from the seat itself */
+    uint32_t read; /* by a read of RBR */
+    uint32_t lost; /* by overrun: no room was left, or in 16450 mode a newer one replaced it */
+    uint32_t dropped; /* by emptying: a write of FCR, or a master reset */
+    uint32_t queued; /* still waiting to be read */
+};
+
+/* The five tallies of a seat, stored in *five, which may not lie in the bench.
+   What arrives from outside in loopback is not counted, nor what is refused.
+   The answer is 000. Seat above 7 gives refusal 1, and all five are 0. The
+   word's output is 0. */
+uint64_t hailstoat_tallies(const struct hailstoat_bench *bench, uint32_t seat,
+                           struct hailstoat_five *five);
+
 /* 1 if the controller's output is high, else 0: high exactly if the controller
    is ready and some line is grantable. */
 uint8_t hailstoat_output(const struct hailstoat_bench *bench);
@@ -427,13 +462,24 @@ uint32_t hailstoat_version(void);
    sizeof (struct hailstoat_bench), this header is another version's. */
 size_t hailstoat_size(void);
 
+/* The numbers that a compiler must agree with, checked as it compiles. */
+struct hailstoat_behind_a_byte {
+    uint8_t byte;
+    struct hailstoat_bench bench;
+};
+
+#define HAILSTOAT_LAID_OUT                                                     \
+    (sizeof(struct hailstoat_bench) == HAILSTOAT_BYTES                         \
+     && offsetof(struct hailstoat_behind_a_byte, bench) == HAILSTOAT_ALIGNMENT \
+     && sizeof(struct hailstoat_five) == 5 * sizeof(uint32_t))
+
 #ifdef __cplusplus
 }
-static_assert(sizeof(hailstoat_bench) == HAILSTOAT_BYTES, "the bench has no padding");
+static_assert(HAILSTOAT_LAID_OUT, "the bench has another size or alignment than the library's");
 #elif defined __STDC_VERSION__ && __STDC_VERSION__ >= 201112L
-_Static_assert(sizeof(struct hailstoat_bench) == HAILSTOAT_BYTES, "the bench has no padding");
+_Static_assert(HAILSTOAT_LAID_OUT, "the bench has another size or alignment than the library's");
 #else
-typedef char hailstoat_bench_has_no_padding[sizeof(struct hailstoat_bench) == HAILSTOAT_BYTES ? 1 : -1];
+typedef char hailstoat_bench_is_the_library_s[HAILSTOAT_LAID_OUT ? 1 : -1];
 #endif
 
 #endif

@@ -17,6 +17,16 @@ struct outcome bench_place(const struct bench *bench, unsigned line)
     return accepted(controller_place(&bench->controller, line));
 }
 
+struct ledger_answer bench_ledger(const struct bench *bench, unsigned seat)
+{
+    struct ledger_answer answer = {0};
+    if (seat >= SEATS)
+        answer.refusal = REFUSAL_SEAT_ABOVE;
+    else
+        channel_figures(&bench->seats[seat], answer.figures);
+    return answer;
+}
+
 unsigned bench_lines(const struct bench *bench)
 {
     unsigned lines = 0;

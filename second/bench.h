@@ -44,4 +44,7 @@ unsigned bench_lines(const struct bench *bench);
 /* "a line's place in turn (.. line above 7 gives refusal 1)" */
 struct outcome bench_place(const struct bench *bench, unsigned line);
 
+/* Ticket 8: a seat's tallies; a seat above 7 gives refusal 1 (S178). */
+struct ledger_answer bench_ledger(const struct bench *bench, unsigned seat);
+
 #endif

@@ -127,6 +127,15 @@ unsigned channel_cause(const struct channel *channel)
     return CAUSE_NONE;
 }
 
+void channel_figures(const struct channel *channel, uint32_t figures[FIGURES])
+{
+    figures[FIGURE_ARRIVED] = channel->ledger.arrived;
+    figures[FIGURE_READ] = channel->ledger.read;
+    figures[FIGURE_LOST] = channel->ledger.lost;
+    figures[FIGURE_DROPPED] = channel->ledger.dropped;
+    figures[FIGURE_QUEUED] = channel->receive.count;
+}
+
 bool channel_line(const struct channel *channel)
 {
     return channel_cause(channel) != CAUSE_NONE && (channel->mcr & MCR_LINE) != 0;

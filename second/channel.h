@@ -3,6 +3,7 @@
 
 #include <stdbool.h>
 
+#include "ledger.h"
 #include "outcome.h"
 #include "queue.h"
 
@@ -77,6 +78,7 @@ struct channel {
     unsigned shift_register;
     struct queue receive;
     struct queue transmit;
+    struct ledger ledger;
 };
 
 bool channel_in_fifo_mode(const struct channel *channel);
@@ -107,6 +109,9 @@ struct outcome channel_arrival(struct channel *channel, struct character charact
 struct outcome channel_modem_inputs(struct channel *channel, unsigned levels);
 struct outcome channel_character_time(struct channel *channel);
 void channel_master_reset(struct channel *channel);
+
+/* The five tallies in their order. */
+void channel_figures(const struct channel *channel, uint32_t figures[FIGURES]);
 
 /* "arrival or character time while the divisor is 0" */
 bool channel_divisor_is_zero(const struct channel *channel);

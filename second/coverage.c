@@ -31,6 +31,7 @@ static void tally_moment(struct tally *tally, const struct moment *moment)
     tally->events += 1;
     tally_letter(tally, moment);
     tally_loopback(tally, moment);
+    tally_ledger(tally, moment);
     if (moment->outcome.refusal != REFUSAL_NONE) {
         tally_refusal(tally, moment);
         return;

@@ -30,9 +30,19 @@ static uint64_t digest_letter(uint64_t digest, struct outcome outcome)
     return digest_add(digest, outcome.is_letter ? 1U + figures : 0U);
 }
 
+static uint64_t digest_ledger(uint64_t digest, const struct bench *bench, struct event event)
+{
+    struct ledger_answer answer = bench_ledger(bench, event.seat % LEDGER_SEATS);
+    digest = digest_add(digest, (unsigned)answer.refusal);
+    for (unsigned i = 0; answer.refusal == REFUSAL_NONE && i < FIGURES; i += 1)
+        digest = digest_add(digest, answer.figures[i]);
+    return digest;
+}
+
 void digests_event(struct digests *digests, struct bench *bench, struct event event)
 {
     struct outcome outcome = bench_event(bench, event);
     digests->digest = digest_places(digest_outcome(digests->digest, bench, outcome), bench);
     digests->letters = digest_letter(digests->letters, outcome);
+    digests->ledgers = digest_ledger(digests->ledgers, bench, event);
 }

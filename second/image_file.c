@@ -44,7 +44,8 @@ int image_file_restore(struct bench *bench, const char *name)
     FILE *file = fopen(name, "rb");
     if (file == NULL)
         return tell("cannot open", name);
-    /* S98: what stands behind the image is not looked at. */
+    /* S98: what stands behind the image is not looked at. The newest is the
+       longest. */
     size_t length = fread(image, 1, IMAGE_BYTES, file);
     bool failed = ferror(file) != 0;
     fclose(file);

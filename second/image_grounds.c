@@ -1,12 +1,14 @@
 /* "15 exactly for a field outside its range in document 01 (MCR to 0F,
    yes-or-no to 1), a queue beyond its capacity, a time-out count above 0 in
    16450 mode or with nothing queued, a latch set on a low line, or an unused
-   byte not 0". Ticket 7: "A saved MCR may now be up to 1F." */
+   byte not 0". Ticket 7: "A saved MCR may now be up to 1F." Ticket 8: "15 also for
+   tallies that do not add up or miscount the queue". */
 #include "image_grounds.h"
 
 #include <stddef.h>
 
 #include "image_fields.h"
+#include "image_shape.h"
 
 struct limit {
     unsigned at;
@@ -101,6 +103,24 @@ static uint64_t seat_grounds(const uint8_t *record)
            | queue_grounds(record, fifo);
 }
 
+uint64_t image_sum_of_four(const uint8_t *figures)
+{
+    uint64_t sum = 0;
+    for (unsigned i = FIGURE_READ; i < FIGURES; i += 1)
+        sum += image_number(figures + 4U * i);
+    return sum;
+}
+
+/* S183: the sum is not cut to 32 bits. */
+static uint64_t figure_grounds(const uint8_t *record)
+{
+    const uint8_t *figures = record + SEAT_AT_FIGURES;
+    uint32_t arrived = image_number(figures + 4 * FIGURE_ARRIVED);
+    uint32_t queued = image_number(figures + 4 * FIGURE_QUEUED);
+    return set_if(image_sum_of_four(figures) != arrived, GROUND_SUM)
+           | set_if(queued != record[SEAT_AT_RECEIVE_COUNT], GROUND_MISCOUNT);
+}
+
 /* "a latch set on a low line", in level mode too (S90). */
 static uint64_t latch_grounds(const uint8_t *image)
 {
@@ -112,13 +132,17 @@ static uint64_t latch_grounds(const uint8_t *image)
            | set_if(on_low && level, GROUND_LATCH_LEVEL);
 }
 
-uint64_t image_grounds(const uint8_t image[IMAGE_BYTES])
+uint64_t image_grounds(const uint8_t *image)
 {
+    bool older = image_shape(image)->version < IMAGE_VERSION;
     const uint8_t *block = image + IMAGE_AT_CONTROLLER;
     uint64_t grounds = limit_grounds(block, controller_limits, LIMITS(controller_limits))
                        | set_if((block[CONTROLLER_AT_BASE] & 7U) != 0, GROUND_BASE)
                        | latch_grounds(image);
     for (unsigned seat = 0; seat < SEATS; seat += 1)
-        grounds |= seat_grounds(image + IMAGE_AT_SEATS + seat * IMAGE_SEAT_BYTES);
+        grounds |= seat_grounds(image_record(image, seat));
+    /* S182: what version 1 does not say is sound. */
+    for (unsigned seat = 0; !older && seat < SEATS; seat += 1)
+        grounds |= figure_grounds(image_record(image, seat));
     return grounds;
 }

@@ -28,13 +28,17 @@
     ITEM(RECEIVE_FIFO, "seventeen or more received in FIFO mode") \
     ITEM(RECEIVE_UNUSED, "byte behind the last received") \
     ITEM(MARKS, "marks of a received character above 7") \
-    ITEM(MARKS_UNUSED, "marks behind the last received")
+    ITEM(MARKS_UNUSED, "marks behind the last received") \
+    ITEM(SUM, "tallies that do not add up") ITEM(MISCOUNT, "tallies that miscount the queue")
 
 #define GROUND_NAME(name, words) GROUND_##name,
 enum ground { GROUND_ITEMS(GROUND_NAME) GROUNDS };
 #undef GROUND_NAME
 
-/* The grounds that an image gives, ground n as bit n. */
-uint64_t image_grounds(const uint8_t image[IMAGE_BYTES]);
+/* The grounds that an image of a known version gives, ground n as bit n. */
+uint64_t image_grounds(const uint8_t *image);
+
+/* Of a seat's five tallies in an image. */
+uint64_t image_sum_of_four(const uint8_t *figures);
 
 #endif

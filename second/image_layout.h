@@ -1,20 +1,23 @@
 #ifndef IMAGE_LAYOUT_H
 #define IMAGE_LAYOUT_H
 
-/* Where the bytes of a saved bench stand, version 1: "the three letters `BEN`,
-   a 16-bit version (1, low byte first), the controller, then eight seat
-   records of one fixed length". */
+/* Where the bytes of a saved bench stand: "the three letters `BEN`, a 16-bit
+   version (.. low byte first), the controller, then eight seat records of one
+   fixed length". Ticket 8: "the saved bench becomes version 2"; what is called
+   older here is version 1. */
 
 #define IMAGE_MARK "BEN"
 #define IMAGE_MARK_BYTES 3U
-#define IMAGE_VERSION 1U
+#define IMAGE_VERSION 2U
 
 enum image_at {
     IMAGE_AT_VERSION = 3,
     IMAGE_HEADER_BYTES = 5,
     IMAGE_AT_CONTROLLER = 5,
     IMAGE_AT_SEATS = 16,
-    IMAGE_SEAT_BYTES = 66,
+    IMAGE_OLDER_SEAT_BYTES = 66,
+    IMAGE_OLDER_BYTES = IMAGE_AT_SEATS + 8 * IMAGE_OLDER_SEAT_BYTES,
+    IMAGE_SEAT_BYTES = 86,
     IMAGE_BYTES = IMAGE_AT_SEATS + 8 * IMAGE_SEAT_BYTES
 };
 
@@ -55,7 +58,8 @@ enum seat_at {
     SEAT_AT_SEND = 17,
     SEAT_AT_RECEIVE_COUNT = 33,
     SEAT_AT_RECEIVE = 34,
-    SEAT_AT_MARKS = 50
+    SEAT_AT_MARKS = 50,
+    SEAT_AT_FIGURES = 66 /* from version 2 on: five numbers of four bytes */
 };
 
 /* The fields that are one byte and one member each. The rest of a controller

@@ -3,6 +3,7 @@
 #include "image.h"
 #include "image_fields.h"
 #include "image_grounds.h"
+#include "image_shape.h"
 
 /* "Refusals, in order: 12 no room or below 5 bytes, 13 wrong mark, 14 unknown
    version, 12 shorter than its version, 15 .." */
@@ -12,9 +13,10 @@ static enum refusal refusal_of(const uint8_t *image, size_t bytes)
         return REFUSAL_NO_ROOM;
     if (memcmp(image, IMAGE_MARK, IMAGE_MARK_BYTES) != 0)
         return REFUSAL_NO_MARK;
-    if (image[IMAGE_AT_VERSION] + 256U * image[IMAGE_AT_VERSION + 1] != IMAGE_VERSION)
+    const struct image_shape *shape = image_shape(image);
+    if (shape == NULL)
         return REFUSAL_NO_VERSION;
-    if (bytes < IMAGE_BYTES)
+    if (bytes < shape->bytes)
         return REFUSAL_NO_ROOM;
     return image_grounds(image) == 0 ? REFUSAL_NONE : REFUSAL_NO_BENCH;
 }

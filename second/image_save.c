@@ -1,4 +1,5 @@
 #include "image.h"
+#include "image_shape.h"
 
 static void write_queue(const struct queue *queue, uint8_t *count, uint8_t *data)
 {
@@ -6,6 +7,14 @@ static void write_queue(const struct queue *queue, uint8_t *count, uint8_t *data
     /* The places from the number on are 0 in the queue itself. */
     for (unsigned i = 0; i < PLACES_FIFO; i += 1)
         data[i] = (uint8_t)queue->characters[i].data;
+}
+
+static void write_figures(const struct channel *seat, uint8_t *bytes)
+{
+    uint32_t figures[FIGURES];
+    channel_figures(seat, figures);
+    for (unsigned i = 0; i < FIGURES; i += 1)
+        image_put_number(bytes + 4U * i, figures[i]);
 }
 
 /* "Each seat record goes into its own stretch of the buffer." */
@@ -18,6 +27,7 @@ static void write_seat(const struct channel *seat, uint8_t *record)
     write_queue(&seat->receive, &record[SEAT_AT_RECEIVE_COUNT], &record[SEAT_AT_RECEIVE]);
     for (unsigned i = 0; i < PLACES_FIFO; i += 1)
         record[SEAT_AT_MARKS + i] = (uint8_t)seat->receive.characters[i].marks;
+    write_figures(seat, &record[SEAT_AT_FIGURES]);
 }
 
 static void write_controller(const struct controller *controller, uint8_t *block)

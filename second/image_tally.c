@@ -5,6 +5,7 @@
 #include <stdio.h>
 
 #include "image_fields.h"
+#include "image_shape.h"
 
 #define DAMAGES_LEAST 200000U
 
@@ -20,11 +21,11 @@ static const char *const looped_words[] = {LOOPED_ITEMS(LOOPED_WORDS)};
 static const char *const count_words[TIMEOUT_COUNTS] = {"0", "1", "2", "3", "4"};
 
 /* The same field of every seat is one. */
-static unsigned field_of(unsigned at)
+static unsigned field_of(unsigned at, unsigned seat_bytes)
 {
     if (at < IMAGE_AT_SEATS)
         return at;
-    return IMAGE_AT_SEATS + (at - IMAGE_AT_SEATS) % IMAGE_SEAT_BYTES;
+    return IMAGE_AT_SEATS + (at - IMAGE_AT_SEATS) % seat_bytes;
 }
 
 void image_tally_begin(struct image_tally *tally)
@@ -83,7 +84,7 @@ void image_tally_event(struct image_tally *tally, const struct moment *moment)
 static void tally_left(struct image_tally *tally, const uint8_t image[IMAGE_BYTES])
 {
     for (unsigned seat = 0; seat < SEATS; seat += 1) {
-        const uint8_t *record = image + IMAGE_AT_SEATS + seat * IMAGE_SEAT_BYTES;
+        const uint8_t *record = image_record(image, seat);
         if (record[SEAT_AT_RECEIVE_COUNT] == PLACES_FIFO)
             tally->left[tally->lost_at[seat]] += 1;
     }
@@ -114,10 +115,16 @@ void image_tally_stop(struct image_tally *tally, const uint8_t image[IMAGE_BYTES
     tally->stops += 1;
     tally_left(tally, image);
     tally_inside(tally, &bench);
+    keepings_saved(&tally->keepings, &bench);
     watches_restore(&tally->watches, &bench);
     for (unsigned i = 0; i < IMAGE_BYTES; i += 1)
-        if (image[i] != 0)
-            tally->held[field_of(i)] += 1;
+        if (image[i] != 0 && field_of(i, IMAGE_SEAT_BYTES) < IMAGE_FIELD_BYTES)
+            tally->held[field_of(i, IMAGE_SEAT_BYTES)] += 1;
+}
+
+void image_tally_older(struct image_tally *tally)
+{
+    tally->older += 1;
 }
 
 static void tally_grounds(struct image_tally *tally, const uint8_t *image)
@@ -144,7 +151,7 @@ static void tally_refusal_12(struct image_tally *tally, const struct damage *dam
 /* An MCR was the only byte wounded. */
 static void tally_mcr(struct image_tally *tally, const struct damage *damage)
 {
-    unsigned was = damage->was;
+    unsigned was = damage->undamaged[damage->position];
     unsigned is = damage->lent[damage->place + damage->position];
     bool read = damage->refusal == REFUSAL_NONE;
     looped_if(tally, read && (is & ~was & MCR_LOOP) != 0, LOOPED_READ);
@@ -156,16 +163,22 @@ static void tally_mcr(struct image_tally *tally, const struct damage *damage)
 /* One byte was wounded, and all of the image was lent. */
 static void tally_wounded(struct image_tally *tally, const struct damage *damage)
 {
-    tally->wounded[damage->position] += 1;
-    if (field_of(damage->position) == IMAGE_AT_SEATS + SEAT_AT_MCR)
+    const struct image_shape *shape = image_shape(damage->undamaged);
+    bool older = shape->version < IMAGE_VERSION;
+    uint64_t *wounded = older ? tally->wounded_older : tally->wounded;
+    /* Behind a version 1 image there is something to wound, but not of it. */
+    if (damage->position >= shape->bytes || !has_bytes(damage, shape->bytes))
+        return;
+    wounded[damage->position] += 1;
+    if (field_of(damage->position, shape->seat_bytes) == IMAGE_AT_SEATS + SEAT_AT_MCR)
         tally_mcr(tally, damage);
 }
 
 void image_tally_damage(struct image_tally *tally, const struct damage *damage)
 {
     tally->damages += 1;
-    if (has_bytes(damage, IMAGE_BYTES) && damage->position < IMAGE_BYTES)
-        tally_wounded(tally, damage);
+    tally_wounded(tally, damage);
+    keepings_damage(&tally->keepings, damage);
     switch (damage->refusal) {
     case REFUSAL_NONE: tally->read += 1; break;
     case REFUSAL_NO_ROOM: tally_refusal_12(tally, damage); break;
@@ -215,8 +228,9 @@ int image_tally_print(const struct image_tally *tally)
         result |= print_item(tally->looped[i], looped_words[i], "");
     result |= print_some(tally->damages, DAMAGES_LEAST, "damaged images", "");
     result |= print_item(tally->read, "damaged images ", "read");
-    result |= print_some(tally->written_back, tally->read, "damaged images ",
-                         "written back as read");
+    result |= print_item(tally->older, "version 1 images ", "read that were not damaged");
+    result |= print_some(tally->written_back, tally->read + tally->older, "images ",
+                         "written back as read, those of version 1 as version 2");
     result |= print_item(tally->too_short_for_header, "refusal 12, ", "below 5 bytes");
     result |= print_item(tally->too_short_for_version, "refusal 12, ", "shorter than its version");
     result |= print_item(tally->wrong_mark, "refusal 13", "");
@@ -224,6 +238,10 @@ int image_tally_print(const struct image_tally *tally)
     result |= print_item(tally->no_bench, "refusal 15", "");
     for (unsigned i = 0; i < GROUNDS; i += 1)
         result |= print_item(tally->alone[i], "refusal 15, alone to blame: ", ground_words[i]);
+    for (unsigned i = 0; i < KEEPING_COUNT; i += 1)
+        result |= print_item(tally->keepings.reached[i], keeping_words[i], "");
+    result |= print_item(least_of(tally->wounded_older, IMAGE_OLDER_BYTES), "wounds ",
+                         "of the byte of version 1 that has the fewest of its own");
     return result | print_item(least_of(tally->wounded, IMAGE_BYTES), "wounds ",
                                "of the byte that has the fewest of its own");
 }

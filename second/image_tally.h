@@ -5,10 +5,12 @@
 
 #include "image.h"
 #include "image_grounds.h"
+#include "image_ledger.h"
 #include "tally.h"
 
-/* The header, the controller and one seat. */
-#define IMAGE_FIELD_BYTES ((unsigned)IMAGE_AT_SEATS + (unsigned)IMAGE_SEAT_BYTES)
+/* The header, the controller and one seat but its tallies, of whose bytes some are
+   always 0. */
+#define IMAGE_FIELD_BYTES ((unsigned)IMAGE_AT_SEATS + (unsigned)IMAGE_OLDER_SEAT_BYTES)
 
 /* "the time-out count rises, up to 4" */
 #define TIMEOUT_COUNTS 5U
@@ -60,16 +62,20 @@ struct image_tally {
     uint64_t no_bench;
     uint64_t alone[GROUNDS];          /* the ground was the only one */
     uint64_t wounded[IMAGE_BYTES];    /* the byte was the only one, and all was lent */
+    uint64_t wounded_older[IMAGE_OLDER_BYTES]; /* the same in a version 1 image */
+    uint64_t older; /* version 1 images read that were not damaged */
+    struct keepings keepings;
 };
 
-/* A damaged image as it was lent, and what came of it. The position is that of
-   its only wound, with the byte that stood there; IMAGE_BYTES if there were two. */
+/* A damaged image as it was lent, what it was made from, and what came of it. The
+   position is that of the only byte replaced; IMAGE_BYTES if it was not the only
+   one. */
 struct damage {
     const uint8_t *lent;
     size_t length;
     uint64_t place;
     unsigned position;
-    uint8_t was;
+    const uint8_t *undamaged;
     enum refusal refusal;
 };
 
@@ -78,6 +84,10 @@ void image_tally_begin(struct image_tally *tally);
 
 void image_tally_event(struct image_tally *tally, const struct moment *moment);
 void image_tally_stop(struct image_tally *tally, const uint8_t image[IMAGE_BYTES]);
+
+/* A version 1 image was read that was not damaged. */
+void image_tally_older(struct image_tally *tally);
+
 void image_tally_damage(struct image_tally *tally, const struct damage *damage);
 
 /* Prints it; not 0 if something is not reached, if there are fewer damaged

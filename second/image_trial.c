@@ -2,6 +2,8 @@
 
 #include <string.h>
 
+#include "image_buffer.h"
+#include "image_shape.h"
 #include "starts.h"
 #include "stream.h"
 #include "wounds.h"
@@ -11,9 +13,8 @@
 #define EVENTS_AFTER_DAMAGE 100U
 #define EVENTS_ON_MOST 64U
 #define KEPT_EACH 8U
+#define OLDER_EACH 4U
 
-#define BUFFER_BYTES 600U
-#define BUFFER_FILL 165
 #define PLACES (BUFFER_BYTES - IMAGE_BYTES + 1U)
 
 /* A place past every end, and in the buffer once cut to 16 bits. */
@@ -25,11 +26,7 @@
 const struct trial image_trials[IMAGE_TRIALS] = {
     {101, 20000, 0, 0}, {102, 20000, 0, 0}, {103, 20000, 0, 0}, {104, 20000, 0, 0},
     {105, 20000, 0, 0}, {106, 20000, 0, 0}, {107, 20000, 0, 0}, {108, 20000, 0, 0},
-    {109, 20000, 1, 0}, {112, 20000, 1, 0},
-};
-
-struct buffer {
-    uint8_t bytes[BUFFER_BYTES];
+    {109, 20000, 1, 0}, {112, 20000, 1, 0}, {113, 20000, 0, 1}, {114, 20000, 1, 1},
 };
 
 /* How much of a buffer is lent, and the place named in it. */
@@ -48,10 +45,10 @@ struct image_trial {
     struct image_tally *tally;
 };
 
-/* The image of a stop. */
-struct kept {
-    struct buffer buffer;
-    unsigned place;
+/* Both images of a stop: version 2 and version 1. */
+struct images {
+    struct kept newest;
+    struct kept older;
 };
 
 static unsigned pick(struct image_trial *trial, unsigned below)
@@ -78,8 +75,7 @@ static void add_buffer(struct image_trial *trial, const struct buffer *buffer)
 static struct buffer save(struct image_trial *trial, const struct bench *bench,
                           struct lending lending)
 {
-    struct buffer buffer;
-    memset(buffer.bytes, BUFFER_FILL, BUFFER_BYTES);
+    struct buffer buffer = buffer_fresh();
     add(trial, image_save(bench, buffer.bytes, lending.length, lending.place));
     add_buffer(trial, &buffer);
     return buffer;
@@ -93,8 +89,11 @@ static struct kept keep(struct image_trial *trial, const struct bench *bench, un
 static void ahead(struct image_trial *trial, struct bench *bench, unsigned events)
 {
     struct stream copy = trial->stream;
+    bool damaged = bench == &trial->other;
     for (unsigned i = 0; i < events; i += 1) {
         struct outcome outcome = bench_event(bench, stream_next(&copy));
+        if (trial->tally != NULL && damaged)
+            keepings_ahead(&trial->tally->keepings, outcome);
         trial->digests.digest = digest_outcome(trial->digests.digest, bench, outcome);
     }
 }
@@ -122,26 +121,26 @@ static struct lending damage_lending(unsigned way, unsigned spot, unsigned place
     }
 }
 
-/* Gives the position of the only wound; IMAGE_BYTES if there are two. */
+/* Gives the position of the only byte replaced; IMAGE_BYTES if it is not the only
+   one. */
 static unsigned wound_once_or_twice(struct image_trial *trial, uint8_t *image)
 {
+    unsigned seat_bytes = image_shape(image)->seat_bytes;
     bool twice = pick(trial, 4) == 0;
-    unsigned position = wound(&trial->picker, image);
+    unsigned position = wound(&trial->picker, image, seat_bytes);
     if (!twice)
         return position;
-    wound(&trial->picker, image);
+    wound(&trial->picker, image, seat_bytes);
     return IMAGE_BYTES;
 }
 
-/* A damage for the tally alone. The byte that stood at a position is that of the
-   image before its wound. */
+/* A damage for the tally alone. */
 static void tally_damage(const struct image_trial *trial, const struct kept *kept,
                          struct damage damage)
 {
     if (trial->tally == NULL)
         return;
-    if (damage.position < IMAGE_BYTES)
-        damage.was = kept->buffer.bytes[kept->place + damage.position];
+    damage.undamaged = kept->buffer.bytes + kept->place;
     image_tally_damage(trial->tally, &damage);
 }
 
@@ -154,8 +153,8 @@ static enum refusal restore_damaged(struct image_trial *trial, const struct kept
     struct lending lending = damage_lending(way, pick_spot(&trial->picker), copy->place);
     const uint8_t *bytes = copy->buffer.bytes;
     enum refusal refusal = image_restore(&trial->other, bytes, lending.length, lending.place);
-    tally_damage(trial, kept, (struct damage){bytes, lending.length, lending.place, position, 0,
-                                              refusal});
+    tally_damage(trial, kept, (struct damage){bytes, lending.length, lending.place, position,
+                                              NULL, refusal});
     return refusal;
 }
 
@@ -163,13 +162,18 @@ static enum refusal restore_damaged(struct image_trial *trial, const struct kept
 static void compare_back(struct image_trial *trial, const struct kept *read,
                          const struct kept *back)
 {
-    bool same = memcmp(read->buffer.bytes, back->buffer.bytes, BUFFER_BYTES) == 0;
-    if (trial->tally != NULL && same)
+    if (trial->tally == NULL)
+        return;
+    bool older = image_shape(read->buffer.bytes + read->place)->version < IMAGE_VERSION;
+    struct kept expected = older ? kept_as_newest(read) : *read;
+    if (memcmp(expected.buffer.bytes, back->buffer.bytes, BUFFER_BYTES) == 0)
         trial->tally->written_back += 1;
 }
 
-static void damage(struct image_trial *trial, const struct kept *kept, unsigned number)
+static void damage(struct image_trial *trial, const struct images *images, unsigned number)
 {
+    bool older = number % OLDER_EACH == OLDER_EACH - 1U;
+    const struct kept *kept = older ? &images->older : &images->newest;
     struct kept copy = *kept;
     enum refusal refusal = restore_damaged(trial, kept, &copy);
     bool is_read = refusal == REFUSAL_NONE;
@@ -183,6 +187,17 @@ static void damage(struct image_trial *trial, const struct kept *kept, unsigned 
         ahead(trial, &trial->other, EVENTS_AFTER_DAMAGE);
 }
 
+/* The older image is read over a bench that is then forgotten. */
+static void read_older(struct image_trial *trial, const struct kept *older)
+{
+    struct bench bench = trial->other;
+    add(trial, image_restore(&bench, older->buffer.bytes, BUFFER_BYTES, older->place));
+    struct kept back = keep(trial, &bench, older->place);
+    if (trial->tally != NULL)
+        image_tally_older(trial->tally);
+    compare_back(trial, older, &back);
+}
+
 /* TRIALS.md, A stop. */
 static void stop(struct image_trial *trial)
 {
@@ -191,17 +206,20 @@ static void stop(struct image_trial *trial)
     unsigned place = pick(trial, PLACES);
     save(trial, &trial->bench, no_room(way, spot, place));
 
-    struct kept kept = keep(trial, &trial->bench, place);
+    struct images images = {.newest = keep(trial, &trial->bench, place)};
+    const uint8_t *bytes = images.newest.buffer.bytes;
     if (trial->tally != NULL)
-        image_tally_stop(trial->tally, kept.buffer.bytes + place);
+        image_tally_stop(trial->tally, bytes + place);
     ahead(trial, &trial->bench, 1U + pick(trial, EVENTS_ON_MOST));
     if (trial->stops % 2 == 1)
         trial->bench = trial->other;
-    add(trial, image_restore(&trial->bench, kept.buffer.bytes, BUFFER_BYTES, place));
+    add(trial, image_restore(&trial->bench, bytes, BUFFER_BYTES, place));
 
+    images.older = kept_as_older(&images.newest);
+    read_older(trial, &images.older);
     trial->other = trial->bench;
     for (unsigned i = 0; i < DAMAGES; i += 1)
-        damage(trial, &kept, i);
+        damage(trial, &images, i);
     trial->stops += 1;
 }
 

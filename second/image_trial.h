@@ -5,7 +5,7 @@
 #include "image_tally.h"
 #include "trials.h"
 
-#define IMAGE_TRIALS 10U
+#define IMAGE_TRIALS 12U
 
 /* The trials of saved benches that are run each time. */
 extern const struct trial image_trials[IMAGE_TRIALS];

@@ -3,6 +3,7 @@
 #include <inttypes.h>
 #include <stdio.h>
 
+#include "digest.h"
 #include "output.h"
 #include "records.h"
 
@@ -18,6 +19,30 @@ static void print_letter(struct outcome outcome)
 {
     if (outcome.is_letter)
         printf(" marks %u behind %u", outcome.marks, outcome.behind);
+}
+
+/* The tallies that the trials ask for after a record. */
+static void print_asked(const struct bench *bench, struct event event)
+{
+    struct ledger_answer answer = bench_ledger(bench, event.seat % LEDGER_SEATS);
+    if (answer.refusal != REFUSAL_NONE)
+        return;
+    printf(" tallies");
+    for (unsigned i = 0; i < FIGURES; i += 1)
+        printf(" %" PRIu32, answer.figures[i]);
+}
+
+/* Ticket 8, of every seat (S189). */
+static void print_tallies(const struct bench *bench)
+{
+    static const char *const words[FIGURES] = {"arrived", "read", "lost", "dropped", "queued"};
+    for (unsigned seat = 0; seat < SEATS; seat += 1) {
+        struct ledger_answer answer = bench_ledger(bench, seat);
+        fprintf(stderr, "seat %u", seat);
+        for (unsigned i = 0; i < FIGURES; i += 1)
+            fprintf(stderr, " %s %" PRIu32, words[i], answer.figures[i]);
+        fprintf(stderr, "\n");
+    }
 }
 
 static void print_record(const uint8_t *record, size_t length)
@@ -46,6 +71,8 @@ static int list(struct bench *bench, bool showing, const struct saves *saves)
         print_line(number, outcome, bench_output(bench));
         if (showing)
             print_letter(outcome);
+        if (showing && whole)
+            print_asked(bench, record_event(record));
         printf("\n");
         result |= saves_at_record(saves, bench, number);
         number += 1;
@@ -53,7 +80,10 @@ static int list(struct bench *bench, bool showing, const struct saves *saves)
         length = whole ? records_next(&records, record) : 0;
     }
     result |= saves_at_end(saves, bench);
-    return answers_result(result | saves_missed(saves, number));
+    result |= saves_missed(saves, number);
+    if (saves->tallies)
+        print_tallies(bench);
+    return answers_result(result);
 }
 
 int listing_run(struct bench bench, const struct saves *saves)

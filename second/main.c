@@ -109,7 +109,7 @@ static int run_settings_lines(int count, char **words)
 }
 
 static const struct command commands[] = {
-    {"listing", " [--restore FILE] [--save-at N|start|end FILE]..", NULL, run_listing},
+    {"listing", " [--restore FILE] [--save-at N|start|end FILE].. [--tallies]", NULL, run_listing},
     {"show", " [START]", NULL, run_show},
     {"rates", "", rates_run, NULL},
     {"spoons", "", spoons_run, NULL},

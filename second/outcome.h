@@ -25,7 +25,8 @@ enum refusal {
     REFUSAL_NO_BENCH = 15,       /* "exactly for a field outside its range in document 01 .." */
     REFUSAL_DATA_BEYOND = 16,    /* "data beyond the word length" */
     REFUSAL_PARITY_OFF = 17,     /* "parity mark with parity off" */
-    REFUSAL_BREAK_WITH_DATA = 18 /* "break with data" */
+    REFUSAL_BREAK_WITH_DATA = 18, /* "break with data" */
+    REFUSAL_ARRIVED_FULL = 19     /* "where arrived would pass its largest value" */
 };
 
 /* Ticket 6: "The RBR answer gains these figures". Of an outcome that is no

@@ -9,6 +9,7 @@ static struct outcome read_rbr(struct channel *channel)
         return accepted_letter(channel->last_byte_read, 0, 0);
     struct character oldest = queue_take_oldest(&channel->receive);
     channel->last_byte_read = oldest.data;
+    channel->ledger.read += 1;
     channel->timeout_count = 0;
     /* "also hands over its marks and how many remain behind it" */
     return accepted_letter(oldest.data, oldest.marks, channel->receive.count);
@@ -88,6 +89,8 @@ static void write_ier(struct channel *channel, unsigned byte)
 
 static void empty_receive(struct channel *channel)
 {
+    /* Ticket 8: "dropped by emptying" */
+    channel->ledger.dropped += channel->receive.count;
     queue_make_empty(&channel->receive);
     /* "Emptying the receive queue sets the time-out count to 0." */
     channel->timeout_count = 0;

@@ -8,12 +8,14 @@
 
 #define WORD_RESTORE "--restore"
 #define WORD_SAVE "--save-at"
+#define WORD_TALLIES "--tallies"
 #define WORD_START "start"
 #define WORD_END "end"
 
 /* A word with those that belong to it. */
 #define RESTORE_WORDS 2
 #define SAVE_WORDS 3
+#define TALLIES_WORDS 1
 
 static bool equal(const char *word, const char *other)
 {
@@ -26,6 +28,14 @@ static bool is_moment(const char *word)
     return equal(word, WORD_START) || equal(word, WORD_END) || number_parse(word, &number);
 }
 
+/* How many words stand together from one of the three on. */
+static int words_of(const char *word)
+{
+    if (equal(word, WORD_SAVE))
+        return SAVE_WORDS;
+    return equal(word, WORD_RESTORE) ? RESTORE_WORDS : TALLIES_WORDS;
+}
+
 bool saves_parse(int count, char **words, struct saves *saves)
 {
     *saves = (struct saves){.count = count, .words = words};
@@ -34,11 +44,14 @@ bool saves_parse(int count, char **words, struct saves *saves)
         int left = count - at;
         bool restores = equal(words[at], WORD_RESTORE) && left >= RESTORE_WORDS;
         bool keeps = equal(words[at], WORD_SAVE) && left >= SAVE_WORDS && is_moment(words[at + 1]);
-        if ((!restores && !keeps) || (restores && saves->restore != NULL))
+        bool tallies = equal(words[at], WORD_TALLIES);
+        bool again = (restores && saves->restore != NULL) || (tallies && saves->tallies);
+        if ((!restores && !keeps && !tallies) || again)
             return false;
         if (restores)
             saves->restore = words[at + 1];
-        at += restores ? RESTORE_WORDS : SAVE_WORDS;
+        saves->tallies = saves->tallies || tallies;
+        at += words_of(words[at]);
     }
     return true;
 }
@@ -60,7 +73,7 @@ static int go_round(const struct saves *saves, const struct round *round)
         bool saving = equal(words[0], WORD_SAVE);
         if (saving && round->meant(round, words[1]))
             result |= round->take(round, words[1], words[2]);
-        at += saving ? SAVE_WORDS : RESTORE_WORDS;
+        at += words_of(words[0]);
     }
     return result;
 }

@@ -6,11 +6,12 @@
 
 #include "bench.h"
 
-/* The words of a listing: `--restore FILE` once at most, and `--save-at N FILE`
-   any number of times. They stay where they are and are looked through at each
+/* The words of a listing: `--restore FILE` and `--tallies` once at most, and
+   `--save-at N FILE` any number of times. They stay where they are and are looked through at each
    record, so that any number of them needs no room. */
 struct saves {
     const char *restore; /* NULL where there is none */
+    bool tallies;
     int count;
     char **words;
 };

@@ -6,11 +6,12 @@
 #include <stddef.h>
 #include <stdio.h>
 
-#include "image.h"
+#include "ledger_spoons.h"
 #include "letter_spoons.h"
 #include "loopback_spoons.h"
 #include "output.h"
 #include "steps.h"
+#include "tasting.h"
 
 static const struct step case_1[] = {READ(0, 5, 0x60), READ(0, 2, 0x01), READ(0, 6, 0x00)};
 static const struct step case_2[] = {
@@ -148,30 +149,12 @@ static bool answer_agrees(struct outcome outcome, unsigned expected)
     return expected == ANY || outcome.answer == expected;
 }
 
-static struct outcome save_and_restore(struct bench *bench, unsigned at, unsigned byte)
-{
-    uint8_t image[IMAGE_BYTES];
-    image_save(bench, image, IMAGE_BYTES, 0);
-    image[at] = (uint8_t)byte;
-    enum refusal refusal = image_restore(bench, image, IMAGE_BYTES, 0);
-    return refusal == REFUSAL_NONE ? accepted(0) : refused(refusal);
-}
-
-static struct outcome step_outcome(struct bench *bench, struct event event)
-{
-    switch (event.kind) {
-    case STEP_PLACE: return bench_place(bench, event.number);
-    case STEP_RESTORE: return save_and_restore(bench, event.number, event.value);
-    default: return bench_event(bench, event);
-    }
-}
-
-static bool step_agrees(struct bench *bench, const struct step *step)
+static bool step_agrees(struct tasting *tasting, const struct step *step)
 {
     bool agrees = true;
     for (unsigned i = 0; i < step->times; i += 1) {
-        struct outcome outcome = step_outcome(bench, step->event);
-        unsigned output = bench_output(bench);
+        struct outcome outcome = tasting_step(tasting, step->event);
+        unsigned output = bench_output(&tasting->bench);
         agrees = agrees && answer_agrees(outcome, step->answer);
         agrees = agrees && (step->output == ANY || output == step->output);
     }
@@ -180,9 +163,9 @@ static bool step_agrees(struct bench *bench, const struct step *step)
 
 static bool spoon_agrees(const struct spoon *spoon)
 {
-    struct bench bench = bench_at_power_up();
+    struct tasting tasting = {.bench = bench_at_power_up(), .saved = {buffer_fresh(), 0}};
     for (size_t i = 0; i < spoon->count; i += 1)
-        if (!step_agrees(&bench, &spoon->steps[i])) {
+        if (!step_agrees(&tasting, &spoon->steps[i])) {
             printf("%s: differs at step %zu\n", spoon->name, i);
             return false;
         }
@@ -204,5 +187,6 @@ int spoons_run(void)
     int own = run_each(spoons, sizeof spoons / sizeof spoons[0]);
     int letters = run_each(letter_spoons, LETTER_SPOONS);
     int loopback = run_each(loopback_spoons, LOOPBACK_SPOONS);
-    return output_result(own | letters | loopback);
+    int ledgers = run_each(ledger_spoons, LEDGER_SPOONS);
+    return output_result(own | letters | loopback | ledgers);
 }

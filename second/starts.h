@@ -3,7 +3,7 @@
 
 #include "bench.h"
 
-#define STARTS 1U
+#define STARTS 2U
 
 /* The benches that a stream may start from, by their numbers in TRIALS.md. */
 extern struct bench (*const starts[STARTS])(void);

@@ -5,6 +5,7 @@
 #include <stdint.h>
 
 #include "bench.h"
+#include "ledger_items.h"
 #include "loopback_items.h"
 #include "watch.h"
 
@@ -208,7 +209,8 @@
     ITEM(LAST_2, "line 2 becomes last-ranked") ITEM(LAST_3, "line 3 becomes last-ranked") \
     ITEM(LAST_4, "line 4 becomes last-ranked") ITEM(LAST_5, "line 5 becomes last-ranked") \
     ITEM(LAST_6, "line 6 becomes last-ranked") ITEM(LAST_7, "line 7 becomes last-ranked") \
-    LOOPBACK_ITEMS(ITEM)
+    LOOPBACK_ITEMS(ITEM) \
+    LEDGER_ITEMS(ITEM)
 
 #define TALLY_NAME(name, words) TALLY_##name,
 enum tally_item { TALLY_ITEMS(TALLY_NAME) TALLY_COUNT };
@@ -234,6 +236,7 @@ void tally_seat(struct tally *tally, const struct moment *moment);
 void tally_timeout(struct tally *tally, const struct moment *moment);
 void tally_letter(struct tally *tally, const struct moment *moment);
 void tally_loopback(struct tally *tally, const struct moment *moment);
+void tally_ledger(struct tally *tally, const struct moment *moment);
 void tally_controller(struct tally *tally, const struct moment *moment);
 
 #endif

@@ -15,12 +15,13 @@ const struct trial trials[TRIALS] = {
     {9, 200000, 0, 0}, {10, 200000, 0, 0}, {11, 200000, 0, 0}, {12, 200000, 0, 0},
     {13, 200000, 0, 0}, {14, 200000, 0, 0}, {15, 200000, 0, 0}, {4294967295, 200000, 0, 0},
     {16, 1000, 1, 0}, {17, 200000, 1, 0}, {18, 200000, 1, 0}, {19, 200000, 1, 0},
+    {20, 1000, 0, 1}, {21, 200000, 0, 1}, {22, 200000, 1, 1},
 };
 
 static int print_digests(struct trial trial, struct digests digests)
 {
-    printf("%" PRIu32 " %" PRIu64 " %08" PRIX64 " %08" PRIX64 "\n", trial.seed, trial.count,
-           digests.digest, digests.letters);
+    printf("%" PRIu32 " %" PRIu64 " %08" PRIX64 " %08" PRIX64 " %08" PRIX64 "\n", trial.seed,
+           trial.count, digests.digest, digests.letters, digests.ledgers);
     return output_result(0);
 }
 
@@ -28,7 +29,7 @@ int trials_run_one(struct trial trial)
 {
     struct bench bench = starts[trial.start]();
     struct stream stream = stream_begin(trial.seed, trial.set);
-    struct digests digests = {0, 0};
+    struct digests digests = {0, 0, 0};
     for (uint64_t i = 0; i < trial.count; i += 1)
         digests_event(&digests, &bench, stream_next(&stream));
     return print_digests(trial, digests);

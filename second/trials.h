@@ -11,13 +11,13 @@ struct trial {
     unsigned start; /* below STARTS */
 };
 
-#define TRIALS 20U
+#define TRIALS 23U
 
 /* The streams that are run each time. */
 extern const struct trial trials[TRIALS];
 
 /* One stream, one trial of saved benches, or all of both lists: a line each of
-   seed, count, digest and letter digest. */
+   seed, count, digest, letter digest and tally digest. */
 int trials_run_one(struct trial trial);
 int trials_run_one_of_images(struct trial trial);
 int trials_run_all(void);

@@ -23,8 +23,13 @@ static void receive(struct channel *channel, struct character character)
 {
     bool fifo = channel_in_fifo_mode(channel);
     bool full = channel->receive.count == channel_places(channel);
+    channel->ledger.arrived += 1;
     if (full)
         channel->overrun = true;
+    /* Ticket 8: the new one is lost, or the old: "Replaced characters count as
+       overrun". */
+    if (full)
+        channel->ledger.lost += 1;
     /* "Full in 16450 mode: the new one replaces the old" */
     if (full && !fifo)
         queue_make_empty(&channel->receive);
@@ -38,6 +43,12 @@ static void receive(struct channel *channel, struct character character)
         channel->timeout_count = 0;
 }
 
+/* Ticket 8: "19, last in order, where arrived would pass its largest value" */
+static bool arrived_is_full(const struct channel *channel)
+{
+    return channel->ledger.arrived == LEDGER_MOST;
+}
+
 struct outcome channel_arrival(struct channel *channel, struct character character)
 {
     if (channel_divisor_is_zero(channel))
@@ -45,9 +56,13 @@ struct outcome channel_arrival(struct channel *channel, struct character charact
     enum refusal refusal = refusal_of_arrival(channel, character);
     if (refusal != REFUSAL_NONE)
         return refused(refusal);
-    /* Ticket 7: "arrivals .. are checked as before, but an arrival changes nothing" */
-    if (!channel_in_loopback(channel))
-        receive(channel, character);
+    /* Ticket 7: "arrivals .. are checked as before, but an arrival changes nothing".
+       Ticket 8: "an outside arrival in loopback does not" count as arrived. */
+    if (channel_in_loopback(channel))
+        return accepted(0);
+    if (arrived_is_full(channel))
+        return refused(REFUSAL_ARRIVED_FULL);
+    receive(channel, character);
     return accepted(0);
 }
 
@@ -100,10 +115,15 @@ struct outcome channel_character_time(struct channel *channel)
 {
     if (channel_divisor_is_zero(channel))
         return refused(REFUSAL_NO_DIVISOR);
+    /* Ticket 8: "a loopback reception counts as arrived". "nothing changes": not
+       even the shift register. */
+    bool receives = channel_in_loopback(channel) && channel->shift_full;
+    if (receives && arrived_is_full(channel))
+        return refused(REFUSAL_ARRIVED_FULL);
     unsigned sent = let_character_leave(channel);
     /* Ticket 7: "the character that leaves is received at once, cut to the word
        length and without marks, before the next one moves in" */
-    if (channel_in_loopback(channel) && sent != ANSWER_IDLE)
+    if (receives)
         receive(channel, (struct character){sent, 0});
     move_oldest_in(channel);
     /* "in FIFO mode with a character in the receive queue the time-out count
@@ -116,6 +136,9 @@ struct outcome channel_character_time(struct channel *channel)
 
 void channel_master_reset(struct channel *channel)
 {
+    /* Ticket 8: "since power-up", and "a master reset drops". */
+    struct ledger ledger = channel->ledger;
+    ledger.dropped += channel->receive.count;
     /* "divisor, scratch, modem levels and last byte read kept". The inputs may
        be others after it, by which "a master reset sets none". */
     *channel = (struct channel){
@@ -124,5 +147,6 @@ void channel_master_reset(struct channel *channel)
         .scratch = channel->scratch,
         .modem_levels = channel->modem_levels,
         .last_byte_read = channel->last_byte_read,
+        .ledger = ledger,
     };
 }

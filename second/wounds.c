@@ -1,12 +1,15 @@
 #include "wounds.h"
 
+#include "image_shape.h"
+#include "ledger.h"
+
 struct wound_row {
     uint8_t place; /* from IMAGE_AT_SEATS on a field of seat 0, for any seat */
     uint8_t low;
     uint8_t most;
 };
 
-#define WOUND_ROWS 40U
+#define WOUND_ROWS 56U
 
 /* TRIALS.md, Wound rows. */
 static const struct wound_row wound_rows[WOUND_ROWS] = {
@@ -20,33 +23,91 @@ static const struct wound_row wound_rows[WOUND_ROWS] = {
     {30, 0, 2}, {31, 0, 255}, {32, 0, 17}, {32, 2, 254},
     {33, 0, 255}, {48, 0, 1}, {49, 0, 17}, {49, 2, 254},
     {50, 0, 255}, {65, 0, 1}, {66, 0, 15}, {81, 0, 8},
+    {3, 0, 3}, {82, 0, 255}, {82, 0, 15}, {83, 0, 1},
+    {85, 0, 255}, {86, 0, 255}, {87, 0, 1}, {89, 0, 255},
+    {90, 0, 15}, {93, 0, 255}, {94, 0, 15}, {97, 128, 127},
+    {98, 0, 17}, {98, 0, 255}, {99, 0, 1}, {101, 0, 1},
 };
 
 unsigned pick_spot(struct stream *picker)
 {
     unsigned sixteenth = stream_draw(picker, 16);
-    return 34U * sixteenth + stream_draw(picker, 34);
+    return 44U * sixteenth + stream_draw(picker, 44);
 }
 
-unsigned wound(struct stream *picker, uint8_t image[IMAGE_BYTES])
+/* The picks of a wound, of which each way uses some. */
+struct picks {
+    unsigned way;
+    unsigned position;
+    unsigned bit_or_seat;
+    unsigned byte;
+    const struct wound_row *row;
+    unsigned value;
+    unsigned from;
+    unsigned to;
+};
+
+/* TRIALS.md: "all always and in this order" */
+static struct picks make_picks(struct stream *picker)
 {
-    unsigned way = stream_draw(picker, 8);
-    unsigned position = pick_spot(picker);
-    unsigned bit_or_seat = stream_draw(picker, 8);
-    unsigned byte = stream_draw(picker, 256);
-    const struct wound_row *row = &wound_rows[stream_draw(picker, WOUND_ROWS)];
-    unsigned value = row->low + stream_draw(picker, row->most + 1U);
-    if (way >= 5)
-        position = row->place;
-    if (way >= 5 && row->place >= IMAGE_AT_SEATS)
-        position += IMAGE_SEAT_BYTES * bit_or_seat;
-    switch (way) {
-    case 0:
-    case 1: image[position] = (uint8_t)byte; break;
-    case 2:
-    case 3: image[position] = (uint8_t)(image[position] ^ 1U << bit_or_seat); break;
-    case 4: image[position] = (uint8_t)(byte % 18U); break;
-    default: image[position] = (uint8_t)(value % 256U); break;
+    struct picks picks = {.way = stream_draw(picker, 12)};
+    picks.position = pick_spot(picker);
+    picks.bit_or_seat = stream_draw(picker, 8);
+    picks.byte = stream_draw(picker, 256);
+    picks.row = &wound_rows[stream_draw(picker, WOUND_ROWS)];
+    picks.value = picks.row->low + stream_draw(picker, picks.row->most + 1U);
+    picks.from = stream_draw(picker, 4);
+    picks.to = (picks.from + 1U + stream_draw(picker, 4)) % FIGURES;
+    return picks;
+}
+
+static uint32_t amount(const struct picks *picks, const uint8_t *figures)
+{
+    uint32_t arrived = image_number(figures + 4 * FIGURE_ARRIVED);
+    switch (picks->way) {
+    case 8: return picks->byte;
+    case 9: return picks->byte * 16777216U;
+    case 10: return LEDGER_MOST - picks->byte % 4U - arrived;
+    default: return image_number(figures + 4U * picks->from);
     }
+}
+
+/* So that the tallies still add up, where nothing wraps. */
+static void transfer(const struct picks *picks, uint8_t *figures)
+{
+    uint8_t *from = figures + 4U * picks->from;
+    uint8_t *to = figures + 4U * picks->to;
+    uint32_t moved = amount(picks, figures);
+    bool rise = picks->from == FIGURE_ARRIVED || picks->to == FIGURE_ARRIVED;
+    image_put_number(from, rise ? image_number(from) + moved : image_number(from) - moved);
+    image_put_number(to, image_number(to) + moved);
+}
+
+static void replace(const struct picks *picks, uint8_t *at)
+{
+    switch (picks->way) {
+    case 0:
+    case 1: *at = (uint8_t)picks->byte; break;
+    case 2:
+    case 3: *at = (uint8_t)(*at ^ 1U << picks->bit_or_seat); break;
+    case 4: *at = (uint8_t)(picks->byte % 18U); break;
+    default: *at = (uint8_t)(picks->value % 256U); break;
+    }
+}
+
+unsigned wound(struct stream *picker, uint8_t image[IMAGE_BYTES], unsigned seat_bytes)
+{
+    struct picks picks = make_picks(picker);
+    unsigned further = seat_bytes * picks.bit_or_seat;
+    if (picks.way >= 8) {
+        transfer(&picks, image + IMAGE_AT_SEATS + further + SEAT_AT_FIGURES);
+        return IMAGE_BYTES;
+    }
+    unsigned position = picks.position;
+    if (picks.way >= 5)
+        position = picks.row->place;
+    if (picks.way >= 5 && picks.row->place >= IMAGE_AT_SEATS)
+        position += further;
+    replace(&picks, image + position);
     return position;
 }

@@ -3,7 +3,6 @@
 
 #include <stdio.h>
 #include <stdlib.h>
-#include <string.h>
 
 #include "fields.h"
 
@@ -60,6 +59,26 @@ static int same_outputs(const struct hailstoat_bench *lent, const struct bench *
     return told(hailstoat_modem_outputs(lent, seat), outcome, 0);
 }
 
+/* Ticket 8: "arrived, read, lost by overrun, dropped by emptying, still queued"; where there is no such seat all are 0. */
+static int same_five(const struct hailstoat_bench *lent, const struct bench *second, uint32_t seat)
+{
+    struct hailstoat_five five = {1, 2, 3, 4, 5};
+    uint64_t word = hailstoat_tallies(lent, seat, &five);
+    struct ledger_answer wanted = bench_ledger(second, seat);
+    return told(word, wanted.refusal == REFUSAL_NONE ? accepted(0) : refused(wanted.refusal), 0)
+        && five.arrived == wanted.figures[FIGURE_ARRIVED] && five.read == wanted.figures[FIGURE_READ]
+        && five.lost == wanted.figures[FIGURE_LOST] && five.dropped == wanted.figures[FIGURE_DROPPED]
+        && five.queued == wanted.figures[FIGURE_QUEUED];
+}
+
+static int same_tallies(const struct hailstoat_bench *lent, const struct bench *second, uint32_t named)
+{
+    for (uint32_t seat = 0; seat < HAILSTOAT_SEATS; seat += 1)
+        if (!same_five(lent, second, seat))
+            return 0;
+    return same_five(lent, second, named);
+}
+
 unsigned one_event(struct hailstoat_bench *lent, struct bench *second, const char *what, unsigned long at,
                    struct event e)
 {
@@ -72,13 +91,15 @@ unsigned one_event(struct hailstoat_bench *lent, struct bench *second, const cha
         differs(what, at, "the vector, or whether it was spurious, differs", e);
     if (hailstoat_output(lent) != bench_output(second))
         differs(what, at, "the output differs", e);
-    if (outcome.refusal != REFUSAL_NONE && memcmp(&before, lent, sizeof before) != 0)
+    if (outcome.refusal != REFUSAL_NONE && !same_fields(&before, lent))
         differs(what, at, "a refused event changed the bench", e);
     if (!same_places(lent, second))
         differs(what, at, "the place of a line differs", e);
     if (!same_outputs(lent, second, e.seat))
         differs(what, at, "the modem outputs differ", e);
+    if (!same_tallies(lent, second, e.seat))
+        differs(what, at, "the tallies of a seat differ", e);
     if (fields_differ(lent, second) != NULL)
         differs(what, at, fields_differ(lent, second), e);
-    return outcome.refusal != REFUSAL_NONE;
+    return outcome.refusal;
 }

@@ -11,7 +11,7 @@ void fail(const char *what);
 int told(uint64_t word, struct outcome outcome, unsigned output);
 
 /* Plays the event on both benches, and fails, naming `what` and `at`, where
-   anything that C sees of them differs. Returns 1 if it was refused. */
+   anything that C sees of them differs. Returns its refusal. */
 unsigned one_event(struct hailstoat_bench *lent, struct bench *second, const char *what, unsigned long at,
                    struct event e);
 

@@ -3,10 +3,12 @@
    refusal, answer). Prints one line for each test; stops at the first that
    fails. */
 #include <stdio.h>
-#include <string.h>
 
 #include "compare.h"
 #include "edges.h"
+#include "fields.h"
+#include "full.h"
+#include "layout.h"
 #include "names.h"
 #include "stream.h"
 #include "threads.h"
@@ -28,7 +30,7 @@ static void version_and_size(void)
            hailstoat_size());
 }
 
-/* Whatever has happened to a bench, power-up leaves every byte 0. */
+/* Whatever has happened to a bench, power-up leaves every field 0. */
 static void power_up(void)
 {
     static const struct hailstoat_bench zero = {0};
@@ -38,12 +40,12 @@ static void power_up(void)
         struct event e = stream_next(&stream);
         hailstoat_event(&bench, e.kind, e.seat, e.number, (uint8_t)e.value);
     }
-    if (memcmp(&bench, &zero, sizeof bench) == 0)
+    if (same_fields(&bench, &zero))
         fail("a thousand events leave the bench zero");
     hailstoat_power_up(&bench);
-    if (memcmp(&bench, &zero, sizeof bench) != 0)
-        fail("power-up leaves a byte that is not 0");
-    printf("power-up: every byte is 0\n");
+    if (!same_fields(&bench, &zero))
+        fail("power-up leaves a field that is not 0");
+    printf("power-up: every field is 0\n");
 }
 
 static void streams(void)
@@ -56,9 +58,9 @@ static void streams(void)
         struct bench second = bench_at_power_up();
         struct stream stream = stream_begin(seeds[i], 0);
         for (unsigned long at = 0; at < EVENTS_EACH; at += 1)
-            refused += one_event(&lent, &second, what, at, stream_next(&stream));
+            refused += one_event(&lent, &second, what, at, stream_next(&stream)) != REFUSAL_NONE;
     }
-    printf("events: %lu, of which %lu refused; answers, letters, outputs, places, modem outputs and fields as the second program's\n",
+    printf("events: %lu, of which %lu refused; answers, letters, outputs, places, modem outputs, tallies and fields as the second program's\n",
            SEEDS * EVENTS_EACH, refused);
 }
 
@@ -69,7 +71,7 @@ static void edges(void)
             fprintf(stderr, "%s: ", edge_list[i].what);
             fail("not as the documents have it");
         }
-    printf("edges: %u; past each its refusal and every byte as before\n", (unsigned)edge_count);
+    printf("edges: %u; past each its refusal and every field as before\n", (unsigned)edge_count);
 }
 
 static void divisors(const char *path)
@@ -99,9 +101,11 @@ int main(int count, char **words)
     if (count != 2)
         fail("usage: embed RATES");
     version_and_size();
+    layout();
     power_up();
     names_mean();
     streams();
+    full_tallies();
     wide_numbers();
     two_threads();
     edges();

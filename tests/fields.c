@@ -3,6 +3,9 @@
 #include "fields.h"
 
 #include <stddef.h>
+#include <string.h>
+
+#define SEAT_FIELDS (offsetof(struct hailstoat_seat, modem) + sizeof(struct hailstoat_modem))
 
 static int same_queue(const struct hailstoat_queue *lent, const struct queue *second)
 {
@@ -54,8 +57,16 @@ static int same_lines(const struct hailstoat_lines *lent, const struct controlle
     return lent->levels == second->lines && lent->latches == second->latches;
 }
 
+static int same_tallies(const struct hailstoat_four *lent, const struct ledger *second)
+{
+    return lent->arrived == second->arrived && lent->read == second->read && lent->lost == second->lost
+        && lent->dropped == second->dropped;
+}
+
 static const char *seats_differ(const struct hailstoat_seat *lent, const struct channel *second)
 {
+    if (!same_tallies(&lent->tallies, &second->ledger))
+        return "tallies";
     if (!same_settings(&lent->settings, second))
         return "settings";
     if (!same_receiver(&lent->receiver, second))
@@ -77,4 +88,12 @@ const char *fields_differ(const struct hailstoat_bench *lent, const struct bench
     if (!same_operation(&lent->controller.operation, &second->controller))
         return "operation";
     return same_lines(&lent->controller.lines, &second->controller) ? NULL : "lines";
+}
+
+int same_fields(const struct hailstoat_bench *one, const struct hailstoat_bench *other)
+{
+    for (unsigned seat = 0; seat < HAILSTOAT_SEATS; seat += 1)
+        if (memcmp(&one->seats[seat], &other->seats[seat], SEAT_FIELDS) != 0)
+            return 0;
+    return memcmp(&one->controller, &other->controller, sizeof one->controller) == 0;
 }

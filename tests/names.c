@@ -8,6 +8,7 @@
 #include "by_name.h"
 #include "compare.h"
 #include "controller_names.h"
+#include "tally_names.h"
 
 #define IDLE_LSR (HAILSTOAT_LSR_HOLDING_EMPTY | HAILSTOAT_LSR_EMPTY)
 #define FIFO_IIR(cause) (HAILSTOAT_IIR_FIFO | (cause))
@@ -236,7 +237,7 @@ static void bits_without_a_name(void)
 
 static void all_refusals_have_words(void)
 {
-    for (unsigned i = HAILSTOAT_ACCEPTED; i <= HAILSTOAT_BREAK_WITH_DATA + 1; i += 1)
+    for (unsigned i = HAILSTOAT_ACCEPTED; i <= HAILSTOAT_TALLY_FULL + 1; i += 1)
         for (unsigned j = HAILSTOAT_ACCEPTED; j < i; j += 1)
             if (strcmp(hailstoat_refusal_words(i), hailstoat_refusal_words(j)) == 0)
                 fail("two refusals have the same words");
@@ -264,6 +265,6 @@ void names_mean(void)
     static void (*const parts[])(void) = {divisor_and_scratch, line_status, queues, letters_in_fifo_mode,
                                           letters_in_16450_mode, triggers, causes, levels, sending, modem_outputs, loopback,
                                           bits_without_a_name, all_refusals_have_words, arrivals_that_cannot_be};
-    size_t count = each_from_power_up(parts, sizeof parts / sizeof parts[0]) + controller_names_mean();
+    size_t count = each_from_power_up(parts, sizeof parts / sizeof parts[0]) + controller_names_mean() + tally_names_mean();
     printf("names: %zu ways to work a bench by them, each as the documents have it\n", count);
 }

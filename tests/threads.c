@@ -3,9 +3,9 @@
 
 #include <pthread.h>
 #include <stdio.h>
-#include <string.h>
 
 #include "compare.h"
+#include "fields.h"
 #include "stream.h"
 
 #define EVENTS 50000UL
@@ -30,7 +30,7 @@ static void *play(void *argument)
 
 static int same(const struct run *a, const struct run *b)
 {
-    return a->words == b->words && memcmp(&a->bench, &b->bench, sizeof a->bench) == 0;
+    return a->words == b->words && same_fields(&a->bench, &b->bench);
 }
 
 void two_threads(void)

@@ -42,7 +42,7 @@ void wide_numbers(void)
         struct event e = stream_next(&stream);
         one_event(&lent, &second, "wide numbers", at, e);
         widen(&e, at);
-        refused += one_event(&lent, &second, "wide numbers", at, e);
+        refused += one_event(&lent, &second, "wide numbers", at, e) != REFUSAL_NONE;
     }
     if (refused == 0 || refused == WIDE_EVENTS)
         fail("of events with a number past a byte all were refused, or none");

@@ -1,5 +1,7 @@
 """What the checks of saved benches share: a room for files, and the program played on records with options."""
+import atexit
 import functools
+import shutil
 import subprocess
 import tempfile
 import unittest
@@ -8,15 +10,22 @@ from pathlib import Path
 import machine
 from player import TOP, run
 
-LENGTH = 544
-POWER_UP = b"BEN\1\0" + bytes(LENGTH - 5)
+LENGTH = 704
+POWER_UP = b"BEN\2\0" + bytes(LENGTH - 5)
+
+
+@functools.cache
+def second():
+    """The command that runs the second program, which is built once for a check."""
+    out = tempfile.mkdtemp()
+    atexit.register(shutil.rmtree, out)
+    return machine.second(out)
 
 
 @functools.cache
 def stream():
     """Records of the second program's making, more than two blocks of them."""
-    with tempfile.TemporaryDirectory() as out:
-        return subprocess.run([*machine.second(out), "generate", "23", "40000"], stdout=subprocess.PIPE, check=True).stdout
+    return subprocess.run([*second(), "generate", "23", "40000"], stdout=subprocess.PIPE, check=True).stdout
 
 
 def records(count):

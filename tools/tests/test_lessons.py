@@ -4,12 +4,16 @@ import unittest
 
 from room import Room
 
-# A line for each record; its answer is how many records came before it, so that a lesson's place in the run shows.
+# A line for each record; its answer is how many records came before it, so that a lesson's place in the run shows. Of tallies
+# it tells how many records there were.
 SECOND = """\
 #!/usr/bin/env python3
 import sys
-for number in range(len(sys.stdin.buffer.read()) // 4):
+records = len(sys.stdin.buffer.read()) // 4
+for number in range(records):
     print(number, 0, f"{number:03X}", 0)
+if "--tallies" in sys.argv:
+    print("seat 0 arrived", records, file=sys.stderr)
 """
 WHOLE = "07 00 00 13\n07 00 01 40\n"
 LISTING = "0 0 000 0\n1 0 001 0\n"
@@ -42,6 +46,17 @@ class Lessons(Room):
         self.assertEqual(self.run_it(), (0, ""))
         self.lesson("08-last", "# goes on from: 07-then\n" + WHOLE, LISTING)
         self.assertIn("08-last.hex, line 1 of the listing: ['0 0 000 0'], second has ['0 0 004 0']", self.run_it()[1])
+
+    def test_tallies(self):
+        self.lesson("07-then", "# goes on from: 02-first\n07 00 00 13\n# seat 0 arrived 3\n07 00 01 40\n# seat 0 arrived 4\n", "0 0 002 0\n1 0 003 0\n")
+        self.write("lessons/07-then.tallies", "seat 0 arrived 4\n")
+        self.assertEqual(self.run_it(), (0, ""))
+        self.write("lessons/07-then.tallies", "seat 0 arrived 5\n")
+        self.assertIn("07-then.tallies: second has other tallies", self.run_it()[1])
+        self.write("lessons/07-then.hex", "# goes on from: 02-first\n# seat 0 arrived 3\n" + WHOLE)
+        self.assertIn("07-then.hex: second does not tally so behind 0 records: seat 0 arrived 3", self.run_it()[1])
+        self.write("lessons/09-none.tallies", "seat 0 arrived 4\n")
+        self.assertIn("09-none.tallies has no lesson", self.run_it()[1])
 
     def test_lesson_that_cannot_go_on(self):
         self.lesson("05-first", WHOLE + "07 00\n", LISTING)

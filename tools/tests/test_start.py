@@ -130,7 +130,7 @@ class Options(Start):
     def test_any_order(self):
         save, restore = ("--save-at", "3", "saved"), ("--restore", "image")
         for words in ((*save, "lesson.hex"), ("lesson.hex", *save), (*restore, "lesson.hex", *save, *save), ("lesson.hex", *restore),
-                      (*save, "--", "lesson.hex"), ("--", "lesson.hex", *restore)):
+                      (*save, "--", "lesson.hex"), ("--", "lesson.hex", *restore), ("--tallies", "lesson.hex"), ("lesson.hex", "--tallies", *save)):
             self.goes(*words)
 
     def test_words_behind_an_option_are_no_options_and_no_lessons(self):

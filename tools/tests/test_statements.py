@@ -1,5 +1,6 @@
 """tools/before/06-statements on a small tree."""
 import unittest
+from unittest import mock
 
 from room import Room, load
 
@@ -73,6 +74,11 @@ class Statements(Room):
     def fails(self, reason, name, text):
         self.write(name, text)
         self.assertIn(reason, "\n".join(self.unproved()))
+
+    def test_a_room_that_owes_has_a_record(self):
+        with mock.patch.object(check, "RECORDS", ()):
+            self.assertEqual(["Cups.Full of crates/cups/specs is in no record of statements",
+                              "Statements.Statements of crates/cups/specs is in no record of statements"], self.unproved())
 
     def test_all_is_bound(self):
         self.assertEqual(self.unproved() + self.missing(), [])

@@ -6,7 +6,7 @@ from room import TOOLS, Room
 
 SCRIPT = TOOLS / "before/12-words"
 LIST = "declare -A follow=([--lamp]=2 [--]=1)\n"
-TABLE = 'abbrev pub table : List Row\ntable =\n    row "--lamp" moment 2\n    ∷ row "--" lesson 1\n    ∷ []\n'
+TABLE = 'abbrev pub table : List Row\ntable =\n    row "--lamp" (next moment) 2\n    ∷ row "--" (next lesson) 1\n    ∷ []\n'
 
 
 class Words(Room):
@@ -29,7 +29,12 @@ class Words(Room):
 
     def test_one_missing(self):
         self.assertIn("--lamp followed by 2, and bench has not", self.run_it("declare -A follow=([--]=1)\n", TABLE)[1])
-        self.assertIn("--lamp followed by 2, and crates", self.run_it(LIST, TABLE.replace('    row "--lamp" moment 2\n    ∷ ', "    "))[1])
+        self.assertIn("--lamp followed by 2, and crates", self.run_it(LIST, TABLE.replace('    row "--lamp" (next moment) 2\n    ∷ ', "    "))[1])
+
+    def test_one_that_no_word_follows(self):
+        table = TABLE.replace("    ∷ []", '    ∷ row "--bell" withBell 0\n    ∷ []')
+        self.assertEqual(self.run_it(LIST.replace("[--]=1", "[--]=1 [--bell]=0"), table), (0, ""))
+        self.assertIn("--bell followed by 0, and bench has not", self.run_it(LIST, table)[1])
 
     def test_no_list(self):
         for own, table in (("", TABLE), (LIST, ""), (LIST + LIST, TABLE), (LIST.replace("[--]=1", "[--lamp]=2"), TABLE)):

@@ -1,4 +1,5 @@
 pub mod Seats
+pub mod Tallies
 pub mod Refusals
 pub mod Steps
 pub mod Parts

@@ -2,10 +2,12 @@
 use base::Answer;
 use controller::Controller;
 use records::SEATS;
+use seat::Five;
 use seat::Seat;
 
 mod seats;
 mod steps;
+mod tallies;
 
 pub use seats::chair;
 pub use seats::reset_all;
@@ -22,6 +24,12 @@ pub struct Outcome {
     pub bench: Bench,
     pub answer: Answer,
     pub output: bool,
+}
+
+// The five tallies of a seat, which are 0 where the call is refused.
+pub struct Tallied {
+    pub answer: Answer,
+    pub five: Five,
 }
 
 impl Bench {

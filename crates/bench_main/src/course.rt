@@ -1,6 +1,7 @@
 // A run: records in, lines out, and between them the saves that are due.
 use crate::files;
 use crate::saves;
+use crate::tallies;
 use crate::told;
 use bench::Bench;
 use libc::STDOUT_FILENO;
@@ -92,4 +93,5 @@ pub(crate) fn finish(course: Course) {
     }
     let number = course.number;
     saves::make(course.bench, Now::End(number), number);
+    tallies::tell(course.bench);
 }

@@ -1,11 +1,12 @@
 // The bench program: records from standard input, or the lesson that a word names; the listing to standard output. Images are read from files and
-// written to files, as the words ask for them.
+// written to files, and tallies told, as the words ask for them.
 mod course;
 mod files;
 mod images;
 mod input;
 mod lessons;
 mod saves;
+mod tallies;
 mod told;
 mod words;
 

@@ -4,6 +4,7 @@ use crate::words;
 use base::Answer;
 use lesson::Cause;
 use libc::STDERR_FILENO;
+use seat::Five;
 
 fn say(words: &[u8]) {
     io::write_all(STDERR_FILENO, words);
@@ -74,6 +75,23 @@ pub(crate) fn missed(path: &[u8], records: u64) {
 
 pub(crate) fn long_name() {
     say_fault(b"bench: the name of a file is too long to save in it\n");
+}
+
+// ---- tallies
+
+fn say_number(name: &[u8], n: u64) {
+    say(name);
+    io::print_decimal(STDERR_FILENO, n);
+}
+
+pub(crate) fn tallies(seat: u8, five: Five) {
+    say_number(b"seat ", seat as u64);
+    say_number(b" arrived ", five.arrived as u64);
+    say_number(b" read ", five.read as u64);
+    say_number(b" lost ", five.lost as u64);
+    say_number(b" dropped ", five.dropped as u64);
+    say_number(b" queued ", five.queued as u64);
+    say(b"\n");
 }
 
 // ---- lessons

@@ -2,6 +2,8 @@ pub mod CauseLaws
 pub mod IirLaws
 pub mod ModeLaws
 pub mod MomentLaws
+pub mod ShapeLaws
+pub mod FigureLaws
 pub mod RefusalLaws
 pub mod AccessLaws
 pub mod ReadLaws

@@ -119,7 +119,7 @@ time-side c =
     let heard = inLoopback c && c .transmitter .busy in
     pick-through (λ (r : Receiver). side (withReceiver c (waited (fifo c) r))) heard _ _ ∙ sym (pick-through (afterAll (side c)) heard _ _)
 
-effect-side : (c : Channel) (e : SeatEvent) → side (effect c e .channel) ≡ afterAll (side c) (acceptedMoments c e)
+pub effect-side : (c : Channel) (e : SeatEvent) → side (effect c e .channel) ≡ afterAll (side c) (acceptedMoments c e)
 unfolding effect acceptedMoments afterArrival afterLevels after afterAll
 effect-side c (Read n) = read-side c (registerAt (divisorShown c) n)
 effect-side c (Write n byte) = write-side c (registerAt (divisorShown c) n) byte
@@ -179,7 +179,7 @@ none-told : (c : Channel) (a : Answer) (t : Bool) (ms ns : List Moment) → told
     → toldIn (side c) a (pick t ms ns) ≡ readIn (side c) (pick t ms ns)
 none-told c a t ms ns first second = pick-either (λ (l : List Moment). toldIn (side c) a l ≡ readIn (side c) l) t ms ns first second
 
-effect-told : (c : Channel) (e : SeatEvent) → toldIn (side c) (effect c e .answer) (acceptedMoments c e) ≡ readIn (side c) (acceptedMoments c e)
+pub effect-told : (c : Channel) (e : SeatEvent) → toldIn (side c) (effect c e .answer) (acceptedMoments c e) ≡ readIn (side c) (acceptedMoments c e)
 unfolding effect acceptedMoments arrivalMoments timeMoments toldIn telling readIn
 effect-told c (Read n) = read-told c (registerAt (divisorShown c) n)
 effect-told c (Write n byte) = write-told c (registerAt (divisorShown c) n) byte Done

@@ -7,22 +7,24 @@ use mathlib.Core.Path.{_≡_, refl, ap, ap₂, sym, subst, _∙_}
 use native.Mathlib.Omega.{arith}
 use lib.Dec.{eqb, leb, ltb}
 use lib.ListN.{length, getD, take, drop}
-use borrow.Author.Tests.{eqb-true, lt-ltb, ltb-true, ltb-false, leb-true}
+use borrow.Author.Tests.{eqb-true, eqb-false, lt-ltb, ltb-true, ltb-false, leb-true}
 use Rattle.base.specs.declared.Answer.the-variants.{Done, Refused}
 use Rattle.base.specs.Answers.{refusalOf, valueOf}
 use Rattle.base.specs.ListLaws.{listed}
+use Rattle.base.specs.Pick.{pick}
 use Rattle.base.specs.PickLaws.{both-hold, either-way, not-both}
 use Rattle.base.specs.Refusals.{firstHeld}
 use Rattle.bench.specs.declared.Bench.{Bench}
 use Rattle.text.specs.Quoted.{quoted}
-use Rattle.seat_image.specs.Places.{at}
+use Rattle.channel_image.specs.Places.{at}
 use Rattle.image.specs.declared.Restored.{Restored}
 use Rattle.image.specs.FieldLaws.{front-written, image-fields, fields-image}
 use Rattle.image.specs.RefusalLaws.{header-short, header-unmarked, header-unknown, header-cut, header-taken, restored-refused, restored-good, restored-bad}
-use Rattle.image.specs.Refusals.{marked, versionOf, known, headerGrounds, imageGood, restored}
+use Rattle.image.specs.Layout.{versionOf, placeIn, lengthIn}
+use Rattle.image.specs.Refusals.{marked, known, headerGrounds, imageGood, restored}
 use Rattle.image.proofs.Numbering.{refused-so, taken-so}
 use Rattle.image.proofs.Statements as image
-use Rattle.demands.specs.DemandImages.{NoMark, NoVersion, Savings, restoreReasons, Restorings}
+use Rattle.demands.specs.DemandImages.{NoMark, NoVersion, TooShort, Savings, restoreReasons, Restorings}
 use Rattle.demands.specs.Reasons.{FirstOf, NoneOf, AnsweredBy}
 
 -- ---- saves
@@ -31,14 +33,14 @@ pub savings : Savings 0xFFF
 unfolding refusalOf valueOf
 savings b at l l′ r s =
     ⊎-elim
-    (λ (e : ltb (length l) (at + 544) ≡ true).
+    (λ (e : ltb (length l) (at + 704) ≡ true).
     let short = ltb-true _ _ e in
     let is = refused-so b at l l′ r s short in
     (inr (inl (short, ap refusalOf is), ap valueOf is), λ some. image.statements .stays b at l l′ r s .refused (ap refusalOf is)))
-    (λ (e : ltb (length l) (at + 544) ≡ false).
+    (λ (e : ltb (length l) (at + 704) ≡ false).
     let is = taken-so b at l l′ r s (ltb-false _ _ e) in
     (inl (ap refusalOf is, (λ short. not-both (lt-ltb _ _ short) e, tt)), λ some. absurd (some (ap refusalOf is))))
-    (either-way (ltb (length l) (at + 544)))
+    (either-way (ltb (length l) (at + 704)))
 
 -- ---- the mark and the version
 
@@ -65,15 +67,45 @@ module _ (p : List ℕ) (five : 5 ≤ length p) where
       let b2 : eqb (at p 2) 0x4E ≡ true = ap (λ (l : List ℕ). eqb (getD l 2 0) 0x4E) same in
       not-both (ap₂ _&&_ (ap₂ _&&_ b0 b1) b2) fails
 
+-- a version that is known is 1 or 2
+one-or-two : (v : ℕ) → known v ≡ true → (v ≡ 1) ⊎ (v ≡ 2)
+one-or-two v holds =
+    let two = both-hold (leb 1 v) (leb v 2) holds in
+    let least = leb-true 1 v (two .0) in
+    let most = leb-true v 2 (two .1) in
+    ⊎-elim (λ (e : eqb v 1 ≡ true). inl (eqb-true v 1 e)) (λ (e : eqb v 1 ≡ false). let other = eqb-false v 1 e in inr (omega (arith, least, most, other)))
+    (either-way (eqb v 1))
+
 version-there : (p : List ℕ) → known (versionOf p) ≡ true → NoVersion p → ⊥
 unfolding versionOf
-version-there p holds none =
-    let two = both-hold (leb 1 (versionOf p)) (leb (versionOf p) 1) holds in
-    none (omega (arith, leb-true 1 (versionOf p) (two .0), leb-true (versionOf p) 1 (two .1)))
+version-there p holds none = none (one-or-two (versionOf p) holds)
 
 no-version-there : (p : List ℕ) → known (versionOf p) ≡ false → NoVersion p
 unfolding versionOf
-no-version-there p fails is = not-both (ap known is) fails
+no-version-there p fails (inl is) = not-both (ap known is) fails
+no-version-there p fails (inr is) = not-both (ap known is) fails
+
+-- how long each is
+length-1 : lengthIn 1 ≡ 544
+unfolding placeIn pick
+length-1 = refl
+
+length-2 : lengthIn 2 ≡ 704
+unfolding placeIn pick
+length-2 = refl
+
+cut-of : (p : List ℕ) → known (versionOf p) ≡ true → length p < lengthIn (versionOf p) → TooShort p
+unfolding versionOf
+cut-of p holds short =
+    ⊎-elim
+    (λ (is : versionOf p ≡ 1). inl (is, omega (arith, short, ap lengthIn is, length-1)))
+    (λ (is : versionOf p ≡ 2). inr (is, omega (arith, short, ap lengthIn is, length-2)))
+    (one-or-two (versionOf p) holds)
+
+long-of : (p : List ℕ) → lengthIn (versionOf p) ≤ length p → TooShort p → ⊥
+unfolding versionOf
+long-of p long (inl both) = omega (arith, long, both .1, ap lengthIn (both .0), length-1)
+long-of p long (inr both) = omega (arith, long, both .1, ap lengthIn (both .0), length-2)
 
 -- ---- restores
 
@@ -101,9 +133,9 @@ module _ (b : Bench) (p : List ℕ) where
     not-short : length p < 5 → ⊥
     not-short short = omega (arith, five, short)
 
-    module _ (mark : marked p ≡ true) (version : known (versionOf p) ≡ true) (long : 544 ≤ length p) where
-      not-cut : length p < 544 → ⊥
-      not-cut short = omega (arith, long, short)
+    module _ (mark : marked p ≡ true) (version : known (versionOf p) ≡ true) (long : lengthIn (versionOf p) ≤ length p) where
+      not-cut : TooShort p → ⊥
+      not-cut = long-of p long
 
       taken : firstHeld (headerGrounds p) ≡ 0
       taken = header-taken p five mark version long
@@ -120,12 +152,12 @@ module _ (b : Bench) (p : List ℕ) where
       by-version : (known (versionOf p) ≡ true) ⊎ (known (versionOf p) ≡ false) → Goal
       by-version (inl version) =
           ⊎-elim
-          (λ (e : ltb (length p) 544 ≡ true).
+          (λ (e : ltb (length p) (lengthIn (versionOf p)) ≡ true).
           let short = ltb-true _ _ e in
           by-header 12 refl (header-cut p five mark version short)
-          (inr (not-short, inr (mark-there p five mark, inr (version-there p version, inl (short, refl))))))
-          (λ (e : ltb (length p) 544 ≡ false). by-body mark version (ltb-false _ _ e) (either-way (imageGood p)))
-          (either-way (ltb (length p) 544))
+          (inr (not-short, inr (mark-there p five mark, inr (version-there p version, inl (cut-of p version short, refl))))))
+          (λ (e : ltb (length p) (lengthIn (versionOf p)) ≡ false). by-body mark version (ltb-false _ _ e) (either-way (imageGood p)))
+          (either-way (ltb (length p) (lengthIn (versionOf p))))
       by-version (inr unknown) =
           by-header 14 refl (header-unknown p five mark unknown)
           (inr (not-short, inr (mark-there p five mark, inl (no-version-there p unknown, refl))))

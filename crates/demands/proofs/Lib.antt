@@ -25,3 +25,7 @@ pub mod SheetMeant
 pub mod Statements
 pub mod Loopback
 pub mod LoopbackRuns
+pub mod Tallies
+pub mod TalliesMove
+pub mod WithoutTallies
+pub mod TallyRuns

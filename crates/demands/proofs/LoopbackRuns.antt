@@ -11,7 +11,8 @@ use Rattle.transmitter.specs.Sound as sending
 use Rattle.channel_laws.specs.Unlooped as unlooped
 use Rattle.channel_laws.specs.SoundLaws.{power-up-sound}
 use Rattle.bench.specs.Seats.{powerUp}
-use Rattle.demands.specs.Loopback.{channelAt, OnBench, AtRest}
+use Rattle.base.specs.Answers.{refusalOf}
+use Rattle.demands.specs.Loopback.{recordOf, channelAt, OnBench, AtRest}
 use Rattle.demands.specs.LoopbackRuns.{SelfTest, OverrunInside, TimeOutInside, LedgerInside, FedInTurn, EnteringLeaving, ResetInside, LevelsOutlast, FromOutside, LineGated, CallsFromWithin, BeforeDiffers, seven, third, LoopbackMet}
 use Rattle.demands.proofs.Loopback.{changes-noticed, sent-is-received, outside-as-before}
 use Rattle.demands.proofs.Opened.{laid-open}
@@ -102,14 +103,14 @@ unfolding laid-open
 sound-0 = power-up-sound
 
 pub loopback-met : LoopbackMet
-unfolding laid-open unlooped.asksLoop unlooped.someAsks
+unfolding laid-open recordOf refusalOf unlooped.asksLoop unlooped.someAsks
 loopback-met =
     record {
       inside = (seven-inside, third-inside);
       rest = (seven-rests, third-rests);
-      sixteen = sent-is-received 7 seven on-seven seven-inside seven-rests (replicate 16 0xA5) (omega arith);
-      one = sent-is-received 3 third on-third third-inside third-rests (0xA5 ∷ []) (omega arith);
+      sixteen = sent-is-received 7 seven on-seven seven-inside seven-rests (replicate 16 0xA5) (omega arith) refl;
+      one = sent-is-received 3 third on-third third-inside third-rests (0xA5 ∷ []) (omega arith) refl;
       noticed = changes-noticed 0 powerUp at-power-up .1 0x1B .change-shows;
       outside = is-outside;
-      as-before = outside-as-before 0 powerUp at-power-up is-outside sound-0 _ refl;
+      as-before = outside-as-before 0 powerUp at-power-up is-outside sound-0 _ refl refl;
     }

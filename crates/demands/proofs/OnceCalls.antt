@@ -7,7 +7,7 @@ use Rattle.sheets.specs.OneLaws.{line-one, numbers-one}
 use Rattle.listing.specs.PartLaws.{runs-one}
 use Rattle.lesson.specs.Lesson.{handedOut}
 use Rattle.lesson.specs.declared.Lesson.{Lesson}
-use Rattle.demands.specs.OnceCalls.{BaseOnce, QueueOnce, RatesOnce, SettingLinesOnce, SheetsOnce, OptionsOnce, RegistersOnce, ReceiverOnce, TransmitterOnce, StatusOnce, ChannelOnce, LendingOnce, SeatOnce, SeatImageOnce, RankOnce}
+use Rattle.demands.specs.OnceCalls.{BaseOnce, QueueOnce, RatesOnce, SettingLinesOnce, SheetsOnce, OptionsOnce, RegistersOnce, ReceiverOnce, TransmitterOnce, StatusOnce, ChannelOnce, LendingOnce, SeatOnce, ChannelImageOnce, SeatImageOnce, RankOnce}
 use Rattle.demands.specs.OnceCalls.{ControllerOnce, RecordsOnce, BenchOnce, ListingOnce, ImageOnce, LessonOnce, StreamsOnce, EmbedOnce}
 use Rattle.demands.proofs.Once.{told, unasked, value}
 
@@ -159,6 +159,15 @@ seat-once M =
       seat·Seat·reset = value _ refl (λ κ a v w. refl);
       seat·Seat·line = value _ refl (λ κ a v w. refl);
       seat·Seat·step = value _ refl (λ κ a v w. refl);
+      seat·Seat·five = value _ refl (λ κ a v w. refl);
+      seat·Tallies·add-up = value _ refl (λ κ a v w. refl);
+    }
+
+pub channel-image-once : (M : Type 1) → ChannelImageOnce M
+channel-image-once M =
+    record {
+      channel-image·put = told _ refl (λ κ a r s v w p q. (p .answer ∙ sym (q .answer), λ i. (tt, ((p .bytes ∙ sym (q .bytes)) i, tt))));
+      channel-image·get = value _ refl (λ κ a v w. refl);
     }
 
 pub seat-image-once : (M : Type 1) → SeatImageOnce M
@@ -166,6 +175,7 @@ seat-image-once M =
     record {
       seat-image·put = told _ refl (λ κ a r s v w p q. (p .answer ∙ sym (q .answer), λ i. (tt, ((p .bytes ∙ sym (q .bytes)) i, tt))));
       seat-image·get = value _ refl (λ κ a v w. refl);
+      seat-image·length = value _ refl (λ κ a v w. refl);
     }
 
 pub rank-once : (M : Type 1) → RankOnce M
@@ -211,6 +221,7 @@ bench-once M =
       bench·Bench·reset = value _ refl (λ κ a v w. refl);
       bench·Bench·place = value _ refl (λ κ a v w. refl);
       bench·Bench·output = value _ refl (λ κ a v w. refl);
+      bench·Bench·tallies = value _ refl (λ κ a v w. refl);
     }
 
 pub listing-once : (M : Type 1) → ListingOnce M
@@ -266,4 +277,5 @@ embed-once M =
       embed·hailstoat-place = told _ refl (λ κ a r s v w p q. (p .0 ∙ sym (q .0), refl));
       embed·hailstoat-output = value _ refl (λ κ a v w. refl);
       embed·hailstoat-modem-outputs = told _ refl (λ κ a r s v w p q. (p .0 ∙ sym (q .0), refl));
+      embed·hailstoat-tallies = told _ refl (λ κ a r s v w p q. (p .1 .0 ∙ sym (q .1 .0), λ i. (tt, (tt, ((p .0 ∙ sym (q .0)) i, tt)))));
     }

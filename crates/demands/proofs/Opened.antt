@@ -14,6 +14,7 @@ use Rattle.status.specs.Status as status
 use Rattle.channel.specs.Status as channel-status
 use Rattle.channel.specs.Effects as effects
 use Rattle.channel.specs.Steps as channel
+use Rattle.seat.specs.Tallies as tallies
 use Rattle.seat.specs.Steps as seat
 use Rattle.rank.specs.Sets as sets
 use Rattle.records.specs.Events as events
@@ -58,7 +59,7 @@ unfolding effects.iirRead effects.lsrRead effects.msrRead effects.answerAt effec
 of-effects = 0
 
 unfoldable pub of-steps : ℕ
-unfolding channel.effect channel.stepped seat.refusal seat.effect seat.stepped
+unfolding channel.effect channel.stepped tallies.tallied seat.refusal seat.effect seat.stepped
 of-steps = 0
 
 unfoldable pub of-bench : ℕ
@@ -71,7 +72,7 @@ unfolding runs.own moments.readMoments moments.fcrMoments moments.writeMoments m
 of-moments = 0
 
 unfoldable pub of-ledger : ℕ
-unfolding ledger.after ledger.arrivedIn ledger.lostIn ledger.droppedIn
+unfolding ledger.after ledger.arrivedIn ledger.readIn ledger.lostIn ledger.droppedIn
 of-ledger = 0
 
 unfoldable pub of-letters : ℕ
@@ -79,9 +80,9 @@ unfolding joining.joined letters.seenByLsr letters.waitingAfter letters.waitingI
 of-letters = 0
 
 unfoldable pub of-seat : ℕ
-unfolding of-queue of-receiver of-transmitter of-registers of-status of-effects of-steps
+unfolding of-queue of-receiver of-transmitter of-registers of-status of-effects of-moments of-ledger of-steps
 of-seat = 0
 
 unfoldable pub laid-open : ℕ
-unfolding of-seat of-moments of-ledger of-letters of-bench turn.laid-open
+unfolding of-seat of-letters of-bench turn.laid-open
 laid-open = 0

@@ -2,7 +2,7 @@
 use Prim.Native.Nat.{ℕ, _+_}
 use mathlib.Core.Bool.{true, false}
 use mathlib.Core.List.{List, [], _∷_, _++_, append-nil}
-use mathlib.Core.Path.{_≡_, refl, ap, ap₂, sym, subst, _∙_}
+use mathlib.Core.Path.{_≡_, refl, ap, sym, subst, _∙_}
 use mathlib.Core.Logic.{⊎-elim}
 use native.Mathlib.Omega.{arith}
 use lib.Dec.{eqb}
@@ -12,10 +12,10 @@ use Rattle.base.specs.PickLaws.{pick-true, pick-false, either-way}
 use Rattle.base.specs.declared.Answer.{Answer}
 use Rattle.base.specs.Subsequences.{Subsequence}
 use Rattle.queue.specs.declared.Character.{Character}
-use Rattle.receiver.specs.Ledger.{Moment, resets, Side, after, Handed, characters, bytes, losing, dropping, arrivedIn, readIn, lostIn, droppedIn, queued}
+use Rattle.receiver.specs.Ledger.{Moment, resets, Side, Handed, characters, bytes, arrivedIn, readIn, lostIn, droppedIn, queued}
 use Rattle.receiver.specs.Ledger as side-run
 use Rattle.receiver.specs.LedgerLaws.{ledger}
-use Rattle.receiver.specs.SideLaws.{after-both, arrived-both, read-both}
+use Rattle.receiver.specs.SideLaws.{after-both, arrived-both, read-both, lost-both, dropped-both}
 use Rattle.registers.specs.declared.SeatEvent.{SeatEvent}
 use Rattle.channel.specs.Moments.{telling, toldIn}
 use Rattle.seat.specs.declared.Seat.{Seat}
@@ -41,28 +41,6 @@ use Rattle.bench.specs.RunLaws.{all-kept}
 use Rattle.demands.specs.Demand2.{ends}
 use Rattle.demands.specs.SeatLedger.{befalls, befallsIn, arrivedAt, readAt, lostAt, droppedAt, queuedAt, SoundAt, SeatLedger, SeatLedgerFromPowerUp}
 use Rattle.demands.proofs.Demand2.{outcome-meets, demand-2}
-
--- ---- counts over a run in two parts
-
--- what is counted moment by moment
-module _ (one : Side → Moment → ℕ) (count : Side → List Moment → ℕ)
-    (none : (s : Side) → count s [] ≡ 0) (more : (s : Side) (m : Moment) (ms : List Moment) → count s (m ∷ ms) ≡ one s m + count (after s m) ms) where
-  counted-both : (s : Side) (ms ns : List Moment) → count s (ms ++ ns) ≡ count s ms + count (side-run.afterAll s ms) ns
-  unfolding side-run.afterAll
-  counted-both s [] ns = let e = none s in omega (arith, e)
-  counted-both s (m ∷ ms) ns =
-      let e = counted-both (after s m) ms ns in
-      let here = more s m ms in
-      let both = more s m (ms ++ ns) in
-      omega (arith, e, here, both)
-
-lost-both : (s : Side) (ms ns : List Moment) → lostIn s (ms ++ ns) ≡ lostIn s ms + lostIn (side-run.afterAll s ms) ns
-unfolding lostIn
-lost-both = counted-both losing lostIn (λ s. refl) (λ s m ms. refl)
-
-dropped-both : (s : Side) (ms ns : List Moment) → droppedIn s (ms ++ ns) ≡ droppedIn s ms + droppedIn (side-run.afterAll s ms) ns
-unfolding droppedIn
-dropped-both = counted-both dropping droppedIn (λ s. refl) (λ s m ms. refl)
 
 -- ---- one record
 
@@ -131,7 +109,7 @@ module _ {A : Type 0} (join : A → A → A) (told : Side → List Moment → A)
       ∙ more b r rs
 
 module _ (n : ℕ) (b : Bench) (all : length (b .seats) ≡ seatCount) (rs : List Record) where
-  all-arrived : arrivedIn (moments n b rs) ≡ arrivedAt outcome n b rs
+  pub all-arrived : arrivedIn (moments n b rs) ≡ arrivedAt outcome n b rs
   unfolding arrivedIn
   all-arrived = by-record _++_ (λ s ms. arrivedIn ms) (λ s ms ns. arrived-both ms ns) n (arrivedAt outcome n) (λ c. refl) (λ c r ss. refl) b all rs
 
@@ -145,11 +123,11 @@ module _ (n : ℕ) (b : Bench) (all : length (b .seats) ≡ seatCount) (rs : Lis
       by-record _++_ readIn read-both n (readAt outcome n) (λ c. refl)
       (λ c r ss. ap (λ (l : List Handed). l ++ readAt outcome n (outcome c r .bench) ss) (sym (record-told c n r))) b all rs
 
-  all-lost : lostIn (side (seat b n)) (moments n b rs) ≡ lostAt outcome n b rs
+  pub all-lost : lostIn (side (seat b n)) (moments n b rs) ≡ lostAt outcome n b rs
   unfolding lostIn
   all-lost = by-record _+_ lostIn lost-both n (lostAt outcome n) (λ c. refl) (λ c r ss. refl) b all rs
 
-  all-dropped : droppedIn (side (seat b n)) (moments n b rs) ≡ droppedAt outcome n b rs
+  pub all-dropped : droppedIn (side (seat b n)) (moments n b rs) ≡ droppedAt outcome n b rs
   unfolding droppedIn
   all-dropped = by-record _+_ droppedIn dropped-both n (droppedAt outcome n) (λ c. refl) (λ c r ss. refl) b all rs
 

@@ -17,16 +17,17 @@ use Rattle.receiver.specs.Letters.{Letters}
 use Rattle.receiver.specs.LetterLaws.{letters}
 use Rattle.registers.specs.declared.SeatEvent.{SeatEvent}
 use Rattle.registers.specs.declared.SeatEvent.the-variants.{Read, Write, Arrival, Levels, Time}
-use Rattle.registers.specs.RefusalLaws.{accepts}
+use Rattle.registers.specs.RefusalLaws.{accepts, accepted}
 use Rattle.channel.specs.declared.Channel.{Channel}
 use Rattle.channel.specs.declared.Stepped.{Stepped}
 use Rattle.channel.specs.Parts.{divisorShown}
-use Rattle.channel_laws.specs.RefusalLaws.{refused}
+use Rattle.channel.specs.StepLaws as channel-laws
 use Rattle.channel_laws.specs.AnswerLaws.{ReadAnswer, Answers, answers}
 use Rattle.seat.specs.declared.Seat.{Seat}
 use Rattle.seat.specs.declared.Replied.{Replied}
-use Rattle.seat.specs.Steps.{stepped}
-use Rattle.seat.specs.StepLaws.{by-channel}
+use Rattle.seat.specs.Steps.{refusal, effect, stepped}
+use Rattle.seat.specs.StepLaws.{step-taken, step-refused, taken-own}
+use Rattle.seat.specs.CountLaws.{read-own}
 use Rattle.seat.specs.Receiving.{side}
 use Rattle.controller.specs.declared.Controller.{Controller}
 use Rattle.controller.specs.declared.Turn.{Turn}
@@ -107,15 +108,28 @@ refused-read s (Arrival marks byte) wrong = refl
 refused-read s (Levels levels) wrong = refl
 refused-read s Time wrong = refl
 
+-- a read that a seat refuses, its channel does
+own-refused : (s : Seat) (e : SeatEvent) → eqb (refusal s e) 0 ≡ false → readsRbr s e ≡ false
+unfolding readsRbr
+own-refused s (Read n) some =
+    refused-read s (Read n) (sym (accepted (s .channel .settings) (Read n)) ∙ ap (λ (k : ℕ). eqb k 0) (sym (read-own s n)) ∙ some)
+own-refused s (Write n byte) some = refl
+own-refused s (Arrival marks byte) some = refl
+own-refused s (Levels levels) some = refl
+own-refused s Time some = refl
+
 seat-letter : (s : Seat) (e : SeatEvent) → isLetter (stepped s e .answer) ≡ readsRbr s e
-unfolding isLetter
+unfolding isLetter effect
 seat-letter s e =
-    ap (λ (t : Replied). isLetter (t .answer)) (sym (by-channel s e))
-    ∙ ⊎-elim
-    (λ (served : accepts (s .channel .settings) e ≡ true). event-letter s e _ (answers (s .channel) e served))
-    (λ (wrong : accepts (s .channel .settings) e ≡ false).
-    ap (λ (t : Stepped). isLetter (t .answer)) (refused (s .channel) e wrong) ∙ sym (refused-read s e wrong))
-    (either-way (accepts (s .channel .settings) e))
+    ⊎-elim
+    (λ (none : eqb (refusal s e) 0 ≡ true).
+    let served = sym (accepted (s .channel .settings) e) ∙ taken-own s e none in
+    ap (λ (t : Replied). isLetter (t .answer)) (step-taken s e none)
+    ∙ ap (λ (t : Stepped). isLetter (t .answer)) (sym (channel-laws.step-taken (s .channel) e (taken-own s e none)))
+    ∙ event-letter s e _ (answers (s .channel) e served))
+    (λ (some : eqb (refusal s e) 0 ≡ false).
+    ap (λ (t : Replied). isLetter (t .answer)) (step-refused s e some) ∙ sym (own-refused s e some))
+    (either-way (eqb (refusal s e) 0))
 
 -- what is not a letter where it is done is none where it is refused
 not-met : (b : Bench) (e : Event) → isLetter (answerTo b e) ≡ false → isLetter (met b e .answer) ≡ false

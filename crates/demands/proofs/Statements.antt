@@ -14,6 +14,10 @@ use Rattle.demands.proofs.LoopbackRuns.{self-test, overrun-inside, time
 use Rattle.demands.proofs.SheetMeant.{sheet-meant}
 use Rattle.demands.proofs.WrongPrograms.{shut-out, let-in}
 use Rattle.demands.proofs.Needed.{needed}
+use Rattle.demands.proofs.Tallies.{counting-begins, tallies-add-up}
+use Rattle.demands.proofs.TalliesMove.{tallies-move, full-exactly, tallies-told}
+use Rattle.demands.proofs.WithoutTallies.{without-tallies}
+use Rattle.demands.proofs.TallyRuns.{five-move, full-refused, nearly-refused, tallies-met}
 use Rattle.demands.proofs.Starred.{tasted}
 use Rattle.demands.proofs.Worked.{worked}
 use Rattle.demands.proofs.Edges.{at-the-edges, by-ingredient}
@@ -68,6 +72,16 @@ statements =
       calls-from-within = calls-from-within;
       before-differs = before-differs;
       loopback-met = loopback-met;
+      counting-begins = counting-begins;
+      tallies-add-up = tallies-add-up;
+      tallies-move = tallies-move;
+      full-exactly = full-exactly;
+      without-tallies = without-tallies;
+      five-move = five-move;
+      tallies-told = tallies-told;
+      full-refused = full-refused;
+      nearly-refused = nearly-refused;
+      tallies-met = tallies-met;
       sheet-meant = sheet-meant;
       shut-out = shut-out;
       let-in = let-in;

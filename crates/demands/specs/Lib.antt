@@ -21,3 +21,5 @@ pub mod Needed
 pub mod Statements
 pub mod Loopback
 pub mod LoopbackRuns
+pub mod Tallies
+pub mod TallyRuns

@@ -1,6 +1,6 @@
 -- Ticket 7, loopback, at any seat of any bench: the seat's own events, given to the bench as records one after the other.
 use Prim.Native.Nat.{ℕ, suc, _<_, _≤_}
-use mathlib.Core.Bool.{true, false}
+use mathlib.Core.Bool.{Bool, true, false, _||_}
 use mathlib.Core.List.{List, [], _∷_, _++_, map}
 use mathlib.Core.Path.{_≡_}
 use lib.Dec.{eqb}
@@ -57,6 +57,14 @@ afterAt n b es = afterAll b (map (recordOf n) es)
 abbrev pub answersAt : ℕ → Bench → List SeatEvent → List Answer
 answersAt n b es = map (λ (o : Outcome). o .answer) (outcomes b (map (recordOf n) es))
 
+-- ticket 8: "19, last in order, where arrived would pass its largest value" is the tally's refusal and not the channel's: none of these answers is that
+abbrev pub someFull : List Answer → Bool
+someFull [] = false
+someFull (a ∷ rest) = eqb (refusalOf a) 19 || someFull rest
+
+abbrev pub NoneFull : ℕ → Bench → List SeatEvent → Type 0
+NoneFull n b es = someFull (answersAt n b es) ≡ false
+
 -- what its MSR shows
 abbrev pub msrAt : ℕ → Bench → ℕ
 msrAt n b = valueOf (outcome b (recordOf n (Read 6)) .answer)
@@ -97,10 +105,19 @@ ResetSetsNone = AtSeats (λ n b. (k : ℕ) → k < 4 → bit k (msrAt n (outcome
 
 -- ---- what comes from outside
 
--- ticket 7: "arrivals and modem events are checked as before": every event is, by what refuses it where the MCR is 0; "but an arrival changes nothing", accepted
--- or refused
+-- a character time with a character in the shift register, which is all that the tally is asked for in loopback
+abbrev pub leaves : Channel → SeatEvent → Bool
+leaves c (Read k) = false
+leaves c (Write k byte) = false
+leaves c (Arrival marks byte) = false
+leaves c (Levels levels) = false
+leaves c Time = c .transmitter .busy
+
+-- ticket 7: "arrivals and modem events are checked as before": every event is, by what refuses it where the MCR is 0, unless it is refused by 19, as only a
+-- character that leaves can be; "but an arrival changes nothing", accepted or refused
 pub record Unheard (n : ℕ) (b : Bench) : Type 0 where
-  pub checked : (e : SeatEvent) → refusalOf (outcome b (recordOf n e) .answer) ≡ refusal (withMcr (channelAt n b .settings) 0) e
+  pub checked : (e : SeatEvent) → NoneFull n b (e ∷ []) → refusalOf (outcome b (recordOf n e) .answer) ≡ refusal (withMcr (channelAt n b .settings) 0) e
+  pub untallied : (e : SeatEvent) → leaves (channelAt n b) e ≡ false → NoneFull n b (e ∷ [])
   pub unchanged : (marks byte : ℕ) → channelAt n (afterAt n b (Arrival marks byte ∷ [])) ≡ channelAt n b
 
 abbrev pub ArrivalsUnheard : Type 0
@@ -126,7 +143,7 @@ abbrev pub LeaverReceived : Type 0
 LeaverReceived =
     InLoopback (λ n b.
     let c = channelAt n b in
-    eqb (divisor (c .settings)) 0 ≡ false → c .transmitter .busy ≡ true
+    eqb (divisor (c .settings)) 0 ≡ false → c .transmitter .busy ≡ true → NoneFull n b (Time ∷ [])
     → channelAt n (afterAt n b (Time ∷ [])) .receiver
     ≡ waited (fifo c) (received (fifo c) (c .receiver) (record { «data» = cut (c .settings .lcr) (c .transmitter .shift); marks = 0 })))
 
@@ -151,7 +168,10 @@ pub record Echoed (n : ℕ) (b : Bench) (bytes : List ℕ) : Type 0 where
 
 -- what is sent is received: as many bytes as the queues take, which is 1 or 16
 abbrev pub SentIsReceived : Type 0
-SentIsReceived = InLoopback (λ n b. AtRest n b → (bytes : List ℕ) → length bytes ≤ places (fifo (channelAt n b)) → Echoed n b bytes)
+SentIsReceived =
+    InLoopback (λ n b.
+    AtRest n b → (bytes : List ℕ) → length bytes ≤ places (fifo (channelAt n b)) → NoneFull n b (sending bytes (suc (length bytes)))
+    → Echoed n b bytes)
 
 -- and of an empty shift register nothing is: a character time leaves of the receive side what the time-out count alone makes of it
 abbrev pub IdleReceivesNothing : Type 0
@@ -178,4 +198,5 @@ pub record AsBefore (n : ℕ) (b : Bench) (es : List SeatEvent) : Type 0 where
 abbrev pub OutsideAsBefore : Type 0
 OutsideAsBefore =
     AtSeats (λ n b.
-    inLoopback (channelAt n b) ≡ false → soundChannel (channelAt n b) ≡ true → (es : List SeatEvent) → someAsks es ≡ false → AsBefore n b es)
+    inLoopback (channelAt n b) ≡ false → soundChannel (channelAt n b) ≡ true → (es : List SeatEvent) → someAsks es ≡ false → NoneFull n b es
+    → AsBefore n b es)

@@ -13,6 +13,7 @@ use Rattle.status.proofs as status
 use Rattle.channel.proofs as channel
 use Rattle.lending.proofs as lending
 use Rattle.seat.proofs as seat
+use Rattle.channel_image.proofs as channel_image
 use Rattle.seat_image.proofs as seat_image
 use Rattle.rank.proofs as rank
 use Rattle.controller.proofs as controller
@@ -160,12 +161,21 @@ pub record SeatOnce (M : Type 1) : Type 2 where
   pub seat·Seat·reset : Once M seat.Seat.reset.ended seat.Seat.reset.clauses seat.Seat.reset.spec
   pub seat·Seat·line : Once M seat.Seat.line.ended seat.Seat.line.clauses seat.Seat.line.spec
   pub seat·Seat·step : Once M seat.Seat.step.ended seat.Seat.step.clauses seat.Seat.step.spec
+  pub seat·Seat·five : Once M seat.Seat.five.ended seat.Seat.five.clauses seat.Seat.five.spec
+  pub seat·Tallies·add-up : Once M seat.Tallies.add_up.ended seat.Tallies.add_up.clauses seat.Tallies.add_up.spec
+
+-- ---- channel_image: a channel as bytes, with the part that is lent back
+
+pub record ChannelImageOnce (M : Type 1) : Type 2 where
+  pub channel-image·put : Once M channel_image.put.ended channel_image.put.clauses channel_image.put.spec
+  pub channel-image·get : Once M channel_image.get.ended channel_image.get.clauses channel_image.get.spec
 
 -- ---- seat_image: a seat as a record, with the part that is lent back
 
 pub record SeatImageOnce (M : Type 1) : Type 2 where
   pub seat-image·put : Once M seat_image.put.ended seat_image.put.clauses seat_image.put.spec
   pub seat-image·get : Once M seat_image.get.ended seat_image.get.clauses seat_image.get.spec
+  pub seat-image·length : Once M seat_image.length.ended seat_image.length.clauses seat_image.length.spec
 
 -- ---- rank: sets and places of lines
 
@@ -208,6 +218,7 @@ pub record BenchOnce (M : Type 1) : Type 2 where
   pub bench·Bench·reset : Once M bench.Bench.reset.ended bench.Bench.reset.clauses bench.Bench.reset.spec
   pub bench·Bench·place : Once M bench.Bench.place.ended bench.Bench.place.clauses bench.Bench.place.spec
   pub bench·Bench·output : Once M bench.Bench.output.ended bench.Bench.output.clauses bench.Bench.output.spec
+  pub bench·Bench·tallies : Once M bench.Bench.tallies.ended bench.Bench.tallies.clauses bench.Bench.tallies.spec
 
 -- ---- text and listing: a digit; a line and a run, each with the buffer that is lent back
 
@@ -254,3 +265,4 @@ pub record EmbedOnce (M : Type 1) : Type 2 where
   pub embed·hailstoat-place : Once M embed.hailstoat_place.ended embed.hailstoat_place.clauses embed.hailstoat_place.spec
   pub embed·hailstoat-output : Once M embed.hailstoat_output.ended embed.hailstoat_output.clauses embed.hailstoat_output.spec
   pub embed·hailstoat-modem-outputs : Once M embed.hailstoat_modem_outputs.ended embed.hailstoat_modem_outputs.clauses embed.hailstoat_modem_outputs.spec
+  pub embed·hailstoat-tallies : Once M embed.hailstoat_tallies.ended embed.hailstoat_tallies.clauses embed.hailstoat_tallies.spec

@@ -13,6 +13,8 @@ use Rattle.demands.specs.LoopbackRuns.{SelfTest, OverrunInside, TimeOutI
 use Rattle.demands.specs.SheetMeant.{SheetMeant}
 use Rattle.demands.specs.WrongPrograms.{ShutOut, LetIn}
 use Rattle.demands.specs.Needed.{Needed}
+use Rattle.demands.specs.Tallies.{CountingBegins, TalliesAddUp, TalliesMove, FullExactly, WithoutTallies, TalliesTold}
+use Rattle.demands.specs.TallyRuns.{FiveMove, FullRefused, NearlyRefused, TalliesMet}
 use Rattle.demands.specs.Starred.{Tasted}
 use Rattle.demands.specs.Worked.{Worked}
 use Rattle.demands.specs.Edges.{Edges, Ingredients}
@@ -65,6 +67,16 @@ pub record Statements : Type 0 where
   pub calls-from-within : CallsFromWithin
   pub before-differs : BeforeDiffers
   pub loopback-met : LoopbackMet
+  pub counting-begins : CountingBegins
+  pub tallies-add-up : TalliesAddUp
+  pub tallies-move : TalliesMove
+  pub full-exactly : FullExactly
+  pub without-tallies : WithoutTallies
+  pub five-move : FiveMove
+  pub tallies-told : TalliesTold
+  pub full-refused : FullRefused
+  pub nearly-refused : NearlyRefused
+  pub tallies-met : TalliesMet
   pub sheet-meant : SheetMeant
   pub shut-out : ShutOut
   pub let-in : LetIn

@@ -6,8 +6,8 @@ use mathlib.Core.Path.{_≡_}
 use lib.ListN.{length, replicate}
 use Rattle.base.specs.Answers.{valueOf}
 use Rattle.registers.specs.declared.SeatEvent.the-variants.{Arrival}
-use Rattle.registers.specs.Refusals.{refusal}
 use Rattle.channel.specs.Parts.{inLoopback}
+use Rattle.seat.specs.Steps.{refusal}
 use Rattle.seat.specs.Acts.{event}
 use Rattle.seat.specs.Lasting.{timeoutCount, endsIn}
 use Rattle.records.specs.Events.{Record, whole, decoded, seatCount}
@@ -34,7 +34,7 @@ pub record LastsAt (n : ℕ) (b : Bench) (rs : List Record) : Type 0 where
   pub ends : (r : Record) → endsAt n (afterAll b rs) (r ∷ []) ≡ true → timeoutAt n (outcome (afterAll b rs) r .bench) ≡ 0
   -- ticket 5: it "sets a smaller one to 0": an arrival there that is not refused, outside loopback
   pub set-back : (r : Record) (marks byte : ℕ) → own (chair n) (decoded r) ≡ event (Arrival marks byte) ∷ []
-      → inLoopback (seat (afterAll b rs) n .channel) ≡ false → refusal (seat (afterAll b rs) n .channel .settings) (Arrival marks byte) ≡ 0 → timeoutAt n (afterAll b rs) < 4
+      → inLoopback (seat (afterAll b rs) n .channel) ≡ false → refusal (seat (afterAll b rs) n) (Arrival marks byte) ≡ 0 → timeoutAt n (afterAll b rs) < 4
       → timeoutAt n (outcome (afterAll b rs) r .bench) ≡ 0
 
 -- from any bench with all its seats

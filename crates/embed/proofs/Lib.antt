@@ -1,4 +1,5 @@
 -- What the walks share.
+mod Handing
 mod InMemory
 mod InPlace
 mod Leaving

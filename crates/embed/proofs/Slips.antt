@@ -29,8 +29,8 @@ unfolding wordOf refusalOf valueOf figuresOf digit pick
 word-of-a-letter = refl
 
 -- `bench-bytes`: the machine's own size of a bench
-bench-has-668-bytes : benchBytes ≡ 668
-bench-has-668-bytes = refl
+bench-has-812-bytes : benchBytes ≡ 812
+bench-has-812-bytes = refl
 
 -- `past-a-byte`: no seat has the number 258, and it is not cut to seat 2
 seat-258-refused : early (whole 0 (asByte 258) 5 0) ≡ 1

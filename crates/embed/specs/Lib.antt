@@ -3,9 +3,11 @@ pub mod Bytes
 pub mod Version
 pub mod Numbers
 pub mod Outputs
+pub mod Tallies
 pub mod Zeroed
 pub mod WordLaws
 pub mod NumberLaws
 pub mod OutputsLaws
+pub mod TalliesLaws
 pub mod VersionLaws
 pub mod ZeroedLaws

@@ -6,10 +6,10 @@ abbrev pub versionOf : ℕ → ℕ → ℕ → ℕ
 versionOf major minor patch = major * 10000 + minor * 100 + patch
 
 abbrev major : ℕ
-major = 2
+major = 3
 
 abbrev minor : ℕ
-minor = 3
+minor = 0
 
 abbrev patch : ℕ
 patch = 0

@@ -15,6 +15,7 @@ use Rattle.controller.specs.declared.Lines.{Lines}
 use Rattle.controller.specs.declared.Setup.{Setup}
 use Rattle.controller.specs.declared.Operation.{Operation}
 use Rattle.controller.specs.declared.Controller.{Controller}
+use Rattle.seat.specs.declared.Tallies.{Tallies}
 use Rattle.seat.specs.declared.Seat.{Seat}
 use Rattle.records.specs.Events.{seatCount}
 use Rattle.bench.specs.declared.Bench.{Bench}
@@ -97,8 +98,14 @@ controllerTests c = zeroLines (c .lines) ∷ zeroSetup (c .setup) ∷ zeroOperat
 abbrev pub zeroController : Controller → Bool
 zeroController c = allHold (controllerTests c)
 
+abbrev pub talliesTests : Tallies → List Bool
+talliesTests t = nought (t .arrived) ∷ nought (t .read) ∷ nought (t .lost) ∷ nought (t .dropped) ∷ []
+
+abbrev pub zeroTallies : Tallies → Bool
+zeroTallies t = allHold (talliesTests t)
+
 abbrev pub seatTests : Seat → List Bool
-seatTests s = zeroChannel (s .channel) ∷ []
+seatTests s = zeroTallies (s .tallies) ∷ zeroChannel (s .channel) ∷ []
 
 abbrev pub zeroSeat : Seat → Bool
 zeroSeat s = allHold (seatTests s)

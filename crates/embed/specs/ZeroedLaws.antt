@@ -24,16 +24,18 @@ use Rattle.controller.specs.declared.Lines.{Lines}
 use Rattle.controller.specs.declared.Setup.{Setup}
 use Rattle.controller.specs.declared.Operation.{Operation}
 use Rattle.controller.specs.declared.Controller.{Controller}
+use Rattle.seat.specs.declared.Tallies.{Tallies}
 use Rattle.seat.specs.declared.Seat.{Seat}
+use Rattle.seat.specs.Tallies.{noTallies}
 use Rattle.seat.specs.Seats as seat
 use Rattle.records.specs.Events.{seatCount}
 use Rattle.bench.specs.declared.Bench.{Bench}
 use Rattle.bench.specs.Seats.{powerUp}
 use Rattle.embed.specs.Zeroed.{allHold, nought, eachOf}
 use Rattle.embed.specs.Zeroed.{characterTests, queueTests, settingsTests, receiverTests, transmitterTests, modemTests, channelTests}
-use Rattle.embed.specs.Zeroed.{linesTests, setupTests, operationTests, controllerTests, seatTests, benchTests}
+use Rattle.embed.specs.Zeroed.{linesTests, setupTests, operationTests, controllerTests, talliesTests, seatTests, benchTests}
 use Rattle.embed.specs.Zeroed.{zeroCharacter, zeroQueue, zeroSettings, zeroReceiver, zeroTransmitter, zeroModem, zeroChannel, zeroLines}
-use Rattle.embed.specs.Zeroed.{zeroSetup, zeroOperation, zeroController, zeroSeat, zeroed}
+use Rattle.embed.specs.Zeroed.{zeroSetup, zeroOperation, zeroController, zeroTallies, zeroSeat, zeroed}
 
 pub power-up-zeroed : zeroed powerUp ≡ true
 power-up-zeroed = refl
@@ -176,11 +178,22 @@ controller-is c e =
       operation = operation-is (c .operation) (h .1 .1 .0) i;
     }
 
+tallies-is : (t : Tallies) → zeroTallies t ≡ true → t ≡ noTallies
+tallies-is t e =
+    let h : AllHold (talliesTests t) = held (talliesTests t) e in
+    λ i. record {
+      arrived = is-0 (t .arrived) (h .0) i;
+      read = is-0 (t .read) (h .1 .0) i;
+      lost = is-0 (t .lost) (h .1 .1 .0) i;
+      dropped = is-0 (t .dropped) (h .1 .1 .1 .0) i;
+    }
+
 seat-is : (s : Seat) → zeroSeat s ≡ true → s ≡ seat.powerUp
 seat-is s e =
     let h : AllHold (seatTests s) = held (seatTests s) e in
     λ i. record {
-      channel = channel-is (s .channel) (h .0) i;
+      tallies = tallies-is (s .tallies) (h .0) i;
+      channel = channel-is (s .channel) (h .1 .0) i;
     }
 
 -- a zeroed bench is the bench at power-up

@@ -5,6 +5,7 @@ use bench::Bench;
 use controller::Controller;
 use records::Event;
 use registers::Settings;
+use seat::Five;
 use seat::Seat;
 ghost use mathlib.Core.Path.{_≡_};
 ghost use mathlib.Core.Bool.{false};
@@ -18,9 +19,11 @@ ghost use Rattle.records.specs.declared.Event.the-variants.{MasterReset};
 ghost use Rattle.bench.specs.Seats.{powerUp};
 ghost use Rattle.bench.specs.Parts.{partly};
 ghost use Rattle.bench.specs.Steps.{met, outcome};
+ghost use Rattle.bench.specs.Tallies.{talliesOf};
 ghost use Rattle.embed.specs.Word.{Tells, Told, Parted};
 ghost use Rattle.embed.specs.Numbers.{asByte};
 ghost use Rattle.embed.specs.Outputs.{outputs, outputsOf, outputsAt};
+ghost use Rattle.embed.specs.Tallies.{Counts};
 ghost use Rattle.embed.specs.Version.{version};
 ghost use Rattle.embed.specs.Bytes.{benchBytes};
 
@@ -30,9 +33,9 @@ const MASTER_RESET: u32 = Event::MASTER_RESET as u32;
 
 const SEATS: u32 = records::SEATS as u32;
 
-const VERSION: u32 = 20300;
+const VERSION: u32 = 30000;
 
-const BENCH_BYTES: usize = 668;
+const BENCH_BYTES: usize = 812;
 
 // A bench after a master reset, and the word that tells of it.
 pub struct Played {
@@ -44,6 +47,12 @@ pub struct Played {
 pub struct PartsPlayed {
     pub seat: Seat,
     pub controller: Controller,
+    pub word: u64,
+}
+
+// The five tallies of a seat, which are 0 where the seat is not there, and the word that tells which.
+pub struct Counted {
+    pub five: Five,
     pub word: u64,
 }
 
@@ -152,6 +161,28 @@ fn seat_outputs(held: Seat, n: u32) -> u64
     outputs_word(held.channel.settings.mcr, n)
 }
 
+// "seat (or line) above 7": refused, and nothing is told of any seat.
+fn seat_tallies(held: Seat, n: u32) -> Counted
+    ensures { λ r. ⌜ Counts r held n ⌝ }
+{
+    if n < SEATS {
+        return Counted {
+            five: held.five(),
+            word: word(Answer::Done, false),
+        };
+    }
+    Counted {
+        five: Five {
+            arrived: 0,
+            read: 0,
+            lost: 0,
+            dropped: 0,
+            queued: 0,
+        },
+        word: word(Answer::Refused(Answer::SEAT_ABOVE), false),
+    }
+}
+
 fn output_byte(controller: Controller) -> u8
     ensures { λ r. ⌜ r ≡ digit (outputOf controller) ⌝ }
 {
@@ -255,4 +286,15 @@ pub extern "C" fn hailstoat_modem_outputs(bench: &Bench, seat: u32) -> u64
 {
     let at = seat as usize % records::SEATS;
     seat_outputs(bench.seats[at], seat)
+}
+
+// The five tallies of a seat, stored where the caller asks; nothing of the bench is moved.
+#[no_mangle]
+pub extern "C" fn hailstoat_tallies(bench: &Bench, seat: u32, out: &mut Five) -> u64
+    ensures { λ r. ⌜ (now (out .exit) ≡ talliesOf (now (bench .entry)) seat .five) × Tells r (talliesOf (now (bench .entry)) seat .answer) false ⌝ }
+{
+    let at = seat as usize % records::SEATS;
+    let c = seat_tallies(bench.seats[at], seat);
+    *out = c.five;
+    c.word
 }

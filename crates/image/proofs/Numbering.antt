@@ -15,9 +15,9 @@ use Rattle.base.specs.Pick.{pick}
 use Rattle.base.specs.PickLaws.{pick-true, pick-false, either-way}
 use Rattle.base.specs.Refusals.{NoRoom, firstHeld}
 use Rattle.bench.specs.declared.Bench.{Bench}
-use Rattle.image.specs.Layout.{imageLength}
+use Rattle.image.specs.Layout.{imageLength, lengthIn, versionOf}
 use Rattle.image.specs.Numbers.{Grounds, Numbers, SaveNumbers}
-use Rattle.image.specs.Refusals.{marked, versionOf, known, imageGood, refusal}
+use Rattle.image.specs.Refusals.{marked, known, imageGood, refusal}
 use Rattle.image.specs.Written.{roomFor, Saves}
 
 -- the first of five tests that holds
@@ -40,7 +40,7 @@ first false false false false false = record { twelve = refl; thirteen = refl; f
 
 pub numbers : Numbers
 unfolding refusal
-numbers p = first (ltb (length p) 5) (not (marked p)) (not (known (versionOf p))) (ltb (length p) imageLength) (not (imageGood p))
+numbers p = first (ltb (length p) 5) (not (marked p)) (not (known (versionOf p))) (ltb (length p) (lengthIn (versionOf p))) (not (imageGood p))
 
 -- ---- a save
 

@@ -9,7 +9,7 @@ use native.Mathlib.Omega.{arith}
 use lib.Dec.{leb}
 use lib.ListN.{length, getD, take, drop, length-append, length-drop}
 use lib.Seq.{sets, sets-eq, take-at, drop-at, drop-append-add, take-append-le, drop-append-le, length-take-le}
-use borrow.Author.Tests.{le-leb, leb-true, le-ltb}
+use borrow.Author.Tests.{leb-true, le-ltb}
 use Rattle.base.specs.declared.Answer.{Answer}
 use Rattle.base.specs.Bits.{digit}
 use Rattle.base.specs.Every.{every}
@@ -22,15 +22,19 @@ use Rattle.seat.specs.Seats.{noSeat}
 use Rattle.records.specs.Events.{seatCount}
 use Rattle.bench.specs.declared.Bench.{Bench}
 use Rattle.seat_image.specs.declared.Found.{Found}
-use Rattle.seat_image.specs.Places.{at, recordLength}
+use Rattle.channel_image.specs.Places.{at}
+use Rattle.seat_image.specs.Written.{recordLength}
 use Rattle.seat_image.specs.Read.{found}
-use Rattle.seat_image.specs.Written.{frontBytes, channelBytes, recordOf}
-use Rattle.seat_image.specs.WrittenLaws.{record-length}
+use Rattle.seat_image.specs.ReadLaws.{found-front}
+use Rattle.channel_image.specs.Written.{frontBytes, channelBytes}
+use Rattle.seat_image.specs.Words.{wordBytes}
+use Rattle.seat_image.specs.Written.{tallyBytes, recordOf}
+use Rattle.seat_image.specs.BackLaws.{record-length}
 use Rattle.image.specs.FieldLaws.{front-written}
-use Rattle.image.specs.Fields.{stretch}
-use Rattle.image.specs.Layout.{imageLength, controllerPart, recordPlace}
+use Rattle.image.specs.Layout.{imageLength, lengthIn, versionOf, placeIn, controllerPart, recordPlace}
+use Rattle.image.specs.PlaceLaws.{inside, front-inside}
 use Rattle.image.specs.Read.{recordAt, seatAt, goodAt, recordsFrom, benchFrom}
-use Rattle.image.specs.Refusals.{marked, versionOf, latchesAllowed, imageGood, refusal, restored}
+use Rattle.image.specs.Refusals.{marked, latchesAllowed, imageGood, refusal, restored}
 use Rattle.image.specs.ThereAndBack.{Placed, PowerUpImage, Outside, Stays}
 use Rattle.image.specs.Written.{header, controllerBytes, recordsOf, imageOf, roomFor, Saves}
 use Rattle.image.specs.WrittenLaws.{records-length, image-length}
@@ -54,12 +58,12 @@ module _ (seats : List Seat) (k : ℕ) where
       (λ (less : k < n). record-among n (recordOf (getD seats n noSeat) ++ rest) less)
       (eq-or-lt-of-le (le-of-suc-le-suc below))
 
-stretch-at : (b : Bench) (n : ℕ) → n < seatCount → stretch (imageOf b) n ≡ recordOf (getD (b .seats) n noSeat)
+pub stretch-at : (b : Bench) (rest : List ℕ) (n : ℕ) → n < seatCount
+    → take recordLength (drop (recordPlace n) (imageOf b ++ rest)) ≡ recordOf (getD (b .seats) n noSeat)
 unfolding imageOf controllerBytes
-stretch-at b n below =
-    ap (λ (l : List ℕ). take recordLength (drop (recordPlace n) (header ++ controllerBytes (b .controller) ++ l))) (sym (append-nil (recordsOf seatCount (b .seats))))
-    ∙ ap (take recordLength) (drop-append-add (header ++ controllerBytes (b .controller)) (recordsOf seatCount (b .seats) ++ []) (recordLength * n))
-    ∙ record-among (b .seats) n seatCount [] below
+stretch-at b rest n below =
+    ap (take recordLength) (drop-append-add (header ++ controllerBytes (b .controller)) (recordsOf seatCount (b .seats) ++ rest) (recordLength * n))
+    ∙ record-among (b .seats) n seatCount rest below
 
 pub placed : Placed
 unfolding imageOf controllerBytes
@@ -78,11 +82,11 @@ placed b =
       rotation-13 = refl;
       selected-14 = refl;
       latches-15 = refl;
-      seats = stretch-at b;
+      seats = λ n below. ap (λ (l : List ℕ). take recordLength (drop (recordPlace n) l)) (sym (append-nil (imageOf b))) ∙ stretch-at b [] n below;
     }
 
 pub power-up-image : PowerUpImage
-unfolding imageOf controllerBytes recordsOf recordOf channelBytes frontBytes digit pick
+unfolding imageOf controllerBytes recordsOf recordOf channelBytes frontBytes tallyBytes wordBytes digit pick
 power-up-image = refl
 
 -- ---- outside
@@ -136,17 +140,27 @@ every-same : (n : ℕ) (f g : ℕ → Bool) → ((k : ℕ) → k < n → f k ≡
 every-same zero f g same = refl
 every-same (suc n) f g same = ap₂ _&&_ (same n (omega arith)) (every-same n f g (λ k below. same k (omega (arith, below))))
 
-found-front : (l rest : List ℕ) → recordLength ≤ length l → found (l ++ rest) ≡ found l
-unfolding found
-found-front l rest long =
-    let more : recordLength ≤ length (l ++ rest) = omega (arith, length-append l rest, long) in
-    rw (take-append-le recordLength l rest long, le-leb recordLength (length (l ++ rest)) more, le-leb recordLength (length l) long)
+module _ (p rest : List ℕ) (long : lengthIn (versionOf p) ≤ length p) where
+  first-same : (k : ℕ) → k < 5 → at (p ++ rest) k ≡ at p k
+  first-same k below =
+      let five : 5 ≤ length p = omega (arith, long, front-inside (versionOf p) 8) in
+      let more : 5 ≤ length (p ++ rest) = omega (arith, length-append p rest, five) in
+      sym (listed-at 5 (at (p ++ rest)) k 0 below)
+      ∙ ap (λ (l : List ℕ). getD l k 0) (front-written 5 (p ++ rest) more ∙ take-append-le 5 p rest five ∙ sym (front-written 5 p five))
+      ∙ listed-at 5 (at p) k 0 below
 
-module _ (p rest : List ℕ) (long : imageLength ≤ length p) where
+  version-same : versionOf (p ++ rest) ≡ versionOf p
+  unfolding versionOf
+  version-same = rw (first-same 3 (omega arith), first-same 4 (omega arith))
+
   record-same : (k : ℕ) → k < seatCount → recordAt (p ++ rest) k ≡ recordAt p k
   record-same k below =
-      ap found (drop-append-le (recordPlace k) p rest (omega (arith, long, below)))
-      ∙ found-front (drop (recordPlace k) p) rest (omega (arith, long, below, length-drop (recordPlace k) p))
+      let v = versionOf p in
+      let here = placeIn v k in
+      let fits = inside v k below in
+      ap (λ (n : ℕ). found n (drop (placeIn n k) (p ++ rest))) version-same
+      ∙ ap (found v) (drop-append-le here p rest (omega (arith, long, fits)))
+      ∙ found-front v (drop here p) rest (omega (arith, long, fits, length-drop here p))
 
   records-same : recordsFrom (p ++ rest) ≡ recordsFrom p
   unfolding recordsFrom
@@ -156,31 +170,22 @@ module _ (p rest : List ℕ) (long : imageLength ≤ length p) where
         good = every-same seatCount (goodAt (p ++ rest)) (goodAt p) (λ k below. ap (λ (f : Found). f .good) (record-same k below)) i;
       }
 
-  first-same : (k : ℕ) → k < 5 → at (p ++ rest) k ≡ at p k
-  first-same k below =
-      let five : 5 ≤ length p = omega (arith, long) in
-      let more : 5 ≤ length (p ++ rest) = omega (arith, length-append p rest, five) in
-      sym (listed-at 5 (at (p ++ rest)) k 0 below)
-      ∙ ap (λ (l : List ℕ). getD l k 0) (front-written 5 (p ++ rest) more ∙ take-append-le 5 p rest five ∙ sym (front-written 5 p five))
-      ∙ listed-at 5 (at p) k 0 below
-
   pub behind-apart : (b : Bench) → restored b (p ++ rest) ≡ restored b p
-  unfolding restored refusal firstHeld benchFrom imageGood latchesAllowed marked versionOf
+  unfolding restored refusal firstHeld benchFrom imageGood latchesAllowed marked
   behind-apart b =
-      let five : 5 ≤ length p = omega (arith, long) in
-      let more : imageLength ≤ length (p ++ rest) = omega (arith, length-append p rest, long) in
+      let five : 5 ≤ length p = omega (arith, long, front-inside (versionOf p) 8) in
+      let more : lengthIn (versionOf p) ≤ length (p ++ rest) = omega (arith, length-append p rest, long) in
       let block : controllerPart (p ++ rest) ≡ controllerPart p
-      = ap (take 11) (drop-append-le 5 p rest five) ∙ take-append-le 11 (drop 5 p) rest (omega (arith, long, length-drop 5 p)) in
+      = ap (take 11) (drop-append-le 5 p rest five) ∙ take-append-le 11 (drop 5 p) rest (omega (arith, long, front-inside (versionOf p) 8, length-drop 5 p)) in
       rw (
         first-same 0 (omega arith),
         first-same 1 (omega arith),
         first-same 2 (omega arith),
-        first-same 3 (omega arith),
-        first-same 4 (omega arith),
+        version-same,
         block,
         records-same,
-        le-ltb (length (p ++ rest)) 5 (omega (arith, more)),
-        le-ltb (length (p ++ rest)) imageLength more,
+        le-ltb (length (p ++ rest)) 5 (omega (arith, more, front-inside (versionOf p) 8)),
+        le-ltb (length (p ++ rest)) (lengthIn (versionOf p)) more,
         le-ltb (length p) 5 five,
-        le-ltb (length p) imageLength long,
+        le-ltb (length p) (lengthIn (versionOf p)) long,
       )

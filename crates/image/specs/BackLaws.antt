@@ -1,5 +1,5 @@
 -- The image of a valid bench is read back as that bench, over whatever bench it is read.
-use Prim.Native.Nat.{ℕ, zero, suc, _+_, _-_, _*_, _%_, _<_, _≤_}
+use Prim.Native.Nat.{ℕ, zero, suc, _+_, _*_, _%_, _<_, _≤_}
 use mathlib.Core.Bool.{true, _&&_}
 use mathlib.Core.List.{List, [], _∷_, _++_, append-assoc}
 use mathlib.Core.Logic.{⊎-elim}
@@ -27,15 +27,17 @@ use Rattle.bench.specs.Seats.{lines}
 use Rattle.bench.specs.Valid.{soundSeats, valid}
 use Rattle.bench.specs.ValidLaws as bench
 use Rattle.seat_image.specs.declared.Found.{Found}
-use Rattle.seat_image.specs.Places.{recordLength}
+use Rattle.seat_image.specs.Written.{recordLength}
 use Rattle.seat_image.specs.Read.{found}
 use Rattle.seat_image.specs.Written.{recordOf}
-use Rattle.seat_image.specs.WrittenLaws.{digit-yes, digit-small, found-written}
-use Rattle.image.specs.Layout.{imageLength}
+use Rattle.channel_image.specs.WrittenLaws.{digit-yes, digit-small}
+use Rattle.seat_image.specs.BackLaws.{found-written}
+use Rattle.image.specs.Layout.{headerLength, imageLength, lengthIn, versionOf, placeIn}
+use Rattle.image.specs.PlaceLaws.{place-with}
 use Rattle.image.specs.Read.{recordAt, seatAt, goodAt, recordsFrom, controllerFrom, benchFrom}
 use Rattle.image.specs.RefusalLaws.{header-taken, restored-good}
-use Rattle.image.specs.Refusals.{marked, versionOf, known, controllerInRange, latchesAllowed, imageGood, restored}
-use Rattle.image.specs.Written.{header, controllerBytes, recordsOf, imageOf}
+use Rattle.image.specs.Refusals.{marked, known, controllerInRange, latchesAllowed, imageGood, restored}
+use Rattle.image.specs.Written.{newest, header, controllerBytes, recordsOf, imageOf}
 use Rattle.image.specs.WrittenLaws.{records-length, image-length}
 
 -- ---- a seat among the records
@@ -48,15 +50,15 @@ sound-at (s ∷ l) (suc k) all below = sound-at l k (both-hold (sound s) (soundS
 
 module _ (seats : List Seat) (k : ℕ) (own : sound (getD seats k noSeat) ≡ true) where
   found-among : (n : ℕ) (rest : List ℕ) → k < n
-      → found (drop (recordLength * k) (recordsOf n seats ++ rest)) ≡ record { seat = getD seats k noSeat; good = true }
+      → found newest (drop (recordLength * k) (recordsOf n seats ++ rest)) ≡ record { seat = getD seats k noSeat; good = true }
   unfolding recordsOf
   found-among zero rest below = absurd (not-suc-le-zero below)
   found-among (suc n) rest below =
-      ap (λ (l : List ℕ). found (drop (recordLength * k) l)) (append-assoc (recordsOf n seats) (recordOf (getD seats n noSeat)) rest)
+      ap (λ (l : List ℕ). found newest (drop (recordLength * k) l)) (append-assoc (recordsOf n seats) (recordOf (getD seats n noSeat)) rest)
       ∙ ⊎-elim
       (λ (e : k ≡ n).
-      ap (λ (j : ℕ). found (drop (recordLength * k) (recordsOf n seats ++ (recordOf (getD seats j noSeat) ++ rest)))) (sym e)
-      ∙ ap found
+      ap (λ (j : ℕ). found newest (drop (recordLength * k) (recordsOf n seats ++ (recordOf (getD seats j noSeat) ++ rest)))) (sym e)
+      ∙ ap (found newest)
       (drop-at (recordsOf n seats) (recordOf (getD seats k noSeat) ++ rest) (recordLength * k)
       (records-length n seats ∙ ap (λ (j : ℕ). recordLength * j) (sym e)))
       ∙ found-written (getD seats k noSeat) rest own)
@@ -112,10 +114,16 @@ module _ (b : Bench) (v : valid b ≡ true) (rest : List ℕ) where
   parts : bench.Sound b
   parts = bench.parts b v
 
+  version : versionOf (imageOf b ++ rest) ≡ newest
+  unfolding imageOf versionOf controllerBytes
+  version = refl
+
   read-at : (k : ℕ) → k < seatCount → recordAt (imageOf b ++ rest) k ≡ record { seat = getD (b .seats) k noSeat; good = true }
   unfolding imageOf controllerBytes
   read-at k below =
-      ap found (drop-append-add (header ++ controllerBytes (b .controller)) (recordsOf seatCount (b .seats) ++ rest) (recordLength * k))
+      ap (λ (v : ℕ). found v (drop (placeIn v k) (imageOf b ++ rest))) version
+      ∙ ap (λ (n : ℕ). found newest (drop n (imageOf b ++ rest))) (place-with newest k refl)
+      ∙ ap (found newest) (drop-append-add (header ++ controllerBytes (b .controller)) (recordsOf seatCount (b .seats) ++ rest) (recordLength * k))
       ∙ found-among (b .seats) k (sound-at (b .seats) k (parts .seats) (omega (arith, parts .wired .all))) seatCount rest below
 
   seats-back : listed seatCount (seatAt (imageOf b ++ rest)) ≡ b .seats
@@ -147,8 +155,11 @@ module _ (b : Bench) (v : valid b ≡ true) (rest : List ℕ) where
       ∙ s .latches in
       ap₂ _&&_ (ap₂ _&&_ each own) high
 
-  image-long : imageLength ≤ length (imageOf b ++ rest)
-  image-long = omega (arith, length-append (imageOf b) rest, image-length b)
+  image-long : lengthIn (versionOf (imageOf b ++ rest)) ≤ length (imageOf b ++ rest)
+  image-long = omega (arith, length-append (imageOf b) rest, image-length b, ap lengthIn version, place-with newest seatCount refl)
+
+  five : headerLength ≤ length (imageOf b ++ rest)
+  five = omega (arith, length-append (imageOf b) rest, image-length b)
 
   marked-back : (marked (imageOf b ++ rest) ≡ true) × (known (versionOf (imageOf b ++ rest)) ≡ true)
   unfolding imageOf marked versionOf controllerBytes
@@ -158,7 +169,7 @@ module _ (b : Bench) (v : valid b ≡ true) (rest : List ℕ) where
   pub restored-saved : (before : Bench) → restored before (imageOf b ++ rest) ≡ record { bench = b; answer = Done }
   restored-saved before =
       restored-good before (imageOf b ++ rest)
-      (header-taken (imageOf b ++ rest) (omega (arith, image-long)) (marked-back .0) (marked-back .1) image-long) good-back
+      (header-taken (imageOf b ++ rest) five (marked-back .0) (marked-back .1) image-long) good-back
       ∙ (λ i. record { bench = bench-back i; answer = Done })
 
 -- and so where it stands in a buffer, at the place at which it was saved

@@ -14,7 +14,7 @@ use Rattle.base.specs.Bits.{bit}
 use Rattle.base.specs.Every.{every}
 use Rattle.base.specs.EveryLaws.{every-each, every-from}
 use Rattle.base.specs.ListLaws.{listed, listed-length, listed-at, listed-same}
-use Rattle.base.specs.PickLaws.{pick-true, both-hold, either-way}
+use Rattle.base.specs.PickLaws.{both-hold, either-way}
 use Rattle.seat.specs.Seats.{noSeat, line}
 use Rattle.rank.specs.Sets.{has}
 use Rattle.rank.specs.Sets as sets
@@ -27,13 +27,13 @@ use Rattle.bench.specs.HeardLaws.{line-of-seat}
 use Rattle.bench.specs.Seats.{seat, lines}
 use Rattle.seat_image.specs.declared.Found.{Found}
 use Rattle.seat_image.specs.FieldLaws as one
-use Rattle.seat_image.specs.Fields.{byteAt}
-use Rattle.seat_image.specs.Places.{at, recordLength}
-use Rattle.seat_image.specs.Read.{seatFrom, recordGood, found}
-use Rattle.seat_image.specs.ReadLaws.{Well, found-well}
-use Rattle.seat_image.specs.Written.{hasRoom}
-use Rattle.image.specs.Fields.{stretch, ImageFields, Exactly}
-use Rattle.image.specs.Layout.{imageLength, controllerPart, recordPlace}
+use Rattle.channel_image.specs.Fields.{byteAt}
+use Rattle.channel_image.specs.Places.{at}
+use Rattle.seat_image.specs.Read.{lengthOf, seatFrom, recordGood}
+use Rattle.seat_image.specs.ReadLaws.{Well, found-well, found-good}
+use Rattle.image.specs.Fields.{ImageFields, Exactly}
+use Rattle.image.specs.Layout.{lengthIn, versionOf, placeIn, stretch, controllerPart}
+use Rattle.image.specs.PlaceLaws.{inside, front-inside}
 use Rattle.image.specs.Read.{seatAt, goodAt, recordsFrom}
 use Rattle.image.specs.Refusals.{controllerInRange, latchesAllowed, imageGood}
 
@@ -49,20 +49,19 @@ part-written from n l fits =
     listed-same n (λ k. at l (from + k)) (at (drop from l)) (λ k below. sym (getD-drop from l k 0))
     ∙ front-written n (drop from l) (omega (arith, length-drop from l))
 
-module _ (p : List ℕ) (long : imageLength ≤ length p) where
+module _ (p : List ℕ) (long : lengthIn (versionOf p) ≤ length p) where
   pub block-written : listed 11 (λ k. at p (5 + k)) ≡ controllerPart p
-  block-written = part-written 5 11 p (omega (arith, long))
+  block-written = part-written 5 11 p (omega (arith, long, front-inside (versionOf p) 8))
 
   -- ---- a seat's record
 
-  room-at : (n : ℕ) → n < 8 → recordLength ≤ length (drop (recordPlace n) p)
-  room-at n below = omega (arith, long, length-drop (recordPlace n) p)
+  pub room-at : (n : ℕ) → n < 8 → lengthOf (versionOf p) ≤ length (drop (placeIn (versionOf p) n) p)
+  room-at n below = omega (arith, long, inside (versionOf p) n below, length-drop (placeIn (versionOf p) n) p)
 
   found-at : (n : ℕ) → n < 8 → recordGood (stretch p n) ≡ true → (goodAt p n ≡ true) × (seatAt p n ≡ seatFrom (stretch p n))
-  unfolding found
+  unfolding stretch
   found-at n below good =
-      let taken = pick-true (hasRoom (drop (recordPlace n) p) && recordGood (stretch p n)) _ _
-      (ap₂ _&&_ (le-leb recordLength _ (room-at n below)) good) in
+      let taken = found-good (versionOf p) (drop (placeIn (versionOf p) n) p) (room-at n below) good in
       (ap (λ (f : Found). f .good) taken, ap (λ (f : Found). f .seat) taken)
 
   -- ---- the lines
@@ -119,17 +118,18 @@ module _ (p : List ℕ) (long : imageLength ≤ length p) where
         let one = both-hold (every seatCount (goodAt p)) (controllerInRange (controllerPart p)) (two .0) in
         (one .0, (one .1, two .1))
 
-    pub well-at : (n : ℕ) → n < 8 → Well (drop (recordPlace n) p)
-    well-at n below = found-well (drop (recordPlace n) p) (every-each seatCount (goodAt p) (three .0) n below)
+    pub well-at : (n : ℕ) → n < 8 → Well (versionOf p) (drop (placeIn (versionOf p) n) p)
+    well-at n below = found-well (versionOf p) (drop (placeIn (versionOf p) n) p) (every-each seatCount (goodAt p) (three .0) n below)
 
     latch-high : (n : ℕ) → n < 8 → bit n (byteAt p 15) ≡ true → line (seatFrom (stretch p n)) ≡ true
-    unfolding latchesAllowed latchesHigh
+    unfolding latchesAllowed latchesHigh stretch
     latch-high n below set =
         ap line (sym (well-at n below .seat)) ∙ sym (line-at n below)
         ∙ sym (ap (λ (b : Bool). not b || has (lines (recordsFrom p .seats)) n) (latch-at n below ∙ set))
         ∙ every-each 8 (λ n. not (has (at (controllerPart p) 10) n) || has (lines (recordsFrom p .seats)) n) (three .1 .1) n below
 
     pub image-fields : ImageFields p
+    unfolding stretch
     image-fields =
         let all = sym block-tests ∙ three .1 .0 in
         let f5 = leb (byteAt p 5) 3 in
@@ -155,13 +155,13 @@ module _ (p : List ℕ) (long : imageLength ≤ length p) where
           automatic = leb-true _ _ (h5 .1);
           rotation = leb-true _ _ (h6 .1);
           selected = leb-true _ _ (h7 .1);
-          seats = λ n below. one.good-fields (stretch p n) (well-at n below .good);
+          seats = λ n below. one.exactly .needed (stretch p n) (well-at n below .good);
           latches = latch-high;
         }
 
   module _ (f : ImageFields p) where
     good-record : (n : ℕ) → n < 8 → recordGood (stretch p n) ≡ true
-    good-record n below = one.fields-good (stretch p n) (f .seats n below)
+    good-record n below = one.exactly .enough (stretch p n) (f .seats n below)
 
     pub fields-image : imageGood p ≡ true
     unfolding imageGood recordsFrom

@@ -3,7 +3,9 @@ use Prim.Native.Nat.{ℕ, _+_, _*_}
 use mathlib.Core.List.{List}
 use lib.ListN.{take, drop}
 use Rattle.records.specs.Events.{seatCount}
-use Rattle.seat_image.specs.Places.{recordLength}
+use Rattle.channel_image.specs.Places.{at}
+use Rattle.seat_image.specs.Read.{lengthOf, newRecord}
+use Rattle.seat_image.specs.Written.{recordLength}
 
 -- ticket 2: "the three letters `BEN`, a 16-bit version (1, low byte first)"
 abbrev pub headerLength : ℕ
@@ -17,12 +19,29 @@ controllerLength = 11
 abbrev pub frontLength : ℕ
 frontLength = headerLength + controllerLength
 
--- ticket 2: "then eight seat records of one fixed length": where seat k's begins
+-- ticket 2: "then eight seat records of one fixed length": where seat k's begins, in the newest version
 abbrev pub recordPlace : ℕ → ℕ
 recordPlace k = frontLength + recordLength * k
 
 abbrev pub imageLength : ℕ
 imageLength = recordPlace seatCount
+
+-- ---- by the version
+
+-- ticket 2: "a 16-bit version (1, low byte first)"
+unfoldable pub versionOf : List ℕ → ℕ
+versionOf p = at p 3 + 256 * at p 4
+
+-- where seat k's record begins, in any version
+unfoldable pub placeIn : ℕ → ℕ → ℕ
+placeIn version k = frontLength + lengthOf version * k
+
+abbrev pub lengthIn : ℕ → ℕ
+lengthIn version = placeIn version seatCount
+
+-- ticket 2: "Each seat record goes into its own stretch of the buffer": seat k's, in the layout of the newest version
+unfoldable pub stretch : List ℕ → ℕ → List ℕ
+stretch p k = newRecord (versionOf p) (drop (placeIn (versionOf p) k) p)
 
 -- the bytes of the controller
 abbrev pub controllerPart : List ℕ → List ℕ

@@ -2,6 +2,7 @@ pub mod Layout
 pub mod Written
 pub mod Read
 pub mod Refusals
+pub mod PlaceLaws
 pub mod WrittenLaws
 pub mod ReadLaws
 pub mod RefusalLaws

@@ -11,14 +11,14 @@ use Rattle.records.specs.Events.{seatCount}
 use Rattle.bench.specs.declared.Bench.{Bench}
 use Rattle.bench.specs.Seats.{lines}
 use Rattle.seat_image.specs.declared.Found.{Found}
-use Rattle.seat_image.specs.Places.{at, yesAt}
+use Rattle.channel_image.specs.Places.{at, yesAt}
 use Rattle.seat_image.specs.Read.{found}
 use Rattle.image.specs.declared.reading.Records.{Records}
-use Rattle.image.specs.Layout.{recordPlace, controllerPart, Stage, Level, Base, First, Mask, Service, Special, Automatic, Rotation, Selected, Latches}
+use Rattle.image.specs.Layout.{versionOf, placeIn, controllerPart, Stage, Level, Base, First, Mask, Service, Special, Automatic, Rotation, Selected, Latches}
 
--- what seat k's record says
+-- what seat k's record says, by the version of the image
 abbrev pub recordAt : List ℕ → ℕ → Found
-recordAt p k = found (drop (recordPlace k) p)
+recordAt p k = found (versionOf p) (drop (placeIn (versionOf p) k) p)
 
 abbrev pub seatAt : List ℕ → ℕ → Seat
 seatAt p k = recordAt p k .seat

@@ -17,7 +17,7 @@ use Rattle.records.specs.Events.{seatCount}
 use Rattle.bench.specs.Seats.{lines}
 use Rattle.seat_image.specs.declared.Found.{Found}
 use Rattle.seat_image.specs.Read.{found}
-use Rattle.image.specs.Layout.{recordPlace}
+use Rattle.image.specs.Layout.{versionOf, placeIn}
 use Rattle.image.specs.Read.{recordAt, seatAt, goodAt}
 
 -- a part that is lent to its end
@@ -29,9 +29,12 @@ pub lines-written : (seats : List Seat) → length seats ≡ seatCount → bits 
 unfolding lines
 lines-written seats all = ap (λ (l : List Seat). bits (map line l)) (written-out seatCount seats noSeat all)
 
-module _ (p : List ℕ) (k : ℕ) (r : Found) (given : r ≡ found (take (length p - recordPlace k) (drop (recordPlace k) p))) where
+module _ (p : List ℕ) (k version place : ℕ) (same : version ≡ versionOf p) (there : place ≡ placeIn version k) (r : Found)
+    (given : r ≡ found version (take (length p - place) (drop place p))) where
   as-placed : r ≡ recordAt p k
-  as-placed = given ∙ ap found (lent-to-end (recordPlace k) p)
+  as-placed =
+      given ∙ ap (found version) (lent-to-end place p) ∙ ap (λ (n : ℕ). found version (drop n p)) there
+      ∙ ap (λ (v : ℕ). found v (drop (placeIn v k) p)) same
 
   pub seat-turn : (seats₀ seats : List Seat) → seats ≡ sets seats₀ 0 (listed k (seatAt p))
       → set seats k (r .seat) ≡ sets seats₀ 0 (listed (k + 1) (seatAt p))

@@ -13,10 +13,10 @@ use Rattle.base.specs.PickLaws.{pick-true, pick-false, both-hold}
 use Rattle.base.specs.Refusals.{NoRoom, WrongMark, UnknownVersion, NoSuchBench, firstHeld}
 use Rattle.base.specs.RefusalLaws.{none-held, held-behind}
 use Rattle.bench.specs.declared.Bench.{Bench}
-use Rattle.seat_image.specs.Places.{at}
-use Rattle.image.specs.Layout.{headerLength, imageLength}
+use Rattle.channel_image.specs.Places.{at}
+use Rattle.image.specs.Layout.{headerLength, lengthIn, versionOf}
 use Rattle.image.specs.Read.{benchFrom}
-use Rattle.image.specs.Refusals.{marked, versionOf, known, headerGrounds, bodyGrounds, imageGood, refusal, restored}
+use Rattle.image.specs.Refusals.{marked, known, headerGrounds, bodyGrounds, imageGood, refusal, restored}
 
 -- the mark and the version stand in the first five bytes
 pub marked-first : (p : List ℕ) → marked (listed headerLength (at p)) ≡ marked p
@@ -45,12 +45,12 @@ module _ (p : List ℕ) where
       header-unknown none = pick-false _ _ _ (le-ltb _ _ five) ∙ pick-false _ _ _ (ap not mark) ∙ pick-true _ _ _ (ap not none)
 
       module _ (version : known (versionOf p) ≡ true) where
-        pub header-cut : length p < imageLength → firstHeld (headerGrounds p) ≡ NoRoom
+        pub header-cut : length p < lengthIn (versionOf p) → firstHeld (headerGrounds p) ≡ NoRoom
         unfolding firstHeld
         header-cut cut =
             pick-false _ _ _ (le-ltb _ _ five) ∙ pick-false _ _ _ (ap not mark) ∙ pick-false _ _ _ (ap not version) ∙ pick-true _ _ _ (lt-ltb _ _ cut)
 
-        pub header-taken : imageLength ≤ length p → firstHeld (headerGrounds p) ≡ 0
+        pub header-taken : lengthIn (versionOf p) ≤ length p → firstHeld (headerGrounds p) ≡ 0
         unfolding firstHeld
         header-taken long =
             pick-false _ _ _ (le-ltb _ _ five) ∙ pick-false _ _ _ (ap not mark) ∙ pick-false _ _ _ (ap not version) ∙ pick-false _ _ _ (le-ltb _ _ long)
@@ -59,7 +59,7 @@ module _ (p : List ℕ) where
 pub record Header (p : List ℕ) : Type 0 where
   pub mark : marked p ≡ true
   pub version : known (versionOf p) ≡ true
-  pub long : imageLength ≤ length p
+  pub long : lengthIn (versionOf p) ≤ length p
 
 pub header-facts : (p : List ℕ) → firstHeld (headerGrounds p) ≡ 0 → Header p
 header-facts p none =
@@ -67,7 +67,7 @@ header-facts p none =
     let three = both-hold (not (ltb (length p) headerLength)) _ all .1 in
     let two = both-hold (not (not (marked p))) _ three in
     let one = both-hold (not (not (known (versionOf p)))) _ (two .1) in
-    let last = both-hold (not (ltb (length p) imageLength)) true (one .1) in
+    let last = both-hold (not (ltb (length p) (lengthIn (versionOf p)))) true (one .1) in
     record {
       mark = not-false _ (not-true _ (two .0));
       version = not-false _ (not-true _ (one .0));

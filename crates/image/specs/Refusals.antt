@@ -1,5 +1,5 @@
 -- What is refused of an image, in order, and what a restore leaves.
-use Prim.Native.Nat.{ℕ, _+_, _*_, _%_}
+use Prim.Native.Nat.{ℕ, _%_}
 use mathlib.Core.Bool.{Bool, not, _&&_}
 use mathlib.Core.List.{List, [], _∷_, _++_}
 use lib.Dec.{eqb, leb, ltb}
@@ -9,20 +9,16 @@ use Rattle.base.specs.Refusals.{Ground, NoRoom, WrongMark, UnknownVersion, NoSu
 use Rattle.controller.specs.Valid.{latchesHigh}
 use Rattle.bench.specs.declared.Bench.{Bench}
 use Rattle.bench.specs.Seats.{lines}
-use Rattle.seat_image.specs.Places.{at}
+use Rattle.channel_image.specs.Places.{at}
 use Rattle.image.specs.declared.Restored.{Restored}
 use Rattle.image.specs.declared.reading.Body.{Body}
-use Rattle.image.specs.Layout.{headerLength, imageLength, controllerPart, Stage, Level, Base, First, Special, Automatic, Rotation, Selected, Latches}
+use Rattle.image.specs.Layout.{headerLength, lengthIn, versionOf, controllerPart, Stage, Level, Base, First, Special, Automatic, Rotation, Selected, Latches}
 use Rattle.image.specs.Read.{recordsFrom, benchFrom}
 use Rattle.image.specs.Written.{newest}
 
 -- ticket 2: "the three letters `BEN`"
 unfoldable pub marked : List ℕ → Bool
 marked p = eqb (at p 0) 0x42 && eqb (at p 1) 0x45 && eqb (at p 2) 0x4E
-
--- ticket 2: "a 16-bit version (1, low byte first)"
-unfoldable pub versionOf : List ℕ → ℕ
-versionOf p = at p 3 + 256 * at p 4
 
 -- a version that the bench reads: from 1 to the newest
 abbrev pub known : ℕ → Bool
@@ -55,7 +51,7 @@ headerGrounds p =
     record { number = NoRoom; holds = ltb (length p) headerLength }
     ∷ record { number = WrongMark; holds = not (marked p) }
     ∷ record { number = UnknownVersion; holds = not (known (versionOf p)) }
-    ∷ record { number = NoRoom; holds = ltb (length p) imageLength }
+    ∷ record { number = NoRoom; holds = ltb (length p) (lengthIn (versionOf p)) }
     ∷ []
 
 -- ticket 2: "15 exactly for"

@@ -6,7 +6,7 @@ use mathlib.Core.Path.{_≡_, refl, ap, ap₂, sym, _∙_}
 use native.Mathlib.Omega.{arith}
 use lib.Dec.{eqb, leb, ltb}
 use lib.ListN.{length, take, drop}
-use lib.Seq.{drop-drop, take-add, length-take-le}
+use lib.Seq.{drop-drop, take-add, getD-drop}
 use borrow.Author.Tests.{eqb-true, eq-eqb, le-leb, lt-ltb, ltb-false, not-true, not-false}
 use Rattle.base.specs.declared.Answer.the-variants.{Done, Refused}
 use Rattle.base.specs.ListLaws.{listed, listed-length, listed-at}
@@ -21,15 +21,21 @@ use Rattle.bench.specs.declared.Bench.{Bench}
 use Rattle.bench.specs.Seats.{lines}
 use Rattle.bench.specs.Valid.{soundSeats, valid}
 use Rattle.bench.specs.ValidLaws as bench
-use Rattle.seat_image.specs.Places.{at, recordLength}
-use Rattle.seat_image.specs.ReadLaws.{yes-digit, written-back, good-sound}
+use Rattle.channel_image.specs.Places.{at}
+use Rattle.seat_image.specs.Written.{recordLength}
+use Rattle.channel_image.specs.ReadLaws.{yes-digit}
+use Rattle.channel_image.specs.Fields.{byteAt}
+use Rattle.seat_image.specs.BackLaws.{new-back, good-sound}
+use Rattle.seat_image.specs.Read.{hasTallies, newRecord}
+use Rattle.seat_image.specs.ReadLaws.{whole}
 use Rattle.seat_image.specs.Written.{recordOf}
 use Rattle.image.specs.FieldLaws.{front-written, image-fields, well-at, block-written, three}
 use Rattle.image.specs.Fields.{ImageFields}
-use Rattle.image.specs.Layout.{imageLength, controllerPart, recordPlace}
+use Rattle.image.specs.Layout.{imageLength, lengthIn, versionOf, placeIn, stretch, controllerPart, recordPlace}
+use Rattle.image.specs.PlaceLaws.{place-with, front-inside}
 use Rattle.image.specs.Read.{seatAt, recordsFrom, controllerFrom, benchFrom}
 use Rattle.image.specs.RefusalLaws.{Header}
-use Rattle.image.specs.Refusals.{marked, versionOf, known, grounds, latchesAllowed, imageGood, refusal, restored}
+use Rattle.image.specs.Refusals.{marked, known, grounds, latchesAllowed, imageGood, refusal, restored}
 use Rattle.image.specs.Written.{newest, header, controllerBytes, recordsOf, imageOf}
 
 -- what an image that is taken is
@@ -45,7 +51,7 @@ taken-of p none =
     let four = both-hold (not (ltb (length p) 5)) _ all .1 in
     let three = both-hold (not (not (marked p))) _ four in
     let two = both-hold (not (not (known (versionOf p)))) _ (three .1) in
-    let one = both-hold (not (ltb (length p) imageLength)) _ (two .1) in
+    let one = both-hold (not (ltb (length p) (lengthIn (versionOf p)))) _ (two .1) in
     let last = both-hold (not (not (imageGood p))) true (one .1) in
     record {
       header =
@@ -72,7 +78,7 @@ all-sound zero f each = refl
 all-sound (suc n) f each = rw (each zero (omega arith)) (all-sound n (λ k. f (suc k)) (λ k below. each (suc k) (omega arith)))
 
 module _ (p : List ℕ) (t : Taken p) where
-  long : imageLength ≤ length p
+  long : lengthIn (versionOf p) ≤ length p
   long = t .header .long
 
   fields : ImageFields p
@@ -80,25 +86,36 @@ module _ (p : List ℕ) (t : Taken p) where
 
   -- ---- the records
 
-  record-back : (k : ℕ) → k < seatCount → recordOf (seatAt p k) ≡ take recordLength (drop (recordPlace k) p)
-  record-back k below =
+  -- a seat's record is written as it reads in the newest version
+  pub record-back : (hasTallies (versionOf p) ≡ true → (j : ℕ) → byteAt p j < 256) → (k : ℕ) → k < seatCount → recordOf (seatAt p k) ≡ stretch p k
+  unfolding stretch
+  record-back small k below =
       let w = well-at p long (t .good) k below in
-      ap recordOf (w .seat) ∙ written-back _ (length-take-le recordLength (drop (recordPlace k) p) (w .long)) (w .good)
+      let place = placeIn (versionOf p) k in
+      ap recordOf (w .seat)
+      ∙ new-back (versionOf p) (drop place p) (w .long) (w .good) (λ has j. omega (arith, small has (place + j), getD-drop place p j 0))
 
-  records-back : (n : ℕ) → n ≤ seatCount → recordsOf n (listed seatCount (seatAt p)) ≡ take (recordLength * n) (drop 16 p)
-  unfolding recordsOf
-  records-back zero small = refl
-  records-back (suc n) small =
-      let on : recordLength * suc n ≡ recordLength * n + recordLength = omega arith in
-      ap₂ _++_ (records-back n (omega (arith, small)))
-      (ap recordOf (listed-at seatCount (seatAt p) n noSeat small) ∙ record-back n small
-      ∙ ap (take recordLength) (sym (drop-drop (recordLength * n) 16 p)))
-      ∙ sym (take-add (recordLength * n) recordLength (drop 16 p))
-      ∙ ap (λ (m : ℕ). take m (drop 16 p)) (sym on)
+  module _ (version : versionOf p ≡ newest) (small : (j : ℕ) → byteAt p j < 256) where
+    as-it-stands : (k : ℕ) → stretch p k ≡ take recordLength (drop (recordPlace k) p)
+    unfolding stretch
+    as-it-stands k =
+        ap (λ (v : ℕ). newRecord v (drop (placeIn v k) p)) version ∙ whole (drop (placeIn newest k) p)
+        ∙ ap (λ (n : ℕ). take recordLength (drop n p)) (place-with newest k refl)
+
+    records-back : (n : ℕ) → n ≤ seatCount → recordsOf n (listed seatCount (seatAt p)) ≡ take (recordLength * n) (drop 16 p)
+    unfolding recordsOf
+    records-back zero few = refl
+    records-back (suc n) few =
+        let on : recordLength * suc n ≡ recordLength * n + recordLength = omega arith in
+        ap₂ _++_ (records-back n (omega (arith, few)))
+        (ap recordOf (listed-at seatCount (seatAt p) n noSeat few) ∙ record-back (λ has. small) n few ∙ as-it-stands n
+        ∙ ap (take recordLength) (sym (drop-drop (recordLength * n) 16 p)))
+        ∙ sym (take-add (recordLength * n) recordLength (drop 16 p))
+        ∙ ap (λ (m : ℕ). take m (drop 16 p)) (sym on)
 
   -- ---- the controller
 
-  controller-back : (levels : ℕ) → controllerBytes (controllerFrom (controllerPart p) levels) ≡ controllerPart p
+  pub controller-back : (levels : ℕ) → controllerBytes (controllerFrom (controllerPart p) levels) ≡ controllerPart p
   unfolding controllerBytes controllerFrom
   controller-back levels =
       let f = fields in
@@ -122,15 +139,15 @@ module _ (p : List ℕ) (t : Taken p) where
       let b0 : at p 0 ≡ 0x42 = eqb-true (at p 0) 0x42 (one .0) in
       let b1 : at p 1 ≡ 0x45 = eqb-true (at p 1) 0x45 (one .1) in
       let b2 : at p 2 ≡ 0x4E = eqb-true (at p 2) 0x4E (two .1) in
-      let b3 : at p 3 ≡ 1 = omega (arith, version) in
+      let b3 : at p 3 ≡ 2 = omega (arith, version) in
       let b4 : at p 4 ≡ 0 = omega (arith, version) in
-      (λ i. sym b0 i ∷ sym b1 i ∷ sym b2 i ∷ sym b3 i ∷ sym b4 i ∷ []) ∙ front-written 5 p (omega (arith, long))
+      (λ i. sym b0 i ∷ sym b1 i ∷ sym b2 i ∷ sym b3 i ∷ sym b4 i ∷ []) ∙ front-written 5 p (omega (arith, long, front-inside (versionOf p) 8))
 
   -- an image of the newest version, read and written again, is the same bytes
-  pub saved-restored : versionOf p ≡ newest → imageOf (benchFrom p) ≡ take imageLength p
+  pub saved-restored : versionOf p ≡ newest → ((j : ℕ) → byteAt p j < 256) → imageOf (benchFrom p) ≡ take imageLength p
   unfolding imageOf benchFrom recordsFrom
-  saved-restored version =
-      ap₂ _++_ (ap₂ _++_ (header-back version) (controller-back (lines (listed seatCount (seatAt p))))) (records-back seatCount (omega arith))
+  saved-restored version small =
+      ap₂ _++_ (ap₂ _++_ (header-back version) (controller-back (lines (listed seatCount (seatAt p))))) (records-back version small seatCount (omega arith))
       ∙ ap₂ _++_ (sym (take-add 5 11 p)) refl
       ∙ sym (take-add 16 (recordLength * seatCount) p)
 

@@ -1,5 +1,5 @@
 -- A bench saved and restored, and an image restored and saved.
-use Prim.Native.Nat.{ℕ, _+_, _<_, _≤_}
+use Prim.Native.Nat.{ℕ, _+_, _*_, _<_, _≤_}
 use mathlib.Core.Bool.{true}
 use mathlib.Core.List.{List, [], _∷_, _++_}
 use mathlib.Core.Path.{_≡_}
@@ -15,18 +15,19 @@ use Rattle.bench.specs.declared.Bench.{Bench}
 use Rattle.bench.specs.Runs.{outcomes}
 use Rattle.bench.specs.Seats.{lines, powerUp}
 use Rattle.bench.specs.Valid.{valid}
-use Rattle.seat_image.specs.Fields.{byteAt}
+use Rattle.channel_image.specs.Fields.{byteAt}
+use Rattle.seat_image.specs.Read.{newRecord}
 use Rattle.seat_image.specs.Written.{recordOf}
-use Rattle.image.specs.Fields.{stretch}
 use Rattle.image.specs.Items.{Item, itemOutcomes, afterItems}
-use Rattle.image.specs.Refusals.{versionOf, refusal, restored}
+use Rattle.image.specs.Layout.{lengthIn, placeIn, versionOf}
+use Rattle.image.specs.Refusals.{refusal, restored}
 use Rattle.image.specs.Written.{newest, imageOf, Saves}
 
 -- ticket 2: "House format: the three letters `BEN`, a 16-bit version (1, low byte first), the controller, then eight seat records of one fixed
 -- length. Each seat record goes into its own stretch of the buffer": of every bench, valid or not
 pub record Stretches (b : Bench) : Type 0 where
-  pub whole : length (imageOf b) ≡ 544
-  pub header : take 5 (imageOf b) ≡ 0x42 ∷ 0x45 ∷ 0x4E ∷ 1 ∷ 0 ∷ []
+  pub whole : length (imageOf b) ≡ 704
+  pub header : take 5 (imageOf b) ≡ 0x42 ∷ 0x45 ∷ 0x4E ∷ 2 ∷ 0 ∷ []
   pub stage-5 : byteAt (imageOf b) 5 ≡ b .controller .setup .stage
   pub level-6 : byteAt (imageOf b) 6 ≡ digit (b .controller .setup .level)
   pub base-7 : byteAt (imageOf b) 7 ≡ b .controller .setup .base
@@ -38,14 +39,14 @@ pub record Stretches (b : Bench) : Type 0 where
   pub rotation-13 : byteAt (imageOf b) 13 ≡ digit (b .controller .operation .rotation)
   pub selected-14 : byteAt (imageOf b) 14 ≡ digit (b .controller .operation .selected)
   pub latches-15 : byteAt (imageOf b) 15 ≡ b .controller .lines .latches
-  pub seats : (n : ℕ) → n < 8 → stretch (imageOf b) n ≡ recordOf (getD (b .seats) n noSeat)
+  pub seats : (n : ℕ) → n < 8 → take 86 (drop (16 + 86 * n) (imageOf b)) ≡ recordOf (getD (b .seats) n noSeat)
 
 abbrev pub Placed : Type 0
 Placed = (b : Bench) → Stretches b
 
--- power-up is `BEN`, 1, 0 and nothing but zeros
+-- power-up is `BEN`, 2, 0 and nothing but zeros
 abbrev pub PowerUpImage : Type 0
-PowerUpImage = imageOf powerUp ≡ 0x42 ∷ 0x45 ∷ 0x4E ∷ 1 ∷ 0 ∷ replicate 539 0
+PowerUpImage = imageOf powerUp ≡ 0x42 ∷ 0x45 ∷ 0x4E ∷ 2 ∷ 0 ∷ replicate 699 0
 
 -- ticket 2: "read it back next week": a valid bench that was saved is restored from the same place, over whatever bench
 abbrev pub ReadBack : Type 0
@@ -68,7 +69,23 @@ AnswersAlike =
 abbrev pub WrittenBack : Type 0
 WrittenBack =
     (p : List ℕ) (before : Bench) (at : ℕ) (l l′ : List ℕ) (r : Answer) → refusal p ≡ 0 → versionOf p ≡ newest
-    → Saves (restored before p .bench) at l l′ r → refusalOf r ≡ 0 → take 544 (drop at l′) ≡ take 544 p
+    → ((k : ℕ) → byteAt p k < 256) → Saves (restored before p .bench) at l l′ r → refusalOf r ≡ 0 → take 704 (drop at l′) ≡ take 704 p
+
+-- where the parts of each version stand
+pub record Versions : Type 0 where
+  pub length-1 : lengthIn 1 ≡ 544
+  pub length-2 : lengthIn 2 ≡ 704
+  pub place-1 : (n : ℕ) → placeIn 1 n ≡ 16 + 66 * n
+  pub place-2 : (n : ℕ) → placeIn 2 n ≡ 16 + 86 * n
+
+-- ticket 8: "version 1 reads with arrived equal to what is queued": an image of version 1 that is restored is saved as version 2, its controller as
+-- it was and each record as it reads there
+abbrev pub OlderWrittenBack : Type 0
+OlderWrittenBack =
+    (p : List ℕ) (before : Bench) (at : ℕ) (l l′ : List ℕ) (r : Answer) → refusal p ≡ 0 → versionOf p ≡ 1
+    → Saves (restored before p .bench) at l l′ r → refusalOf r ≡ 0
+    → (take 16 (drop at l′) ≡ 0x42 ∷ 0x45 ∷ 0x4E ∷ 2 ∷ 0 ∷ take 11 (drop 5 p))
+    × ((n : ℕ) → n < 8 → take 86 (drop (16 + 86 * n) (drop at l′)) ≡ newRecord 1 (drop (16 + 66 * n) p))
 
 abbrev pub OneToOne : Type 0
 OneToOne = (b c : Bench) → valid b ≡ true → valid c ≡ true → imageOf b ≡ imageOf c → b ≡ c
@@ -78,7 +95,7 @@ OneToOne = (b c : Bench) → valid b ≡ true → valid c ≡ true → imageOf b
 -- ticket 2: "bytes outside the image stay"; "each leaves buffer and bench untouched"
 pub record Outside (b : Bench) (at : ℕ) (l l′ : List ℕ) (r : Answer) : Type 0 where
   pub before : take at l′ ≡ take at l
-  pub behind : drop (at + 544) l′ ≡ drop (at + 544) l
+  pub behind : drop (at + 704) l′ ≡ drop (at + 704) l
   pub as-long : length l′ ≡ length l
   pub refused : refusalOf r ≡ 12 → l′ ≡ l
 
@@ -91,7 +108,7 @@ pub record Untouched : Type 0 where
   -- one that is taken leaves nothing of it
   pub old : (b c : Bench) (p : List ℕ) → refusal p ≡ 0 → restored b p ≡ restored c p
   -- what stands behind the image is not looked at
-  pub behind : (b : Bench) (p rest : List ℕ) → 544 ≤ length p → restored b (p ++ rest) ≡ restored b p
+  pub behind : (b : Bench) (p rest : List ℕ) → lengthIn (versionOf p) ≤ length p → restored b (p ++ rest) ≡ restored b p
 
 -- a restore sets no edge: the lines are those of the seats just read, and the latches are the image's byte
 abbrev pub NoEdge : Type 0

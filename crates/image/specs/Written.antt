@@ -22,9 +22,9 @@ use Rattle.image.specs.Layout.{imageLength}
 
 -- the newest version that the bench knows, which is the one it writes
 abbrev pub newest : ℕ
-newest = 1
+newest = 2
 
--- ticket 2: "the three letters `BEN`, a 16-bit version (1, low byte first)"
+-- ticket 2: "the three letters `BEN`, a 16-bit version (1, low byte first)"; ticket 8: "the saved bench becomes version 2"
 abbrev pub header : List ℕ
 header = quoted "BEN" ++ (newest % 256 ∷ newest / 256 ∷ [])
 

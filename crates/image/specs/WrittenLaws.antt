@@ -14,9 +14,9 @@ use Rattle.seat.specs.declared.Seat.{Seat}
 use Rattle.seat.specs.Seats.{noSeat}
 use Rattle.records.specs.Events.{seatCount}
 use Rattle.bench.specs.declared.Bench.{Bench}
-use Rattle.seat_image.specs.Places.{recordLength}
+use Rattle.seat_image.specs.Written.{recordLength}
 use Rattle.seat_image.specs.Written.{recordOf, hasRoom}
-use Rattle.seat_image.specs.WrittenLaws.{record-length}
+use Rattle.seat_image.specs.BackLaws.{record-length}
 use Rattle.image.specs.Layout.{imageLength}
 use Rattle.image.specs.Written.{controllerBytes, recordsOf, imageOf}
 

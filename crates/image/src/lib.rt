@@ -8,17 +8,19 @@ pub use reading::restore;
 use records::SEATS;
 pub use writing::save;
 
-// "the three letters `BEN`, a 16-bit version (1, low byte first), the controller, then eight seat records of one fixed length"
+// "the three letters `BEN`, a 16-bit version (1, low byte first), the controller, then eight seat records of one fixed length";
+// the version is 2 since ticket 8, and a version's records are of one length.
 pub(crate) const HEADER: usize = 5;
 
 pub(crate) const CONTROLLER: usize = 11;
 
 pub(crate) const FRONT: usize = HEADER + CONTROLLER;
 
+// Of the newest version.
 pub const LENGTH: usize = FRONT + SEATS * seat_image::LENGTH;
 
-// The newest version that the bench knows.
-pub(crate) const NEWEST: u16 = 1;
+// The newest version that the bench knows, which is the one it writes.
+pub(crate) const NEWEST: u16 = 2;
 
 // The bench after a restore, which is the one before it where that is refused.
 pub struct Restored {

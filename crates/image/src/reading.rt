@@ -16,8 +16,8 @@ ghost use Rattle.base.specs.Refusals.{firstHeld};
 ghost use Rattle.seat.specs.Seats.{noSeat, line};
 ghost use Rattle.controller.specs.Valid.{latchesHigh};
 ghost use Rattle.bench.specs.Seats.{lines};
-ghost use Rattle.seat_image.specs.Places.{at};
-ghost use Rattle.image.specs.Layout.{controllerPart};
+ghost use Rattle.channel_image.specs.Places.{at};
+ghost use Rattle.image.specs.Layout.{versionOf, placeIn, lengthIn, controllerPart};
 ghost use Rattle.image.specs.Read.{recordsFrom, controllerFrom};
 ghost use Rattle.image.specs.Refusals.{marked, headerGrounds, controllerInRange, bodyOf, restored};
 
@@ -46,10 +46,27 @@ fn is_marked(h: [u8; 5]) -> bool
     (h[0] == b'B') & (h[1] == b'E') & (h[2] == b'N')
 }
 
-fn version_of(low: u8, high: u8) -> u16
+fn number_of(low: u8, high: u8) -> u16
     ensures { λ r. ⌜ r ≡ low + 256 * high ⌝ }
 {
     low as u16 + 256 * high as u16
+}
+
+fn version_of(p: &[u8]) -> u16
+    requires { ⌜ 5 ≤ length (now p) ⌝ }
+    ensures { λ r. ⌜ r ≡ versionOf (now (p .entry)) ⌝ }
+{
+    let h = header_of(p);
+    number_of(h[3], h[4])
+}
+
+// Where a seat's record begins; behind the last, how long the image is.
+fn place_in(version: u16, k: usize) -> usize
+    requires { ⌜ k ≤ 8 ⌝ }
+    ensures { λ r. ⌜ r ≡ placeIn version k ⌝ }
+{
+    let size = seat_image::length(version);
+    crate::FRONT + size * k
 }
 
 fn header_refusal(p: &[u8]) -> u8
@@ -62,11 +79,11 @@ fn header_refusal(p: &[u8]) -> u8
     if !is_marked(h) {
         return Answer::WRONG_MARK;
     }
-    let version = version_of(h[3], h[4]);
+    let version = version_of(p);
     if !((1 <= version) & (version <= crate::NEWEST)) {
         return Answer::UNKNOWN_VERSION;
     }
-    if p.len() < crate::LENGTH {
+    if p.len() < place_in(version, SEATS) {
         return Answer::NO_ROOM;
     }
     0
@@ -159,15 +176,16 @@ fn lines_of(seats: [Seat; SEATS]) -> u8
 
 // Each seat's record is read from the part that starts at its offset.
 fn records_from(p: &[u8]) -> Records
-    requires { ⌜ 544 ≤ length (now p) ⌝ }
+    requires { ⌜ lengthIn (versionOf (now p)) ≤ length (now p) ⌝ }
     ensures { λ r. ⌜ r ≡ recordsFrom (now (p .entry)) ⌝ }
 {
+    let version = version_of(p);
     let mut seats = [Seat::power_up(); SEATS];
     let mut good = true;
     let mut k: usize = 0;
     while k < SEATS {
-        let place = crate::FRONT + seat_image::LENGTH * k;
-        let found = seat_image::get(&p[place..]);
+        let place = place_in(version, k);
+        let found = seat_image::get(&p[place..], version);
         let seat = found.seat;
         seats[k] = seat;
         good = found.good & good;
@@ -178,7 +196,7 @@ fn records_from(p: &[u8]) -> Records
 
 // The lines are those of the seats just read, and nothing is settled: a restore sets no edge.
 fn body_of(p: &[u8]) -> Body
-    requires { ⌜ 544 ≤ length (now p) ⌝ }
+    requires { ⌜ lengthIn (versionOf (now p)) ≤ length (now p) ⌝ }
     ensures { λ r. ⌜ r ≡ bodyOf (now (p .entry)) ⌝ }
 {
     let records = records_from(p);

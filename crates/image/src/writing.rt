@@ -45,7 +45,7 @@ fn put_front(out: &mut [u8], at: usize, c: Controller)
 
 // "Each seat record goes into its own stretch of the buffer": the part that starts at the seat's offset is lent to the writer of its record.
 fn put_seats(out: &mut [u8], at: usize, seats: [Seat; SEATS])
-    requires { ⌜ at + 528 ≤ length (now out) ⌝ }
+    requires { ⌜ at + 688 ≤ length (now out) ⌝ }
     ensures { λ _. ⌜ now (out .exit) ≡ sets (now (out .entry)) at (recordsOf seatCount seats) ⌝ }
 {
     let mut k: usize = 0;
@@ -57,7 +57,7 @@ fn put_seats(out: &mut [u8], at: usize, seats: [Seat; SEATS])
 }
 
 fn put_image(out: &mut [u8], at: usize, bench: Bench)
-    requires { ⌜ at + 544 ≤ length (now out) ⌝ }
+    requires { ⌜ at + 704 ≤ length (now out) ⌝ }
     ensures { λ _. ⌜ now (out .exit) ≡ sets (now (out .entry)) at (imageOf bench) ⌝ }
 {
     let seats = bench.seats;

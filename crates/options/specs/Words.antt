@@ -1,8 +1,9 @@
 -- The program's words, one after the other, by the words of the program:
 --  1. `--save-at N FILE` asks for an image in FILE behind record N of the listing, or at `start`, or at `end`. It may be given more than once.
 --  2. `--restore FILE` says that the bench starts from the image in FILE. It is given at most once.
---  3. A word that does not begin with `-` is the lesson's name; behind `--` it may begin so. There is at most one.
---  4. They stand in any order. Behind a word that is not understood nothing is read any more.
+--  3. `--tallies` asks for the tallies of all seats at the end. It is given at most once, and no word belongs to it.
+--  4. A word that does not begin with `-` is the lesson's name; behind `--` it may begin so. There is at most one.
+--  5. They stand in any order. Behind a word that is not understood nothing is read any more.
 use Prim.Native.Nat.{ℕ, suc}
 use Prim.Native.Char.{code}
 use Prim.Native.String.{String}
@@ -41,55 +42,65 @@ lesson = 4
 abbrev pub nothing : ℕ
 nothing = 5
 
--- ---- the options
-
--- an option: its word, what the word behind it is, and how many words follow
-pub record Row : Type 0 where
-  pub word : String
-  pub first : ℕ
-  pub follow : ℕ
-
-abbrev pub row : String → ℕ → ℕ → Row
-row word first follow = record { word = word; first = first; follow = follow }
-
-abbrev pub table : List Row
-table =
-    row "--save-at" moment 2
-    ∷ row "--restore" image 1
-    ∷ row "--" lesson 1
-    ∷ []
-
 -- ---- what is read of a word
 
 -- before the first
 abbrev pub noWords : Words
-noWords = record { awaited = option; moment = Unread; lesson = 0; image = 0; wrong = 0 }
+noWords = record { awaited = option; moment = Unread; lesson = 0; image = 0; tallies = 0; wrong = 0 }
 
 abbrev pub awaiting : Words → ℕ → Words
-awaiting s next = record { awaited = next; moment = s .moment; lesson = s .lesson; image = s .image; wrong = s .wrong }
+awaiting s next = record { awaited = next; moment = s .moment; lesson = s .lesson; image = s .image; tallies = s .tallies; wrong = s .wrong }
 
 -- the word at this place is not understood
 abbrev pub stopped : Words → ℕ → Words
-stopped s place = record { awaited = nothing; moment = s .moment; lesson = s .lesson; image = s .image; wrong = place }
+stopped s place = record { awaited = nothing; moment = s .moment; lesson = s .lesson; image = s .image; tallies = s .tallies; wrong = place }
 
 -- the lesson's name, unless there is one
 unfoldable pub withLesson : Words → ℕ → Words
 withLesson s place =
-    pick (eqb (s .lesson) 0) (record { awaited = option; moment = s .moment; lesson = place; image = s .image; wrong = s .wrong }) (stopped s place)
+    pick (eqb (s .lesson) 0) (record { awaited = option; moment = s .moment; lesson = place; image = s .image; tallies = s .tallies; wrong = s .wrong }) (stopped s place)
 
 -- the name of the image, unless there is one
 unfoldable pub withImage : Words → ℕ → Words
 withImage s place =
-    pick (eqb (s .image) 0) (record { awaited = option; moment = s .moment; lesson = s .lesson; image = place; wrong = s .wrong }) (stopped s place)
+    pick (eqb (s .image) 0) (record { awaited = option; moment = s .moment; lesson = s .lesson; image = place; tallies = s .tallies; wrong = s .wrong }) (stopped s place)
+
+-- the tallies, unless they are asked for already
+unfoldable pub withTallies : Words → ℕ → Words
+withTallies s place =
+    pick (eqb (s .tallies) 0) (record { awaited = option; moment = s .moment; lesson = s .lesson; image = s .image; tallies = place; wrong = s .wrong }) (stopped s place)
 
 -- when to save; its file is next
 abbrev pub saving : Words → Moment → Words
-saving s m = record { awaited = file; moment = m; lesson = s .lesson; image = s .image; wrong = s .wrong }
+saving s m = record { awaited = file; moment = m; lesson = s .lesson; image = s .image; tallies = s .tallies; wrong = s .wrong }
 
 abbrev pub withMoment : Words → ℕ → Moment → Words
 withMoment s place (Behind count) = saving s (Behind count)
 withMoment s place End = saving s End
 withMoment s place Unread = stopped s place
+
+-- ---- the options
+
+-- an option: its word, what is read of it, and how many words follow
+pub record Row : Type 0 where
+  pub word : String
+  pub read : Words → ℕ → Words
+  pub follow : ℕ
+
+abbrev pub row : String → (Words → ℕ → Words) → ℕ → Row
+row word read follow = record { word = word; read = read; follow = follow }
+
+-- what the word behind it is
+abbrev pub next : ℕ → Words → ℕ → Words
+next awaited s place = awaiting s awaited
+
+abbrev pub table : List Row
+table =
+    row "--save-at" (next moment) 2
+    ∷ row "--restore" (next image) 1
+    ∷ row "--tallies" withTallies 0
+    ∷ row "--" (next lesson) 1
+    ∷ []
 
 unfoldable pub dashed : List ℕ → Bool
 dashed word = pick (eqb (length word) 0) false (eqb (getD word 0 0) (code "-"))
@@ -97,7 +108,7 @@ dashed word = pick (eqb (length word) 0) false (eqb (getD word 0 0) (code "-"))
 -- an option of these rows, or else a lesson's name
 abbrev pub readBy : List Row → Words → ℕ → List ℕ → Words
 readBy [] s place word = pick (dashed word) (stopped s place) (withLesson s place)
-readBy (r ∷ rows) s place word = pick (is (r .word) word) (awaiting s (r .first)) (readBy rows s place word)
+readBy (r ∷ rows) s place word = pick (is (r .word) word) (r .read s place) (readBy rows s place word)
 
 unfoldable pub optionRead : Words → ℕ → List ℕ → Words
 optionRead s place word = readBy table s place word

@@ -24,12 +24,13 @@ pub enum Due {
 }
 
 // The words as far as they are read: what the next one is, and the moment of the save that was read last. Lesson and image are the places of their
-// names among the words, 0 for none; `wrong` is the place of a word that is not understood.
+// names among the words, tallies the place of the word that asks for them, 0 for none; `wrong` is the place of a word that is not understood.
 pub struct Words {
     pub(crate) awaited: u8,
     pub(crate) moment: Moment,
     pub lesson: usize,
     pub image: usize,
+    pub tallies: usize,
     pub wrong: usize,
 }
 

@@ -4,7 +4,7 @@ use crate::Words;
 use crate::moments;
 use crate::moments::is_word;
 ghost use mathlib.Core.Path.{_≡_};
-ghost use Rattle.options.specs.Words.{noWords, awaiting, stopped, withLesson, withImage, saving, withMoment, dashed, optionRead, wordsAfter, whole};
+ghost use Rattle.options.specs.Words.{noWords, awaiting, stopped, withLesson, withImage, withTallies, saving, withMoment, dashed, optionRead, wordsAfter, whole};
 
 fn is_dashed(word: &[u8]) -> bool
     ensures { λ r. ⌜ r ≡ dashed (now (word .entry)) ⌝ }
@@ -24,6 +24,7 @@ impl Words {
             moment: Moment::Unread,
             lesson: 0,
             image: 0,
+            tallies: 0,
             wrong: 0,
         }
     }
@@ -65,6 +66,17 @@ impl Words {
         self.stopped(place)
     }
 
+    fn with_tallies(mut self, place: usize) -> Words
+        ensures { λ r. ⌜ r ≡ withTallies self place ⌝ }
+    {
+        if self.tallies == 0 {
+            self.awaited = Words::OPTION;
+            self.tallies = place;
+            return self;
+        }
+        self.stopped(place)
+    }
+
     fn saving(self, moment: Moment) -> Words
         ensures { λ r. ⌜ r ≡ saving self moment ⌝ }
     {
@@ -73,6 +85,7 @@ impl Words {
             moment,
             lesson: self.lesson,
             image: self.image,
+            tallies: self.tallies,
             wrong: self.wrong,
         }
     }
@@ -95,6 +108,9 @@ impl Words {
         }
         if is_word(word, b"--restore") {
             return self.awaiting(Words::IMAGE);
+        }
+        if is_word(word, b"--tallies") {
+            return self.with_tallies(place);
         }
         if is_word(word, b"--") {
             return self.awaiting(Words::LESSON);

@@ -54,6 +54,10 @@ bytes = map (λ ch. ch .«data»)
 abbrev pub queued : Side → List ℕ
 queued s = bytes (held s)
 
+-- how many the queue holds
+abbrev pub number : Side → ℕ
+number s = s .receiver .queue .count
+
 -- what an RBR read hands over. Ticket 6: a character with "its marks and how many remain behind it"
 pub record Handed : Type 0 where
   pub character : Character
@@ -90,7 +94,7 @@ reading s resets = []
 
 -- how many an overrun loses: one, where the queue is full
 abbrev pub losing : Side → Moment → ℕ
-losing s (arrives ch) = pick (leb (capacity (s .fifo)) (length (queued s))) 1 0
+losing s (arrives ch) = pick (leb (capacity (s .fifo)) (number s)) 1 0
 losing s rbr = 0
 losing s lsr = 0
 losing s passes = 0
@@ -104,9 +108,9 @@ dropping s (arrives ch) = 0
 dropping s rbr = 0
 dropping s lsr = 0
 dropping s passes = 0
-dropping s empties = length (queued s)
-dropping s changes = length (queued s)
-dropping s resets = length (queued s)
+dropping s empties = number s
+dropping s changes = number s
+dropping s resets = number s
 
 -- ---- of a run
 

@@ -23,9 +23,9 @@ use Rattle.receiver.specs.Receiver.{received, got, lsrSeen, waited, clea
 use Rattle.receiver.specs.CallLaws.{none-queued, some-queued, read-oldest, read-none}
 use Rattle.receiver.specs.Sound.{soundReceiver}
 use Rattle.receiver.specs.SoundLaws.{parts, power-up-sound}
-use Rattle.receiver.specs.Ledger.{Moment, arrives, rbr, lsr, passes, empties, changes, resets, Side, after, afterAll, atPowerUp, held, bytes, queued}
+use Rattle.receiver.specs.Ledger.{Moment, arrives, rbr, lsr, passes, empties, changes, resets, Side, after, afterAll, atPowerUp, held, bytes, queued, number}
 use Rattle.receiver.specs.Ledger.{handed, characters, arriving, reading, losing, dropping, arrivedIn, readIn, lostIn, droppedIn, Ledger}
-use Rattle.receiver.specs.SideLaws.{tidy, tidy-after}
+use Rattle.receiver.specs.SideLaws.{tidy, tidy-after, all-tidy}
 use Rattle.receiver.specs.Letters.{Followed, fresh, asTold, waitingIn, Leaving, leavingIn, arrivedAs, handedAs}
 use Rattle.receiver.specs.LetterLaws.{letters}
 
@@ -73,7 +73,7 @@ held-count l = ap length (held-bytes l) ∙ byte-count l
 
 -- how many an arrival loses that finds this list
 abbrev lostFrom : Bool → List Character → ℕ
-lostFrom fifo l = pick (leb (capacity fifo) (length (bytes l))) 1 0
+lostFrom fifo l = pick (leb (capacity fifo) (length l)) 1 0
 
 -- what an acceptance leaves of those held and the new one, and how many go
 abbrev Accounted : Bool → List Character → Put → Type 0
@@ -83,16 +83,19 @@ accounted : (fifo : Bool) (l : List Character) (ch : Character) → length l ≤
 accounted fifo l ch within =
     let n = byte-count l in
     let full : capacity fifo ≤ length l → lostFrom fifo l ≡ 1
-    = λ (more : capacity fifo ≤ length l). pick-true _ _ _ (le-leb (capacity fifo) (length (bytes l)) (omega (arith, n))) in
+    = λ (more : capacity fifo ≤ length l). pick-true _ _ _ (le-leb (capacity fifo) (length l) more) in
     accept-cases fifo l ch (Accounted fifo l) within
     (λ (less : length l < capacity fifo).
-    let room : lostFrom fifo l ≡ 0 = pick-false _ _ _ (lt-leb (capacity fifo) (length (bytes l)) (omega (arith, n))) in
+    let room : lostFrom fifo l ≡ 0 = pick-false _ _ _ (lt-leb (capacity fifo) (length l) less) in
     omega (arith, n, room, held-count (l ++ (ch ∷ [])), length-append l (ch ∷ [])))
     (λ (more : capacity fifo ≤ length l) mode. omega (arith, n, full more, held-count l))
     (λ old (more : capacity fifo ≤ length l) mode (one : l ≡ old ∷ []). omega (arith, n, full more, held-count (ch ∷ []), ap length one))
 
 held-queued : (s : Side) (l : List Character) → s .receiver .queue ≡ holding l → queued s ≡ bytes l
 held-queued s l held = ap (λ (q : Queue). bytes (contents q)) held ∙ held-bytes l
+
+held-number : (s : Side) (l : List Character) → s .receiver .queue ≡ holding l → number s ≡ length (bytes l)
+held-number s l held = ap (λ (q : Queue). q .count) held ∙ sym (byte-count l)
 
 bytes-unmarked : (l : List Character) → bytes (contents (unmarked (holding l))) ≡ bytes l
 bytes-unmarked [] = ap (λ (q : Queue). bytes (contents q)) unmark-none
@@ -104,7 +107,7 @@ entry-arrives s l ch within held =
     let left : queued (after s (arrives ch)) ≡ bytes (contents (accepted (s .fifo) (holding l) ch .queue))
     = ap (λ (q : Queue). bytes (contents (accepted (s .fifo) q ch .queue))) held in
     let lost : losing s (arrives ch) ≡ lostFrom (s .fifo) l
-    = ap (λ (k : List ℕ). pick (leb (capacity (s .fifo)) (length k)) 1 0) (held-queued s l held) in
+    = ap (λ (q : Queue). pick (leb (capacity (s .fifo)) (q .count)) 1 0) held in
     omega (arith, accounted (s .fifo) l ch within, lost, ap length left)
 
 entry-rbr : (s : Side) (l : List Character) → length l ≤ 16 → s .receiver .queue ≡ holding l → Entry s rbr l
@@ -140,9 +143,9 @@ entry s lsr l within fits held =
     ∙ ap₂ (pick (s .fifo)) (ap (λ (q : Queue). bytes (contents (unmarked q))) held ∙ bytes-unmarked l) (held-queued s l held)
     ∙ pick-same (s .fifo) (bytes l))
 entry s passes l within fits held = entry-stays s passes l refl refl refl refl (held-queued s l held)
-entry s empties l within fits held = entry-drops s empties l refl refl refl (ap length (held-queued s l held)) refl
-entry s changes l within fits held = entry-drops s changes l refl refl refl (ap length (held-queued s l held)) refl
-entry s resets l within fits held = entry-drops s resets l refl refl refl (ap length (held-queued s l held)) refl
+entry s empties l within fits held = entry-drops s empties l refl refl refl (held-number s l held) refl
+entry s changes l within fits held = entry-drops s changes l refl refl refl (held-number s l held) refl
+entry s resets l within fits held = entry-drops s resets l refl refl refl (held-number s l held) refl
 
 -- ---- a run
 
@@ -161,6 +164,18 @@ run-balanced s (m ∷ ms) t =
 pub ledger : (s : Side) (ms : List Moment) → soundReceiver (s .fifo) (s .receiver) ≡ true → Ledger s ms
 ledger s ms sound =
     record { in-order = run-in-order s ms sound; balanced = run-balanced s ms (parts (s .fifo) (s .receiver) sound .tidy) }
+
+-- in the queue's own number, which is how many it holds
+number-held : (s : Side) → tidy s ≡ true → length (queued s) ≡ number s
+number-held s t =
+    let h = holds (capacity (s .fifo)) (s .receiver .queue) t in
+    ap length (held-queued s (h .list) (h .same)) ∙ sym (held-number s (h .list) (h .same))
+
+pub balanced-number : (s : Side) (ms : List Moment) → soundReceiver (s .fifo) (s .receiver) ≡ true
+    → length (arrivedIn ms) + number s ≡ length (readIn s ms) + lostIn s ms + droppedIn s ms + number (afterAll s ms)
+balanced-number s ms sound =
+    let t = parts (s .fifo) (s .receiver) sound .tidy in
+    omega (arith, run-balanced s ms t, number-held s t, number-held (afterAll s ms) (all-tidy s ms t))
 
 -- from power-up, where nothing is queued: what is read and what still waits came in that order, and what arrived was read, lost or dropped, or waits
 pub ledger-from-power-up : (ms : List Moment)

@@ -1,7 +1,9 @@
 -- A receive side over a run: its queue stays as the bench keeps it, and a run and then another are one run.
+use Prim.Native.Nat.{ℕ, _+_}
 use mathlib.Core.Bool.{Bool, true, false, not}
 use mathlib.Core.List.{List, [], _∷_, _++_, append-assoc}
 use mathlib.Core.Path.{_≡_, refl, ap, ap₂, sym, _∙_}
+use native.Mathlib.Omega.{arith}
 use Rattle.base.specs.Pick.{pick}
 use Rattle.base.specs.PickLaws.{pick-through, pick-same}
 use Rattle.queue.specs.declared.Character.{Character}
@@ -10,7 +12,7 @@ use Rattle.queue.specs.AcceptLaws.{facts-of, kept-accepting}
 use Rattle.receiver.specs.declared.Got.{Got}
 use Rattle.receiver.specs.Receiver.{noneQueued, received, got, lsrSeen, waited, cleared, afterModeChange, restarted}
 use Rattle.receiver.specs.Ledger.{Moment, arrives, rbr, lsr, passes, empties, changes, resets, Side, after, afterAll}
-use Rattle.receiver.specs.Ledger.{Handed, arriving, reading, arrivedIn, readIn}
+use Rattle.receiver.specs.Ledger.{Handed, arriving, reading, losing, dropping, arrivedIn, readIn, lostIn, droppedIn}
 
 -- its queue is as the bench keeps it
 abbrev pub tidy : Side → Bool
@@ -53,3 +55,23 @@ read-both s [] ns = refl
 read-both s (m ∷ ms) ns =
     ap (λ (l : List Handed). reading s m ++ l) (read-both (after s m) ms ns)
     ∙ sym (append-assoc (reading s m) (readIn (after s m) ms) (readIn (afterAll (after s m) ms) ns))
+
+-- what is counted moment by moment
+module _ (one : Side → Moment → ℕ) (count : Side → List Moment → ℕ)
+    (none : (s : Side) → count s [] ≡ 0) (more : (s : Side) (m : Moment) (ms : List Moment) → count s (m ∷ ms) ≡ one s m + count (after s m) ms) where
+  counted-both : (s : Side) (ms ns : List Moment) → count s (ms ++ ns) ≡ count s ms + count (afterAll s ms) ns
+  unfolding afterAll
+  counted-both s [] ns = let e = none s in omega (arith, e)
+  counted-both s (m ∷ ms) ns =
+      let e = counted-both (after s m) ms ns in
+      let here = more s m ms in
+      let both = more s m (ms ++ ns) in
+      omega (arith, e, here, both)
+
+pub lost-both : (s : Side) (ms ns : List Moment) → lostIn s (ms ++ ns) ≡ lostIn s ms + lostIn (afterAll s ms) ns
+unfolding lostIn
+lost-both = counted-both losing lostIn (λ s. refl) (λ s m ms. refl)
+
+pub dropped-both : (s : Side) (ms ns : List Moment) → droppedIn s (ms ++ ns) ≡ droppedIn s ms + droppedIn (afterAll s ms) ns
+unfolding droppedIn
+dropped-both = counted-both dropping droppedIn (λ s. refl) (λ s m ms. refl)

@@ -10,6 +10,7 @@ use Rattle.base.specs.Bits.{digit}
 use Rattle.base.specs.Answers.{refusalOf}
 use Rattle.queue.specs.Queue as queue
 use Rattle.receiver.specs.Receiver as receiver
+use Rattle.receiver.specs.Ledger as ledger
 use Rattle.transmitter.specs.Transmitter as transmitter
 use Rattle.registers.specs.Registers as registers
 use Rattle.registers.specs.Words as settings
@@ -19,8 +20,10 @@ use Rattle.registers.specs.Refusals as settled-by
 use Rattle.status.specs.Status as status
 use Rattle.channel.specs.Status as channel-status
 use Rattle.channel.specs.Effects as effects
+use Rattle.channel.specs.Moments as moments
 use Rattle.channel.specs.Steps as channel
 use Rattle.seat.specs.declared.Seat.{Seat}
+use Rattle.seat.specs.Tallies as tallies
 use Rattle.seat.specs.Seats as seats
 use Rattle.seat.specs.Steps as seat
 use Rattle.rank.specs.Sets as sets
@@ -44,7 +47,7 @@ runOn s c (r ∷ rs) = parted s c r ∷ runOn (parted s c r .seat) (parted s c r
 
 -- the same from power-up; it opens what a run computes with
 unfoldable pub run : List Record → List Touched
-unfolding base-pick.pick base-bits.bit base-bits.digit base-answers.refusalOf base-answers.valueOf base-refusals.firstOf base-refusals.refusalBy queue.oldest queue.anyMarked queue.marked receiver.noneQueued receiver.shownMarks receiver.someMarked receiver.dataStands receiver.timeoutStands transmitter.noneWaiting transmitter.allSent transmitter.flagSetIf transmitter.enabled settings.trigger registers.plainRegister registers.registerAt modem.changesAfter modem.someChange loopback.inputsOf status.lsrOf status.lineTrouble status.causes status.firstCause status.causeOf status.iirOf status.lineOf channel-status.lsr channel-status.msr channel-status.cause channel-status.iir channel-status.line effects.iirRead effects.answerAt effects.afterRead effects.ierWritten effects.noticed effects.mcrWritten effects.afterWrite settled-by.grounds channel.effect seat.refusal seat.effect seat.stepped rank.before rank.aboveEvery rank.find rank.firstPlace sets.withLine turns.settled turns.requests turns.asks turns.hinders turns.grantable turns.outputOf turns.found turns.granted turns.taken turns.grant turns.acknowledged words.icw1 words.icw2 words.icw4 words.ended words.served words.plainEnd words.command words.ocw2 words.written0 words.written1 words.written words.shown refusing.grounds refusing.refusal controller.step events.early events.eventOf events.decoded parts.touched parts.metParts parts.dealtParts
+unfolding base-pick.pick base-bits.bit base-bits.digit base-answers.refusalOf base-answers.valueOf base-refusals.firstOf base-refusals.refusalBy queue.oldest queue.anyMarked queue.marked receiver.noneQueued receiver.shownMarks receiver.someMarked receiver.dataStands receiver.timeoutStands transmitter.noneWaiting transmitter.allSent transmitter.flagSetIf transmitter.enabled settings.trigger registers.plainRegister registers.registerAt modem.changesAfter modem.someChange loopback.inputsOf status.lsrOf status.lineTrouble status.causes status.firstCause status.causeOf status.iirOf status.lineOf channel-status.lsr channel-status.msr channel-status.cause channel-status.iir channel-status.line effects.iirRead effects.answerAt effects.afterRead effects.ierWritten effects.noticed effects.mcrWritten effects.afterWrite settled-by.grounds channel.effect seat.refusal seat.effect seat.stepped rank.before rank.aboveEvery rank.find rank.firstPlace sets.withLine turns.settled turns.requests turns.asks turns.hinders turns.grantable turns.outputOf turns.found turns.granted turns.taken turns.grant turns.acknowledged words.icw1 words.icw2 words.icw4 words.ended words.served words.plainEnd words.command words.ocw2 words.written0 words.written1 words.written words.shown refusing.grounds refusing.refusal controller.step events.early events.eventOf events.decoded parts.touched parts.metParts parts.dealtParts ledger.arrivedIn moments.acceptedMoments moments.readMoments moments.writeMoments tallies.tallied
 run rs = runOn seats.powerUp state.powerUp rs
 
 -- what each of them shows: its refusal number, and the output after it

@@ -5,10 +5,10 @@ use mathlib.Core.List.{List, [], _∷_}
 use mathlib.Core.Path.{_≡_}
 use Rattle.receiver.specs.Lasting as side
 use Rattle.registers.specs.declared.SeatEvent.the-variants.{Arrival}
-use Rattle.registers.specs.Refusals.{refusal}
 use Rattle.channel.specs.Parts.{inLoopback}
 use Rattle.channel_laws.specs.Lasting.{endingEvent}
 use Rattle.seat.specs.declared.Seat.{Seat}
+use Rattle.seat.specs.Steps.{refusal}
 use Rattle.seat.specs.Acts.{Act, event, resets, acted, actedAll}
 use Rattle.seat.specs.Receiving as receiving
 
@@ -34,5 +34,5 @@ pub record Lasting (s : Seat) (acts : List Act) : Type 0 where
   pub ends : (a : Act) → ending (actedAll s acts) a ≡ true → timeoutCount (acted (actedAll s acts) a) ≡ 0
   -- ticket 5: it "sets a smaller one to 0", a count below 4, where it is not refused, and the seat is not in loopback
   pub set-back : (marks byte : ℕ) → inLoopback (actedAll s acts .channel) ≡ false
-      → refusal (actedAll s acts .channel .settings) (Arrival marks byte) ≡ 0 → timeoutCount (actedAll s acts) < 4
+      → refusal (actedAll s acts) (Arrival marks byte) ≡ 0 → timeoutCount (actedAll s acts) < 4
       → timeoutCount (acted (actedAll s acts) (event (Arrival marks byte))) ≡ 0

@@ -1,11 +1,17 @@
+pub mod Tallies
 pub mod Seats
 pub mod Steps
 pub mod Acts
 pub mod Sound
 pub mod Receiving
+pub mod Counts
 pub mod StepLaws
+pub mod CountLaws
 pub mod ActLaws
+pub mod TallyLaws
 pub mod SoundLaws
+pub mod Moves
+pub mod MoveLaws
 pub mod ReceivingLaws
 pub mod Lasting
 pub mod LastingLaws

@@ -2,6 +2,8 @@
 use Prim.Native.Nat.{suc}
 use mathlib.Core.Bool.{Bool}
 use mathlib.Core.List.{List, [], _∷_, _++_}
+use lib.Dec.{eqb}
+use Rattle.base.specs.Pick.{pick}
 use Rattle.receiver.specs.Ledger.{Moment, Side}
 use Rattle.receiver.specs.Ledger as moment
 use Rattle.receiver.specs.Sound.{soundReceiver}
@@ -10,15 +12,16 @@ use Rattle.channel.specs.Parts.{withReceiver}
 use Rattle.channel.specs.Moments as channel
 use Rattle.seat.specs.declared.Seat.{Seat}
 use Rattle.seat.specs.Seats.{withChannel}
+use Rattle.seat.specs.Steps.{refusal}
 use Rattle.seat.specs.Acts.{Act, event, resets, acted}
 
 -- the receive side of its channel, with its mode
 abbrev pub side : Seat → Side
 side s = channel.side (s .channel)
 
--- what an event on the seat is to that side
+-- what an event on the seat is to that side; "The answer of every refusal is FFF and nothing changes."
 abbrev pub momentsOf : Seat → SeatEvent → List Moment
-momentsOf s e = channel.momentsOf (s .channel) e
+momentsOf s e = pick (eqb (refusal s e) 0) (channel.acceptedMoments (s .channel) e) []
 
 -- and what any act is
 abbrev pub befallsBy : Seat → Act → List Moment

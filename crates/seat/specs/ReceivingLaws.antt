@@ -1,24 +1,34 @@
 -- The receive side of a seat after what befell it; an RBR read is answered with the character that it takes; and power-up.
-use mathlib.Core.Bool.{true}
+use mathlib.Core.Bool.{true, false}
 use mathlib.Core.List.{List, [], _∷_}
 use mathlib.Core.Path.{_≡_, refl, ap, sym, subst, _∙_}
-use Rattle.receiver.specs.Ledger.{Side, afterAll, readIn, queued}
+use mathlib.Core.Logic.{⊎-elim}
+use lib.Dec.{eqb}
+use Rattle.base.specs.PickLaws.{pick-true, pick-false, either-way}
+use Rattle.receiver.specs.Ledger.{Moment, Side, afterAll, readIn, queued}
 use Rattle.receiver.specs.SideLaws.{after-both}
 use Rattle.receiver.specs.SoundLaws as receiver
 use Rattle.registers.specs.declared.SeatEvent.{SeatEvent}
-use Rattle.channel.specs.Moments.{toldIn}
+use Rattle.channel.specs.Moments.{acceptedMoments, toldIn}
 use Rattle.channel_laws.specs.MomentLaws as channel
 use Rattle.seat.specs.declared.Seat.{Seat}
 use Rattle.seat.specs.declared.Replied.{Replied}
-use Rattle.seat.specs.Seats.{powerUp, reset}
-use Rattle.seat.specs.Steps.{stepped}
-use Rattle.seat.specs.StepLaws.{by-channel}
+use Rattle.seat.specs.Seats.{powerUp}
+use Rattle.seat.specs.Steps.{refusal, effect, stepped}
+use Rattle.seat.specs.StepLaws.{step-taken, step-refused}
 use Rattle.seat.specs.Acts.{Act, event, resets, acted, actedAll}
 use Rattle.seat.specs.Receiving.{side, momentsOf, befallsBy, befalling, receivesSoundly}
 
 -- the side after an event is the side after the moments of the event
 pub step-side : (s : Seat) (e : SeatEvent) → side (stepped s e .seat) ≡ afterAll (side s) (momentsOf s e)
-step-side s e = ap (λ (t : Replied). side (t .seat)) (sym (by-channel s e)) ∙ channel.step-side (s .channel) e
+unfolding effect afterAll
+step-side s e =
+    ⊎-elim
+    (λ (none : eqb (refusal s e) 0 ≡ true).
+    ap (λ (t : Replied). side (t .seat)) (step-taken s e none) ∙ channel.effect-side (s .channel) e ∙ ap (afterAll (side s)) (sym (pick-true _ _ _ none)))
+    (λ (some : eqb (refusal s e) 0 ≡ false).
+    ap (λ (t : Replied). side (t .seat)) (step-refused s e some) ∙ ap (afterAll (side s)) (sym (pick-false _ (acceptedMoments (s .channel) e) [] some)))
+    (either-way (eqb (refusal s e) 0))
 
 pub acted-side : (s : Seat) (a : Act) → side (acted s a) ≡ afterAll (side s) (befallsBy s a)
 acted-side s (event e) = step-side s e
@@ -34,9 +44,17 @@ acts-side s (a ∷ rest) =
 
 -- what the answer tells is what is read
 pub step-told : (s : Seat) (e : SeatEvent) → toldIn (side s) (stepped s e .answer) (momentsOf s e) ≡ readIn (side s) (momentsOf s e)
+unfolding effect toldIn readIn
 step-told s e =
-    subst (λ (t : Replied). toldIn (side s) (t .answer) (momentsOf s e) ≡ readIn (side s) (momentsOf s e)) (by-channel s e)
-    (channel.step-told (s .channel) e)
+    ⊎-elim
+    (λ (none : eqb (refusal s e) 0 ≡ true).
+    subst (λ (ms : List Moment). toldIn (side s) (stepped s e .answer) ms ≡ readIn (side s) ms) (sym (pick-true _ _ _ none))
+    (subst (λ (t : Replied). toldIn (side s) (t .answer) (acceptedMoments (s .channel) e) ≡ readIn (side s) (acceptedMoments (s .channel) e))
+    (sym (step-taken s e none)) (channel.effect-told (s .channel) e)))
+    (λ (some : eqb (refusal s e) 0 ≡ false).
+    subst (λ (ms : List Moment). toldIn (side s) (stepped s e .answer) ms ≡ readIn (side s) ms)
+    (sym (pick-false _ (acceptedMoments (s .channel) e) [] some)) refl)
+    (either-way (eqb (refusal s e) 0))
 
 -- ---- at power-up nothing is queued, and the side is sound
 

@@ -1,13 +1,35 @@
-// One seat of the bench: a channel, and room for what will stand beside it. The rooms above deal in seats and open none.
+// One seat of the bench: a channel, and beside it the tallies of what it received. The rooms above deal in seats and open none.
 use base::Answer;
 use channel::Channel;
-use registers::SeatEvent;
+
+mod counting;
+mod events;
+
 ghost use mathlib.Core.Path.{_≡_};
-ghost use Rattle.seat.specs.Seats.{powerUp, reset, line};
-ghost use Rattle.seat.specs.Steps.{stepped};
+ghost use Rattle.seat.specs.Seats.{powerUp, reset, line, five};
+
+// "five 32-bit tallies of received characters since power-up"
+#[repr(C)]
+pub struct Tallies {
+    pub arrived: u32,
+    pub read: u32,
+    pub lost: u32,
+    pub dropped: u32,
+}
+
+// All five, as they are handed out.
+#[repr(C)]
+pub struct Five {
+    pub arrived: u32,
+    pub read: u32,
+    pub lost: u32,
+    pub dropped: u32,
+    pub queued: u32,
+}
 
 #[repr(C)]
 pub struct Seat {
+    pub tallies: Tallies,
     pub channel: Channel,
 }
 
@@ -22,13 +44,21 @@ impl Seat {
         ensures { λ r. ⌜ r ≡ powerUp ⌝ }
     {
         Seat {
+            tallies: Tallies {
+                arrived: 0,
+                read: 0,
+                lost: 0,
+                dropped: 0,
+            },
             channel: Channel::power_up(),
         }
     }
 
+    // What was queued is dropped.
     pub fn reset(mut self) -> Seat
         ensures { λ r. ⌜ r ≡ reset self ⌝ }
     {
+        self.tallies = self.tallies.dropped_more(self.channel.receiver.queue.count);
         self.channel = self.channel.master_reset();
         self
     }
@@ -39,17 +69,15 @@ impl Seat {
         self.channel.line()
     }
 
-    // The channel is lent to its step, which gives it back as it was where it refuses.
-    pub fn step(self, e: SeatEvent) -> Replied
-        ensures { λ r. ⌜ r ≡ stepped self e ⌝ }
+    pub fn five(self) -> Five
+        ensures { λ r. ⌜ r ≡ five self ⌝ }
     {
-        let held = self.channel;
-        let stepped = lending::lent(held, e);
-        let next = stepped.channel;
-        let answer = stepped.answer;
-        Replied {
-            seat: Seat { channel: next },
-            answer,
+        Five {
+            arrived: self.tallies.arrived,
+            read: self.tallies.read,
+            lost: self.tallies.lost,
+            dropped: self.tallies.dropped,
+            queued: self.channel.receiver.queue.count as u32,
         }
     }
 }

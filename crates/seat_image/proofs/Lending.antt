@@ -1,21 +1,19 @@
 -- What a call leaves of the part that it is lent.
-use Prim.Native.Nat.{ℕ, _+_, _<_, _≤_}
-use mathlib.Core.Bool.{Bool, _&&_}
+use Prim.Native.Nat.{ℕ, _+_, _≤_}
+use mathlib.Core.Bool.{Bool}
 use mathlib.Core.List.{List, _++_}
 use mathlib.Core.Path.{_≡_, ap, _∙_}
 use native.Mathlib.Nat.{zero-add}
 use native.Mathlib.Omega.{arith}
-use lib.Dec.{leb}
 use lib.ListN.{length, take, drop}
 use lib.Seq.{sets-eq, take-at, drop-at}
 use borrow.Author.Tests.{le-leb, lt-leb}
 use Rattle.base.specs.PickLaws.{pick-true, pick-false}
 use Rattle.seat.specs.declared.Seat.{Seat}
-use Rattle.seat_image.specs.Places.{recordLength}
-use Rattle.seat_image.specs.Read.{recordGood, found}
+use Rattle.seat_image.specs.BackLaws.{record-length}
+use Rattle.seat_image.specs.ReadLaws.{found-short}
 use Rattle.seat_image.specs.ThereAndBack.{Lent}
-use Rattle.seat_image.specs.Written.{recordOf, Put}
-use Rattle.seat_image.specs.WrittenLaws.{record-length}
+use Rattle.seat_image.specs.Written.{recordLength, recordOf, Put}
 
 stored : (s : Seat) (l l′ : List ℕ) (r : Bool) → Put s l l′ r → recordLength ≤ length l → l′ ≡ recordOf s ++ drop recordLength l
 stored s l l′ r p fits =
@@ -23,7 +21,6 @@ stored s l l′ r p fits =
     ∙ ap (λ (n : ℕ). recordOf s ++ drop n l) (zero-add (length (recordOf s)) ∙ record-length s)
 
 pub lent : Lent
-unfolding found
 lent =
     record {
       room = λ s l l′ r p fits.
@@ -35,5 +32,5 @@ lent =
             ),
           );
       none = λ s l l′ r p short. (p .answer ∙ lt-leb _ _ short, p .bytes ∙ pick-false _ _ _ (lt-leb _ _ short));
-      short = λ l short. pick-false _ _ _ (ap (λ (b : Bool). b && recordGood (take recordLength l)) (lt-leb recordLength (length l) short));
+      short = found-short;
     }

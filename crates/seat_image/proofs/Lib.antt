@@ -1,4 +1,5 @@
 pub mod Telling
+pub mod Older
 pub mod Lending
 pub mod Statements
 pub mod Slips

@@ -5,10 +5,18 @@ use Rattle.base.specs.Bits.{bit, digit, bits}
 use Rattle.base.specs.Pick.{pick}
 use Rattle.queue.specs.Queue.{capacity}
 use Rattle.registers.specs.Registers.{fcrKept}
-use Rattle.seat_image.specs.Allowed.{sixteenSmall, registersInRange, flagsInRange, marksInRange, queuesWithin, countAllowed, unusedZero, channelGood}
-use Rattle.seat_image.specs.Read.{recordGood}
+use Rattle.channel_image.specs.Allowed.{sixteenSmall, registersInRange, flagsInRange, marksInRange, queuesWithin, countAllowed, unusedZero, channelGood}
+use Rattle.seat.specs.Tallies.{addUp}
+use Rattle.seat_image.specs.Read.{talliesIn, talliesFrom, talliesGood, recordGood}
+use Rattle.seat_image.specs.Words.{wordBytes, wordAt}
+use Rattle.seat_image.specs.Written.{tallyBytes}
 
--- `exactly` (`counted-queued`): FIFO mode, a time-out count of 4, and nothing received
-nothing-waits : digit (recordGood (set (set (replicate 66 0) 1 0x01) 13 4)) ≡ 0
-unfolding recordGood channelGood registersInRange flagsInRange marksInRange queuesWithin countAllowed unusedZero sixteenSmall fcrKept capacity bits digit bit pick
-nothing-waits = refl
+-- `older` (`read`): a record of version 1 with one character received
+one-queued-one-arrived : talliesFrom (talliesIn 1 (set (replicate 66 0) 33 1) 1) .arrived ≡ 1
+unfolding talliesIn talliesFrom tallyBytes wordBytes wordAt pick
+one-queued-one-arrived = refl
+
+-- `exactly` (`queued`): one arrived and is said to be queued, and the queue is empty
+none-queued : digit (recordGood (set (set (replicate 86 0) 66 1) 82 1)) ≡ 0
+unfolding recordGood talliesGood talliesFrom wordAt addUp channelGood registersInRange flagsInRange marksInRange queuesWithin countAllowed unusedZero sixteenSmall fcrKept capacity bits digit bit pick
+none-queued = refl

@@ -1,61 +1,40 @@
 -- Each byte of a record, as it is told.
-use Prim.Native.Nat.{ℕ, _+_, _<_}
-use mathlib.Core.List.{List}
-use mathlib.Core.Path.{_≡_, refl, ap, sym, _∙_}
-use lib.ListN.{getD}
-use borrow.Author.Tests.{lt-ltb, le-ltb}
-use Rattle.base.specs.ListLaws.{listed, listed-at}
-use Rattle.base.specs.PickLaws.{pick-true, pick-false}
-use Rattle.seat.specs.declared.Seat.{Seat}
-use Rattle.seat_image.specs.Fields.{byteAt}
+use mathlib.Core.Path.{refl}
+use lib.Seq.{take-at}
+use Rattle.channel_image.proofs.Telling as channel
+use Rattle.channel_image.specs.Written.{frontBytes, channelBytes}
+use Rattle.channel_image.specs.WrittenLaws.{channel-length}
+use Rattle.seat.specs.Seats.{queued}
+use Rattle.seat_image.specs.BackLaws.{record-length}
 use Rattle.seat_image.specs.Told.{Told}
-use Rattle.seat_image.specs.Written.{queuedByte, frontBytes, channelBytes, recordOf}
-
--- two functions with the same sixteen values
-agree : (f g : ℕ → ℕ) → listed 16 f ≡ listed 16 g → (k : ℕ) → k < 16 → f k ≡ g k
-agree f g same k below = sym (listed-at 16 f k 0 below) ∙ ap (λ (l : List ℕ). getD l k 0) same ∙ listed-at 16 g k 0 below
-
-module _ (s : Seat) (k : ℕ) (below : k < 16) where
-  outgoing : byteAt (recordOf s) (17 + k) ≡ queuedByte (λ ch. ch .«data») (s .channel .transmitter .queue) k
-  unfolding recordOf channelBytes frontBytes
-  outgoing = agree (λ k. byteAt (recordOf s) (17 + k)) (queuedByte (λ ch. ch .«data») (s .channel .transmitter .queue)) refl k below
-
-  arrived : byteAt (recordOf s) (34 + k) ≡ queuedByte (λ ch. ch .«data») (s .channel .receiver .queue) k
-  unfolding recordOf channelBytes frontBytes
-  arrived = agree (λ k. byteAt (recordOf s) (34 + k)) (queuedByte (λ ch. ch .«data») (s .channel .receiver .queue)) refl k below
-
-  marks : byteAt (recordOf s) (50 + k) ≡ queuedByte (λ ch. ch .marks) (s .channel .receiver .queue) k
-  unfolding recordOf channelBytes frontBytes
-  marks = agree (λ k. byteAt (recordOf s) (50 + k)) (queuedByte (λ ch. ch .marks) (s .channel .receiver .queue)) refl k below
+use Rattle.seat_image.specs.Words.{wordBytes}
+use Rattle.seat_image.specs.Written.{tallyBytes, recordOf}
 
 pub told : Told
-unfolding recordOf channelBytes frontBytes
+unfolding recordOf channelBytes frontBytes tallyBytes wordBytes
 told s =
     record {
-      length-66 = refl;
-      ier-0 = refl;
-      fcr-1 = refl;
-      lcr-2 = refl;
-      mcr-3 = refl;
-      changes-4 = refl;
-      scratch-5 = refl;
-      levels-6 = refl;
-      dll-7 = refl;
-      dlm-8 = refl;
-      last-9 = refl;
-      overrun-10 = refl;
-      kept-11 = refl;
-      flag-12 = refl;
-      timeout-13 = refl;
-      busy-14 = refl;
-      shift-15 = λ holds. pick-true _ _ _ holds;
-      idle-15 = λ none. pick-false _ _ _ none;
-      waiting-16 = refl;
-      received-33 = refl;
-      outgoing-17 = λ k below queued. outgoing s k below ∙ pick-true _ _ _ (lt-ltb _ _ queued);
-      arrived-34 = λ k below queued. arrived s k below ∙ pick-true _ _ _ (lt-ltb _ _ queued);
-      marks-50 = λ k below queued. marks s k below ∙ pick-true _ _ _ (lt-ltb _ _ queued);
-      unsent-17 = λ k below past. outgoing s k below ∙ pick-false _ _ _ (le-ltb _ _ past);
-      unreceived-34 = λ k below past. arrived s k below ∙ pick-false _ _ _ (le-ltb _ _ past);
-      unmarked-50 = λ k below past. marks s k below ∙ pick-false _ _ _ (le-ltb _ _ past);
+      length-86 = record-length s;
+      channel-0 = take-at (channelBytes (s .channel)) (tallyBytes (s .tallies) (queued s)) 66 (channel-length (s .channel));
+      channel = channel.told (s .channel);
+      arrived-66 = refl;
+      arrived-67 = refl;
+      arrived-68 = refl;
+      arrived-69 = refl;
+      read-70 = refl;
+      read-71 = refl;
+      read-72 = refl;
+      read-73 = refl;
+      lost-74 = refl;
+      lost-75 = refl;
+      lost-76 = refl;
+      lost-77 = refl;
+      dropped-78 = refl;
+      dropped-79 = refl;
+      dropped-80 = refl;
+      dropped-81 = refl;
+      queued-82 = refl;
+      queued-83 = refl;
+      queued-84 = refl;
+      queued-85 = refl;
     }

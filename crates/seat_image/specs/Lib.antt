@@ -1,12 +1,11 @@
-pub mod Places
+pub mod Words
 pub mod Written
-pub mod Allowed
 pub mod Read
 pub mod Fields
 pub mod Told
 pub mod ThereAndBack
 pub mod Statements
-pub mod SlotLaws
-pub mod WrittenLaws
-pub mod FieldLaws
+pub mod WordLaws
 pub mod ReadLaws
+pub mod FieldLaws
+pub mod BackLaws

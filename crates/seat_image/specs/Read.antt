@@ -1,92 +1,76 @@
--- The seat that a record says.
-use Prim.Native.Nat.{ℕ, _+_}
+-- The seat that a record says, in each version.
+use Prim.Native.Nat.{ℕ}
 use mathlib.Core.Bool.{Bool, true, false, _&&_}
-use mathlib.Core.List.{List}
-use lib.ListN.{take, replicate}
-use Rattle.base.specs.ListLaws.{listed}
+use mathlib.Core.List.{List, _++_}
+use lib.Dec.{eqb, leb}
+use lib.ListN.{length, take, drop}
 use Rattle.base.specs.Pick.{pick}
-use Rattle.channel.specs.declared.Channel.{Channel}
-use Rattle.queue.specs.declared.Character.{Character}
-use Rattle.receiver.specs.declared.Receiver.{Receiver}
-use Rattle.registers.specs.declared.Settings.{Settings}
+use Rattle.channel_image.specs.Allowed.{channelGood}
+use Rattle.channel_image.specs.Places.{at, channelLength, Received}
+use Rattle.channel_image.specs.Read.{channelFrom}
 use Rattle.seat.specs.declared.Seat.{Seat}
+use Rattle.seat.specs.declared.Tallies.{Tallies}
 use Rattle.seat.specs.Seats.{powerUp}
-use Rattle.transmitter.specs.declared.Transmitter.{Transmitter}
+use Rattle.seat.specs.Tallies.{addUp}
 use Rattle.seat_image.specs.declared.Found.{Found}
-use Rattle.seat_image.specs.Allowed.{channelGood}
-use Rattle.seat_image.specs.Places.{recordLength, at, yesAt, Ier, Fcr, Lcr, Mcr, Changes, Scratch, Levels, Dll, Dlm, Last, Overrun, Kept, Flag}
-use Rattle.seat_image.specs.Places.{Timeout, Busy, Shift, Waiting, Outgoing, Received, Arrived, Marks}
-use Rattle.seat_image.specs.Written.{hasRoom}
+use Rattle.seat_image.specs.Words.{wordAt}
+use Rattle.seat_image.specs.Written.{recordLength, tallyBytes}
 
--- the registers
-abbrev pub settingsFrom : List ℕ → Settings
-settingsFrom l =
-    record {
-      ier = at l Ier;
-      fcr = at l Fcr;
-      lcr = at l Lcr;
-      mcr = at l Mcr;
-      scratch = at l Scratch;
-      dll = at l Dll;
-      dlm = at l Dlm;
-    }
+-- ---- by the version
 
--- character k of those whose data stand from one place on, and their marks from another
-abbrev pub characterAt : List ℕ → ℕ → List ℕ → ℕ → ℕ → Character
-characterAt l place m marks k = record { «data» = at l (place + k); marks = at m (marks + k) }
+-- ticket 8: "the saved bench becomes version 2": from it on a record has tallies
+abbrev pub hasTallies : ℕ → Bool
+hasTallies version = leb 2 version
 
--- a queue's sixteen slots
-unfoldable pub slotsFrom : List ℕ → ℕ → List ℕ → ℕ → List Character
-slotsFrom l place m marks = listed 16 (characterAt l place m marks)
+-- how long a record is
+abbrev pub lengthOf : ℕ → ℕ
+lengthOf version = pick (hasTallies version) recordLength channelLength
 
--- characters to send have no marks
-abbrev pub unmarked : List ℕ
-unmarked = replicate 66 0
+-- the channel's part of a record, and that of the tallies
+abbrev pub channelPart : List ℕ → List ℕ
+channelPart l = take 66 l
 
--- the send side
-unfoldable pub transmitterFrom : List ℕ → Transmitter
-transmitterFrom l =
-    record {
-      queue = record { slots = slotsFrom l Outgoing unmarked 0; count = at l Waiting };
-      busy = yesAt l Busy;
-      shift = at l Shift;
-      flag = yesAt l Flag;
-    }
+abbrev pub tallyPart : List ℕ → List ℕ
+tallyPart l = take 20 (drop 66 l)
 
--- the receive side
-unfoldable pub receiverFrom : List ℕ → Receiver
-receiverFrom l =
-    record {
-      queue = record { slots = slotsFrom l Arrived l Marks; count = at l Received };
-      overrun = yesAt l Overrun;
-      kept = at l Kept;
-      timeout = at l Timeout;
-      last = at l Last;
-    }
+-- ticket 8: "version 1 reads with arrived equal to what is queued"
+abbrev pub queuedOnly : ℕ → Tallies
+queuedOnly still = record { arrived = still; read = 0; lost = 0; dropped = 0 }
 
-unfoldable pub channelFrom : List ℕ → Channel
-channelFrom l =
-    record {
-      settings = settingsFrom l;
-      receiver = receiverFrom l;
-      transmitter = transmitterFrom l;
-      modem = record { levels = at l Levels; changes = at l Changes };
-    }
+-- the tallies' part of a record of a version, with so many queued: its own, or what its version leaves unsaid
+unfoldable pub talliesIn : ℕ → List ℕ → ℕ → List ℕ
+talliesIn version l still = pick (hasTallies version) (tallyPart l) (tallyBytes (queuedOnly still) still)
+
+-- a record of a version in the layout of the newest
+unfoldable pub newRecord : ℕ → List ℕ → List ℕ
+newRecord version l = channelPart l ++ talliesIn version l (at (channelPart l) Received)
+
+-- ---- in the layout of the newest
+
+-- four of the five tallies, from their part of a record
+unfoldable pub talliesFrom : List ℕ → Tallies
+talliesFrom b = record { arrived = wordAt b 0; read = wordAt b 4; lost = wordAt b 8; dropped = wordAt b 12 }
+
+-- ticket 8: "15 also for tallies that do not add up or miscount the queue": they do neither
+unfoldable pub talliesGood : List ℕ → ℕ → Bool
+talliesGood b still = addUp (talliesFrom b) (wordAt b 16) && eqb (wordAt b 16) still
 
 unfoldable pub seatFrom : List ℕ → Seat
-seatFrom l = record { channel = channelFrom l }
+seatFrom l = record { tallies = talliesFrom (tallyPart l); channel = channelFrom (channelPart l) }
 
 -- a record says a seat where each of its conditions holds
 unfoldable pub recordGood : List ℕ → Bool
-recordGood l = channelGood l
+recordGood l = channelGood (channelPart l) && talliesGood (tallyPart l) (at (channelPart l) Received)
+
+-- ---- in a lent part
 
 -- where there is none, a seat at power-up stands for it
 abbrev pub noneFound : Found
 noneFound = record { seat = powerUp; good = false }
 
 -- the seat of the record that a lent part begins with, or none; what stands behind the record is not looked at
-unfoldable pub found : List ℕ → Found
-found l =
-    pick (hasRoom l && recordGood (take recordLength l))
-    (record { seat = seatFrom (take recordLength l); good = true })
+unfoldable pub found : ℕ → List ℕ → Found
+found version l =
+    pick (leb (lengthOf version) (length l) && recordGood (newRecord version l))
+    (record { seat = seatFrom (newRecord version l); good = true })
     noneFound

@@ -1,164 +1,177 @@
--- What a good record says is a sound seat, and that seat is written back as the same bytes.
-use Prim.Native.Nat.{ℕ, zero, suc, _+_, _<_, _≤_}
-use mathlib.Core.Bool.{true, false, _&&_}
-use mathlib.Core.List.{List, [], _∷_, _++_}
+-- What is found in a lent part, case by case as the reader meets them.
+use Prim.Native.Nat.{ℕ, _<_, _≤_}
+use mathlib.Core.Bool.{Bool, true, false, _&&_}
+use mathlib.Core.List.{List, _++_}
 use mathlib.Core.Logic.{_⊎_, inl, inr, ⊎-elim}
-use mathlib.Core.Path.{_≡_, refl, ap, sym, _∙_}
+use mathlib.Core.Path.{_≡_, refl, ap, ap₂, sym, _∙_}
 use native.Mathlib.Omega.{arith}
-use lib.Dec.{eqb, ltb}
-use lib.ListN.{length, getD, take, replicate}
-use borrow.Author.Tests.{lt-ltb, leb-true, ltb-false}
-use Rattle.base.specs.Bits.{digit}
-use Rattle.base.specs.ListLaws.{listed, listed-at, listed-same, written-out}
-use Rattle.base.specs.Pick.{pick}
+use lib.Dec.{leb}
+use lib.ListN.{length, take, drop, length-append, length-drop}
+use lib.Seq.{take-at, drop-at, take-all, take-add, take-append-le, drop-append-le, length-take-le}
+use borrow.Author.Tests.{le-leb, lt-leb, leb-true}
 use Rattle.base.specs.PickLaws.{pick-true, pick-false, both-hold, either-way, never}
-use Rattle.channel_laws.specs.SoundLaws as channel
-use Rattle.queue.specs.declared.Character.{Character}
-use Rattle.queue.specs.Queue.{noCharacter, capacity, marked}
-use Rattle.queue.specs.AcceptLaws.{capacity-small}
-use Rattle.receiver.specs.Receiver.{noneQueued}
-use Rattle.receiver.specs.Sound.{soundReceiver}
-use Rattle.receiver.specs.Sound as received
-use Rattle.receiver.specs.SoundLaws as receiver
-use Rattle.seat.specs.Sound.{sound}
-use Rattle.transmitter.specs.Sound.{soundTransmitter}
-use Rattle.transmitter.specs.SoundLaws as transmitter
+use Rattle.channel_image.specs.declared.Found as channel
+use Rattle.channel_image.specs.Allowed.{channelGood}
+use Rattle.channel_image.specs.Places.{at, channelLength, Received}
+use Rattle.channel_image.specs.Read as first
+use Rattle.channel_image.specs.Read.{channelFrom, receiverFrom}
+use Rattle.channel_image.specs.ReadLaws as first-laws
 use Rattle.seat_image.specs.declared.Found.{Found}
-use Rattle.seat_image.specs.Allowed.{fifoAt, countAllowed}
-use Rattle.seat_image.specs.FieldLaws.{good-fields, groups, registers, unused, within}
-use Rattle.seat_image.specs.Fields.{Fields}
-use Rattle.seat_image.specs.Places.{recordLength, at}
-use Rattle.seat_image.specs.Read.{characterAt, slotsFrom, transmitterFrom, receiverFrom, channelFrom, seatFrom, recordGood, found}
-use Rattle.seat_image.specs.SlotLaws.{tidy-of, marks-within, none-marked}
-use Rattle.seat_image.specs.Written.{queuedByte, frontBytes, channelBytes, recordOf, hasRoom}
+use Rattle.seat_image.specs.Read.{hasTallies, lengthOf, channelPart, tallyPart, queuedOnly, talliesIn, newRecord}
+use Rattle.seat_image.specs.Read.{talliesFrom, talliesGood, seatFrom, recordGood, noneFound, found}
+use Rattle.seat_image.specs.WordLaws.{tally-length}
+use Rattle.seat_image.specs.Written.{recordLength, tallyBytes}
 
--- ---- a sound seat
+module _ (version : ℕ) (l : List ℕ) (still : ℕ) where
+  pub has-own : hasTallies version ≡ true → talliesIn version l still ≡ tallyPart l
+  unfolding talliesIn
+  has-own holds = pick-true _ _ _ holds
 
-no-mark : (m k : ℕ) → _≡_ {A = ℕ} (getD (replicate m 0) k 0) 0
-no-mark zero k = refl
-no-mark (suc m) zero = refl
-no-mark (suc m) (suc k) = no-mark m k
+  pub has-none : hasTallies version ≡ false → talliesIn version l still ≡ tallyBytes (queuedOnly still) still
+  unfolding talliesIn
+  has-none none = pick-false _ _ _ none
 
-module _ (l : List ℕ) (good : recordGood l ≡ true) where
-  rows : Fields l
-  rows = good-fields l good
+module _ (version : ℕ) (l : List ℕ) where
+  pub found-short : length l < lengthOf version → found version l ≡ noneFound
+  unfolding found
+  found-short short =
+      pick-false _ _ _ (ap (λ (b : Bool). b && recordGood (newRecord version l)) (lt-leb (lengthOf version) (length l) short))
 
-  transmitter-sound : soundTransmitter (fifoAt l) (transmitterFrom l) ≡ true
-  unfolding transmitterFrom slotsFrom marked
-  transmitter-sound =
-      let each = characterAt l 17 (replicate 66 0) 0 in
-      transmitter.whole (fifoAt l) (transmitterFrom l)
-      (record {
-        tidy =
-            tidy-of (capacity (fifoAt l)) (at l 16) each (capacity-small (fifoAt l)) (within l good .0)
-            (λ k below past i. record { «data» = rows .outgoing-unused k past below i; marks = no-mark 66 (0 + k) i });
-        unmarked = none-marked 16 (at l 16) each (λ k. no-mark 66 (0 + k));
-        nothing-left = unused l good .0;
-      })
+-- ---- with room for a record of the version
 
-  receiver-sound : soundReceiver (fifoAt l) (receiverFrom l) ≡ true
-  unfolding receiverFrom slotsFrom countAllowed received.countAllowed noneQueued
-  receiver-sound =
-      let each = characterAt l 34 l 50 in
-      receiver.whole (fifoAt l) (receiverFrom l)
-      (record {
-        tidy =
-            tidy-of (capacity (fifoAt l)) (at l 33) each (capacity-small (fifoAt l)) (within l good .1)
-            (λ k below past i. record { «data» = rows .arrived-unused k past below i; marks = rows .marks-unused k past below i });
-        marks = marks-within 16 (at l 33) each (λ k below. lt-ltb (at l (50 + k)) 8 (omega (arith, rows .marks k below)));
-        kept = omega (arith, rows .kept);
-        counted = rows .timeout;
-        allowed = groups l good .1 .1 .1 .1 .0;
-      })
+module _ (version : ℕ) (l : List ℕ) (long : lengthOf version ≤ length l) where
+  pub front-fits : channelLength ≤ length l
+  front-fits =
+      ⊎-elim (λ (h : hasTallies version ≡ true). omega (arith, long, pick-true (hasTallies version) recordLength channelLength h))
+      (λ (h : hasTallies version ≡ false). omega (arith, long, pick-false (hasTallies version) recordLength channelLength h))
+      (either-way (hasTallies version))
 
-  pub good-sound : sound (seatFrom l) ≡ true
-  unfolding seatFrom channelFrom
-  good-sound =
-      channel.whole (channelFrom l)
-      (record {
-        enables = omega (arith, rows .ier);
-        modes = registers l good .1 .0;
-        outputs = omega (arith, rows .mcr);
-        levels = omega (arith, rows .levels);
-        changes = omega (arith, rows .changes);
-        receiver = receiver-sound;
-        transmitter = transmitter-sound;
-      })
+  tallies-length : (still : ℕ) → length (talliesIn version l still) ≡ 20
+  tallies-length still =
+      ⊎-elim
+      (λ (h : hasTallies version ≡ true).
+      ap length (has-own version l still h)
+      ∙ length-take-le 20 (drop 66 l) (omega (arith, length-drop 66 l, long, pick-true (hasTallies version) recordLength channelLength h)))
+      (λ (h : hasTallies version ≡ false). ap length (has-none version l still h) ∙ tally-length (queuedOnly still) still)
+      (either-way (hasTallies version))
 
--- ---- written back
+  still : ℕ
+  still = at (channelPart l) Received
 
--- a yes-or-no byte
-pub yes-digit : (x : ℕ) → x ≤ 1 → digit (eqb x 1) ≡ x
-unfolding digit pick
-yes-digit zero small = refl
-yes-digit (suc zero) small = refl
-yes-digit (suc (suc n)) small = absurd (omega arith)
+  pub new-channel : channelPart (newRecord version l) ≡ channelPart l
+  unfolding newRecord
+  new-channel = take-at (channelPart l) _ channelLength (length-take-le channelLength l front-fits)
 
--- the byte of an empty shift register is 0
-shift-back : (busy shift : ℕ) → busy ≤ 1 → (busy ≡ 0 → shift ≡ 0) → pick (eqb busy 1) shift 0 ≡ shift
-unfolding pick
-shift-back zero shift small empty = sym (empty refl)
-shift-back (suc zero) shift small empty = refl
-shift-back (suc (suc n)) shift small empty = absurd (omega arith)
+  pub new-tallies : tallyPart (newRecord version l) ≡ talliesIn version l (at (channelPart l) Received)
+  unfolding newRecord still
+  new-tallies =
+      ap (take 20) (drop-at (channelPart l) (talliesIn version l still) channelLength (length-take-le channelLength l front-fits))
+      ∙ take-all 20 (talliesIn version l still) (omega (arith, tallies-length still))
 
--- sixteen bytes of a queue, of which those behind its number are 0
-slots-back : (field : Character → ℕ) (n : ℕ) (f : ℕ → Character) → ((k : ℕ) → n ≤ k → k < 16 → field (f k) ≡ 0)
-    → listed 16 (queuedByte field (record { slots = listed 16 f; count = n })) ≡ listed 16 (λ k. field (f k))
-slots-back field n f free = listed-same 16 _ (λ k. field (f k)) (λ k below. by k below (either-way (ltb k n)))
-  where
-    by : (k : ℕ) → k < 16 → (ltb k n ≡ true) ⊎ (ltb k n ≡ false) → queuedByte field (record { slots = listed 16 f; count = n }) k ≡ field (f k)
-    by k below (inl used) = pick-true _ _ _ used ∙ ap field (listed-at 16 f k noCharacter below)
-    by k below (inr past) = pick-false _ _ _ past ∙ sym (free k (ltb-false _ _ past) below)
+  pub new-good : recordGood (newRecord version l)
+      ≡ (channelGood (channelPart l) && talliesGood (talliesIn version l (at (channelPart l) Received)) (at (channelPart l) Received))
+  unfolding recordGood
+  new-good = rw (new-channel, new-tallies)
 
-module _ (l : List ℕ) (long : length l ≡ recordLength) (good : recordGood l ≡ true) where
-  pub written-back : recordOf (seatFrom l) ≡ l
-  unfolding seatFrom channelFrom receiverFrom transmitterFrom slotsFrom recordOf frontBytes channelBytes
-  written-back =
-      let f = good-fields l good in
-      let overrun = yes-digit (at l 10) (f .overrun) in
-      let flag = yes-digit (at l 12) (f .flag) in
-      let busy = yes-digit (at l 14) (f .busy) in
-      let shift = shift-back (at l 14) (at l 15) (f .busy) (f .shift) in
-      let outgoing = slots-back (λ ch. ch .«data») (at l 16) (characterAt l 17 (replicate 66 0) 0) (f .outgoing-unused) in
-      let arrived = slots-back (λ ch. ch .«data») (at l 33) (characterAt l 34 l 50) (f .arrived-unused) in
-      let marks = slots-back (λ ch. ch .marks) (at l 33) (characterAt l 34 l 50) (f .marks-unused) in
-      (λ i.
-      (at l 0
-      ∷ at l 1
-      ∷ at l 2
-      ∷ at l 3
-      ∷ at l 4
-      ∷ at l 5
-      ∷ at l 6
-      ∷ at l 7
-      ∷ at l 8
-      ∷ at l 9
-      ∷ overrun i
-      ∷ at l 11
-      ∷ flag i
-      ∷ at l 13
-      ∷ busy i
-      ∷ shift i
-      ∷ at l 16
-      ∷ [])
-      ++ outgoing i ++ (at l 33 ∷ []) ++ arrived i ++ marks i)
-      ∙ written-out 66 l 0 long
+  pub new-seat : seatFrom (newRecord version l)
+      ≡ record { tallies = talliesFrom (talliesIn version l (at (channelPart l) Received)); channel = channelFrom (channelPart l) }
+  unfolding seatFrom
+  new-seat = λ i. record { tallies = talliesFrom (new-tallies i); channel = channelFrom (new-channel i) }
 
--- ---- as the reader finds it
+  room : leb (lengthOf version) (length l) ≡ true
+  room = le-leb (lengthOf version) (length l) long
 
--- what was found well
-pub record Well (l : List ℕ) : Type 0 where
-  pub long : recordLength ≤ length l
-  pub good : recordGood (take recordLength l) ≡ true
-  pub seat : found l .seat ≡ seatFrom (take recordLength l)
+  none-good : recordGood (newRecord version l) ≡ false → found version l ≡ noneFound
+  unfolding found
+  none-good bad = pick-false _ _ _ (ap₂ _&&_ room bad)
 
-pub found-well : (l : List ℕ) → found l .good ≡ true → Well l
+  pub found-good : recordGood (newRecord version l) ≡ true → found version l ≡ record { seat = seatFrom (newRecord version l); good = true }
+  unfolding found
+  found-good good = pick-true _ _ _ (ap₂ _&&_ room good)
+
+  -- ---- after the channel's reader
+
+  module _ (r : channel.Found) (given : r ≡ first.found l) where
+    pub no-channel : r .good ≡ false → found version l ≡ noneFound
+    unfolding first.found
+    no-channel none =
+        ⊎-elim
+        (λ (h : channelGood (channelPart l) ≡ true).
+        let good : r .good ≡ true
+        = ap (λ (f : channel.Found). f .good) (given ∙ pick-true _ _ _ (ap₂ _&&_ (le-leb channelLength (length l) front-fits) h)) in
+        absurd (never (sym none ∙ good)))
+        (λ (h : channelGood (channelPart l) ≡ false). none-good (new-good ∙ rw h))
+        (either-way (channelGood (channelPart l)))
+
+    module _ (said : r .good ≡ true) where
+      well : first-laws.Well l
+      well = first-laws.found-well l (sym (ap (λ (f : channel.Found). f .good) given) ∙ said)
+
+      same : r .channel ≡ channelFrom (channelPart l)
+      same = ap (λ (f : channel.Found). f .channel) given ∙ well .channel
+
+      count : r .channel .receiver .queue .count ≡ at (channelPart l) Received
+      unfolding channelFrom receiverFrom
+      count = ap (λ (c : _). c .receiver .queue .count) same
+
+      pub tallies-bad : talliesGood (talliesIn version l (r .channel .receiver .queue .count)) (r .channel .receiver .queue .count) ≡ false
+          → found version l ≡ noneFound
+      tallies-bad bad = none-good (new-good ∙ ap₂ _&&_ (well .good) (ap (λ (n : ℕ). talliesGood (talliesIn version l n) n) (sym count) ∙ bad))
+
+      pub tallies-well : talliesGood (talliesIn version l (r .channel .receiver .queue .count)) (r .channel .receiver .queue .count) ≡ true
+          → found version l
+          ≡ record {
+            seat = record { tallies = talliesFrom (talliesIn version l (r .channel .receiver .queue .count)); channel = r .channel };
+            good = true;
+          }
+      tallies-well fine =
+          found-good (new-good ∙ ap₂ _&&_ (well .good) (ap (λ (n : ℕ). talliesGood (talliesIn version l n) n) (sym count) ∙ fine))
+          ∙ (λ i. record { seat = new-seat i; good = true })
+          ∙ (λ i. record { seat = record { tallies = talliesFrom (talliesIn version l (sym count i)); channel = sym same i }; good = true })
+
+-- ---- a record, and what stands behind it
+
+-- of the newest version it is as it stands
+pub whole : (l : List ℕ) → newRecord 2 l ≡ take 86 l
+unfolding newRecord
+whole l = ap (λ (b : List ℕ). take 66 l ++ b) (has-own 2 l _ refl) ∙ sym (take-add 66 20 l)
+
+module _ (version : ℕ) (l rest : List ℕ) (long : lengthOf version ≤ length l) where
+  front-same : channelPart (l ++ rest) ≡ channelPart l
+  front-same = take-append-le 66 l rest (front-fits version l long)
+
+  tallies-same : (still : ℕ) → talliesIn version (l ++ rest) still ≡ talliesIn version l still
+  tallies-same still = by (either-way (hasTallies version))
+    where
+      by : (hasTallies version ≡ true) ⊎ (hasTallies version ≡ false) → talliesIn version (l ++ rest) still ≡ talliesIn version l still
+      by (inl h) =
+          let fits : recordLength ≤ length l = omega (arith, long, pick-true (hasTallies version) recordLength channelLength h) in
+          has-own version (l ++ rest) still h
+          ∙ ap (take 20) (drop-append-le 66 l rest (omega (arith, fits)))
+          ∙ take-append-le 20 (drop 66 l) rest (omega (arith, fits, length-drop 66 l))
+          ∙ sym (has-own version l still h)
+      by (inr h) = has-none version (l ++ rest) still h ∙ sym (has-none version l still h)
+
+  pub found-front : found version (l ++ rest) ≡ found version l
+  unfolding found newRecord
+  found-front =
+      let more : lengthOf version ≤ length (l ++ rest) = omega (arith, length-append l rest, long) in
+      rw (front-same, tallies-same, le-leb (lengthOf version) (length (l ++ rest)) more, le-leb (lengthOf version) (length l) long)
+
+-- ---- what was found well
+
+pub record Well (version : ℕ) (l : List ℕ) : Type 0 where
+  pub long : lengthOf version ≤ length l
+  pub good : recordGood (newRecord version l) ≡ true
+  pub seat : found version l .seat ≡ seatFrom (newRecord version l)
+
+pub found-well : (version : ℕ) (l : List ℕ) → found version l .good ≡ true → Well version l
 unfolding found
-found-well l good =
-    let test = hasRoom l && recordGood (take recordLength l) in
+found-well version l good =
+    let test = leb (lengthOf version) (length l) && recordGood (newRecord version l) in
     ⊎-elim
     (λ (holds : test ≡ true).
-    let two = both-hold (hasRoom l) (recordGood (take recordLength l)) holds in
+    let two = both-hold (leb (lengthOf version) (length l)) (recordGood (newRecord version l)) holds in
     record { long = leb-true _ _ (two .0); good = two .1; seat = ap (λ (r : Found). r .seat) (pick-true test _ _ holds) })
     (λ (fails : test ≡ false). absurd (never (sym (ap (λ (r : Found). r .good) (pick-false test _ _ fails)) ∙ good)))
     (either-way test)

@@ -1,6 +1,6 @@
 -- The statements of this room. The proofs give the record whole.
 use Rattle.seat_image.specs.Fields.{Exactly}
-use Rattle.seat_image.specs.ThereAndBack.{ReadBack, WrittenBack, SaysSound, Lent}
+use Rattle.seat_image.specs.ThereAndBack.{ReadBack, WrittenBack, SaysSound, Older, Lent}
 use Rattle.seat_image.specs.Told.{Told}
 
 pub record Statements : Type 0 where
@@ -9,4 +9,5 @@ pub record Statements : Type 0 where
   pub read-back : ReadBack
   pub written-back : WrittenBack
   pub says-sound : SaysSound
+  pub older : Older
   pub lent : Lent

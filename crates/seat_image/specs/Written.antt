@@ -1,61 +1,29 @@
--- A seat as the bytes of its record.
+-- A seat as the bytes of its record, in the newest version.
 use Prim.Native.Nat.{ℕ}
 use mathlib.Core.Bool.{Bool}
-use mathlib.Core.List.{List, [], _∷_, _++_}
+use mathlib.Core.List.{List, _++_}
 use mathlib.Core.Path.{_≡_}
-use lib.Dec.{leb, ltb}
-use lib.ListN.{length, getD}
+use lib.Dec.{leb}
+use lib.ListN.{length}
 use lib.Seq.{sets}
-use Rattle.base.specs.Bits.{digit}
-use Rattle.base.specs.ListLaws.{listed}
 use Rattle.base.specs.Pick.{pick}
-use Rattle.channel.specs.declared.Channel.{Channel}
-use Rattle.queue.specs.declared.Character.{Character}
-use Rattle.queue.specs.declared.Queue.{Queue}
-use Rattle.queue.specs.Queue.{noCharacter}
+use Rattle.channel_image.specs.Written.{channelBytes}
 use Rattle.seat.specs.declared.Seat.{Seat}
-use Rattle.seat_image.specs.declared.writing.QueueBytes.{QueueBytes}
-use Rattle.seat_image.specs.Places.{recordLength}
+use Rattle.seat.specs.declared.Tallies.{Tallies}
+use Rattle.seat.specs.Seats.{queued}
+use Rattle.seat_image.specs.Words.{wordBytes}
 
--- one byte of the character in slot k of a queue; from the number queued on there is no character, and the byte is 0
-abbrev pub queuedByte : (Character → ℕ) → Queue → ℕ → ℕ
-queuedByte field q k = pick (ltb k (q .count)) (field (getD (q .slots) k noCharacter)) 0
+-- ticket 2: "eight seat records of one fixed length"
+abbrev pub recordLength : ℕ
+recordLength = 86
 
--- of its sixteen slots, the oldest character's first: the data, and the marks
-abbrev pub bytesOf : Queue → QueueBytes
-bytesOf q = record { «data» = listed 16 (queuedByte (λ ch. ch .«data») q); marks = listed 16 (queuedByte (λ ch. ch .marks) q) }
+-- ticket 8: "five 32-bit tallies of received characters since power-up: arrived, read, lost by overrun, dropped by emptying, still queued"
+unfoldable pub tallyBytes : Tallies → ℕ → List ℕ
+tallyBytes t still = wordBytes (t .arrived) ++ wordBytes (t .read) ++ wordBytes (t .lost) ++ wordBytes (t .dropped) ++ wordBytes still
 
--- bytes 0 to 16: registers, flags, marks and counts, the shift register, and how many are queued to send
-unfoldable pub frontBytes : Channel → List ℕ
-frontBytes c =
-    c .settings .ier
-    ∷ c .settings .fcr
-    ∷ c .settings .lcr
-    ∷ c .settings .mcr
-    ∷ c .modem .changes
-    ∷ c .settings .scratch
-    ∷ c .modem .levels
-    ∷ c .settings .dll
-    ∷ c .settings .dlm
-    ∷ c .receiver .last
-    ∷ digit (c .receiver .overrun)
-    ∷ c .receiver .kept
-    ∷ digit (c .transmitter .flag)
-    ∷ c .receiver .timeout
-    ∷ digit (c .transmitter .busy)
-    ∷ pick (c .transmitter .busy) (c .transmitter .shift) 0
-    ∷ c .transmitter .queue .count
-    ∷ []
-
--- the channel, in 66 bytes: those, the characters to send, and the number, the data and the marks of those received
-unfoldable pub channelBytes : Channel → List ℕ
-channelBytes c =
-    frontBytes c ++ bytesOf (c .transmitter .queue) .«data» ++ (c .receiver .queue .count ∷ []) ++ bytesOf (c .receiver .queue) .«data»
-    ++ bytesOf (c .receiver .queue) .marks
-
--- the record of a seat is its channel's bytes
+-- ticket 8: "They enter the shared seat record": behind the channel's bytes
 unfoldable pub recordOf : Seat → List ℕ
-recordOf s = channelBytes (s .channel)
+recordOf s = channelBytes (s .channel) ++ tallyBytes (s .tallies) (queued s)
 
 -- a lent part has room for a record
 abbrev pub hasRoom : List ℕ → Bool

@@ -1,14 +1,18 @@
-// A seat as a record of bytes in a lent buffer, and back.
+// A seat as a record of bytes in a lent buffer, and back: its channel's bytes, and its tallies behind them.
 mod reading;
-mod tests;
+mod tallies;
 mod writing;
 
 pub use reading::get;
+pub use reading::length;
 use seat::Seat;
 pub use writing::put;
 
 // "eight seat records of one fixed length"
-pub const LENGTH: usize = 66;
+pub const LENGTH: usize = channel_image::LENGTH + TALLIES;
+
+// "five 32-bit tallies"
+pub(crate) const TALLIES: usize = 20;
 
 // What a record says. Where it says no seat, `seat` is one at power-up.
 pub struct Found {
@@ -16,45 +20,13 @@ pub struct Found {
     pub good: bool,
 }
 
-// Where the fields of a record stand.
-pub(crate) const IER: usize = 0;
+// Where the tallies stand, from the place of the first.
+pub(crate) const ARRIVED: usize = 0;
 
-pub(crate) const FCR: usize = 1;
+pub(crate) const READ: usize = 4;
 
-pub(crate) const LCR: usize = 2;
+pub(crate) const LOST: usize = 8;
 
-pub(crate) const MCR: usize = 3;
+pub(crate) const DROPPED: usize = 12;
 
-pub(crate) const CHANGES: usize = 4;
-
-pub(crate) const SCRATCH: usize = 5;
-
-pub(crate) const LEVELS: usize = 6;
-
-pub(crate) const DLL: usize = 7;
-
-pub(crate) const DLM: usize = 8;
-
-pub(crate) const LAST: usize = 9;
-
-pub(crate) const OVERRUN: usize = 10;
-
-pub(crate) const KEPT: usize = 11;
-
-pub(crate) const FLAG: usize = 12;
-
-pub(crate) const TIMEOUT: usize = 13;
-
-pub(crate) const BUSY: usize = 14;
-
-pub(crate) const SHIFT: usize = 15;
-
-pub(crate) const WAITING: usize = 16;
-
-pub(crate) const OUTGOING: usize = 17;
-
-pub(crate) const RECEIVED: usize = 33;
-
-pub(crate) const ARRIVED: usize = 34;
-
-pub(crate) const MARKS: usize = 50;
+pub(crate) const QUEUED: usize = 16;

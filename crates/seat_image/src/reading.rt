@@ -1,94 +1,47 @@
-// The reader of a record.
+// The reader of a record, of any version.
 use crate::Found;
-use crate::tests;
-use channel::Channel;
-use channel::Modem;
-use queue::Character;
-use queue::Queue;
-use receiver::Receiver;
-use registers::Settings;
+use crate::tallies;
 use seat::Seat;
-use transmitter::Transmitter;
+use seat::Tallies;
 ghost use mathlib.Core.Path.{_≡_};
 ghost use Prim.Native.Nat.{_≤_};
-ghost use lib.ListN.{length, take};
-ghost use Rattle.seat_image.specs.Read.{slotsFrom, transmitterFrom, receiverFrom, channelFrom, noneFound, found};
+ghost use lib.ListN.{length};
+ghost use Rattle.seat_image.specs.Read.{lengthOf, tallyPart, talliesIn, noneFound, found};
 
-fn slots_from(b: [u8; 66], place: usize, m: [u8; 66], marks: usize) -> [Character; 16]
-    requires { ⌜ (place ≤ 50) × (marks ≤ 50) ⌝ }
-    ensures { λ r. ⌜ r ≡ slotsFrom b place m marks ⌝ }
+// How long a record of a version is.
+pub fn length(version: u16) -> usize
+    ensures { λ r. ⌜ r ≡ lengthOf version ⌝ }
 {
-    let mut slots = [Character { data: 0, marks: 0 }; 16];
-    let mut k: usize = 0;
-    while k < 16 {
-        slots[k] = Character {
-            data: b[place + k],
-            marks: m[marks + k],
-        };
-        k = k + 1;
+    if version < 2 {
+        return channel_image::LENGTH;
     }
-    slots
+    crate::LENGTH
 }
 
-fn transmitter_from(b: [u8; 66]) -> Transmitter
-    ensures { λ r. ⌜ r ≡ transmitterFrom b ⌝ }
+fn tally_block(part: &[u8]) -> [u8; 20]
+    requires { ⌜ 86 ≤ length (now part) ⌝ }
+    ensures { λ r. ⌜ r ≡ tallyPart (now (part .entry)) ⌝ }
 {
-    let unmarked = [0u8; 66];
-    Transmitter {
-        queue: Queue {
-            slots: slots_from(b, crate::OUTGOING, unmarked, 0),
-            count: b[crate::WAITING],
-        },
-        busy: b[crate::BUSY] == 1,
-        shift: b[crate::SHIFT],
-        flag: b[crate::FLAG] == 1,
-    }
-}
-
-fn receiver_from(b: [u8; 66]) -> Receiver
-    ensures { λ r. ⌜ r ≡ receiverFrom b ⌝ }
-{
-    Receiver {
-        queue: Queue {
-            slots: slots_from(b, crate::ARRIVED, b, crate::MARKS),
-            count: b[crate::RECEIVED],
-        },
-        overrun: b[crate::OVERRUN] == 1,
-        kept: b[crate::KEPT],
-        timeout: b[crate::TIMEOUT],
-        last: b[crate::LAST],
-    }
-}
-
-fn channel_from(b: [u8; 66]) -> Channel
-    ensures { λ r. ⌜ r ≡ channelFrom b ⌝ }
-{
-    Channel {
-        settings: Settings {
-            ier: b[crate::IER],
-            fcr: b[crate::FCR],
-            lcr: b[crate::LCR],
-            mcr: b[crate::MCR],
-            scratch: b[crate::SCRATCH],
-            dll: b[crate::DLL],
-            dlm: b[crate::DLM],
-        },
-        receiver: receiver_from(b),
-        transmitter: transmitter_from(b),
-        modem: Modem {
-            levels: b[crate::LEVELS],
-            changes: b[crate::CHANGES],
-        },
-    }
-}
-
-fn record_of(part: &[u8]) -> [u8; 66]
-    requires { ⌜ 66 ≤ length (now part) ⌝ }
-    ensures { λ r. ⌜ r ≡ take 66 (now (part .entry)) ⌝ }
-{
-    let mut b = [0u8; 66];
-    bytes::copy(&part[..crate::LENGTH], &mut b);
+    let mut b = [0u8; crate::TALLIES];
+    bytes::copy(&part[channel_image::LENGTH..crate::LENGTH], &mut b);
     b
+}
+
+// A version without tallies reads with arrived equal to what is queued.
+fn tallies_of(part: &[u8], version: u16, queued: u8) -> [u8; 20]
+    requires { ⌜ lengthOf version ≤ length (now part) ⌝ }
+    ensures { λ r. ⌜ r ≡ talliesIn version (now (part .entry)) queued ⌝ }
+{
+    if version < 2 {
+        let t = Tallies {
+            arrived: queued as u32,
+            read: 0,
+            lost: 0,
+            dropped: 0,
+        };
+        return tallies::tally_bytes(t, queued);
+    }
+    tally_block(part)
 }
 
 fn none_found() -> Found
@@ -100,19 +53,24 @@ fn none_found() -> Found
     }
 }
 
-// Reads the record that a lent part begins with.
-pub fn get(part: &[u8]) -> Found
-    ensures { λ r. ⌜ r ≡ found (now (part .entry)) ⌝ }
+// Reads the record of a version that a lent part begins with.
+pub fn get(part: &[u8], version: u16) -> Found
+    ensures { λ r. ⌜ r ≡ found version (now (part .entry)) ⌝ }
 {
-    if part.len() < crate::LENGTH {
+    if part.len() < length(version) {
         return none_found();
     }
-    let b = record_of(part);
-    if tests::channel_good(b) {
+    let said = channel_image::get(part);
+    if !said.good {
+        return none_found();
+    }
+    let channel = said.channel;
+    let queued = channel.receiver.queue.count;
+    let block = tallies_of(part, version, queued);
+    if tallies::tallies_good(block, queued) {
+        let tallies = tallies::tallies_from(block);
         return Found {
-            seat: Seat {
-                channel: channel_from(b),
-            },
+            seat: Seat { tallies, channel },
             good: true,
         };
     }

@@ -3,8 +3,12 @@ use crate::lent::Lent;
 use crate::lent::ROOM;
 use bench::Bench;
 
-// "A fresh buffer has 600 bytes, each 165."
+// "A fresh buffer has 760 bytes, each 165."
 const FRESH: u8 = 165;
+
+pub(crate) fn fresh() -> [u8; ROOM] {
+    [FRESH; ROOM]
+}
 
 pub(crate) struct Kept {
     pub buffer: [u8; ROOM],
@@ -29,7 +33,7 @@ fn add_buffer(digest: u32, buffer: &[u8]) -> u32 {
 
 // The bench is saved into a fresh buffer as far as that is lent; the number is added, and the whole buffer.
 pub(crate) fn keep(digest: u32, bench: Bench, lent: Lent) -> Kept {
-    let mut buffer = [FRESH; ROOM];
+    let mut buffer = fresh();
     let number = lent.save(bench, &mut buffer);
     let told = streams::add(digest, number as u32);
     let sum = add_buffer(told, &buffer);

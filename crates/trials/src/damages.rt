@@ -41,9 +41,17 @@ fn later(run: Run, number: u8, rows: &[u64]) -> Run {
 }
 
 impl Damaged {
-    // The copy is of the buffer that has the image at this place, and the stream stands as it does at this stop.
-    fn damage(self, mut copy: [u8; ROOM], at: u8, stream: Stream, rows: &[u64], i: u8) -> Damaged {
-        let h = advance(wounds::make(&mut copy, at, self.x));
+    // The copy is of the buffer that has the image at this place, which is the old one or not; the stream stands as it does at this stop.
+    fn damage(
+        self,
+        mut copy: [u8; ROOM],
+        old: bool,
+        at: u8,
+        stream: Stream,
+        rows: &[u64],
+        i: u8,
+    ) -> Damaged {
+        let h = advance(wounds::make(&mut copy, at, old, self.x));
         let m = spots::spot(h);
         let other = self.other;
         let back = Lent::of_damage(pick(h, 23), m.at, at).restore(other, &copy);
@@ -57,6 +65,7 @@ impl Damaged {
             bench,
             sum,
             letters: 0,
+            tallies: 0,
         };
         let run = later(before, number, rows);
         let left = run.bench;
@@ -67,17 +76,34 @@ impl Damaged {
         }
     }
 
+    // "If i % 4 is 3, take a copy of the buffer with this stop's version 1 image, and r is 66; else of that with its version 2 image, and r is 86."
+    fn damage_one(
+        self,
+        buffer: [u8; ROOM],
+        old: [u8; ROOM],
+        at: u8,
+        stream: Stream,
+        rows: &[u64],
+        i: u8,
+    ) -> Damaged {
+        if i % 4 == 3 {
+            return self.damage(old, true, at, stream, rows, i);
+        }
+        self.damage(buffer, false, at, stream, rows, i)
+    }
+
     // "128 damages, numbered i = 0 to 127."
     pub(crate) fn after_all(
         self,
         buffer: [u8; ROOM],
+        old: [u8; ROOM],
         at: u8,
         stream: Stream,
         rows: &[u64],
     ) -> Damaged {
         let mut damaged = self;
         for i in 0..DAMAGES {
-            damaged = damaged.damage(buffer, at, stream, rows, i);
+            damaged = damaged.damage_one(buffer, old, at, stream, rows, i);
         }
         damaged
     }

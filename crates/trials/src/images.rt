@@ -4,6 +4,7 @@ use crate::damages::Damaged;
 use crate::lent::Lent;
 use crate::lent::ROOM;
 use crate::list;
+use crate::older;
 use crate::runs::ASKED_LINES;
 use crate::runs::Run;
 use crate::runs::Sums;
@@ -30,7 +31,7 @@ fn over(odd: bool, bench: Bench, other: Bench) -> Bench {
     bench
 }
 
-// "The image of this stop is restored at place p, with length 600."
+// "The image of this stop is restored at place p, with length 760."
 fn back(over: Bench, buffer: [u8; ROOM], at: u8) -> Restored {
     Lent::whole(at).restore(over, &buffer)
 }
@@ -57,12 +58,14 @@ impl Trial {
         let back = back(over(odd, gone_on, other), buffer, at);
         let restored = back.bench;
         let answer = back.answer;
+        let old = older::made_of(buffer, at);
+        let told = streams::add(on.sum, answer.refusal() as u32);
         let damaged = Damaged {
             x: n,
             other: restored,
-            sum: streams::add(on.sum, answer.refusal() as u32),
+            sum: older::add_read(told, old, at, other),
         };
-        let after = damaged.after_all(buffer, at, stream, rows);
+        let after = damaged.after_all(buffer, old, at, stream, rows);
         let left = after.other;
         Trial {
             run: run.with_bench(restored, after.sum),

@@ -3,17 +3,17 @@ use bench::Bench;
 use image::Restored;
 ghost use Prim.Native.Nat.{_≤_};
 
-pub(crate) const ROOM: usize = 600;
+pub(crate) const ROOM: usize = 760;
 
 // A byte less than an image has, and the number of places that have room for one.
-const TOO_FEW: usize = 543;
+const TOO_FEW: usize = 703;
 
 const PLACES: usize = 57;
 
 // Past the end of every buffer, and around the end of this one.
 const FAR: usize = 65536;
 
-const NEAR_END: usize = 592;
+const NEAR_END: usize = 752;
 
 pub(crate) struct Lent {
     pub length: usize,

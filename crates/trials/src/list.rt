@@ -7,7 +7,7 @@ pub(crate) const STREAM: u64 = 0;
 
 pub(crate) const IMAGES: u64 = 1;
 
-pub(crate) const TRIALS: usize = 30;
+pub(crate) const TRIALS: usize = 35;
 
 // Which kind it is, then "seed, count, set, start". The first four are short, so that a fault in every event shows at once.
 pub(crate) const LIST: [[u64; 5]; TRIALS] = [
@@ -31,6 +31,9 @@ pub(crate) const LIST: [[u64; 5]; TRIALS] = [
     [STREAM, 17, 200000, 1, 0],
     [STREAM, 18, 200000, 1, 0],
     [STREAM, 19, 200000, 1, 0],
+    [STREAM, 20, 1000, 0, 1],
+    [STREAM, 21, 200000, 0, 1],
+    [STREAM, 22, 200000, 1, 1],
     [IMAGES, 101, 20000, 0, 0],
     [IMAGES, 102, 20000, 0, 0],
     [IMAGES, 103, 20000, 0, 0],
@@ -41,4 +44,6 @@ pub(crate) const LIST: [[u64; 5]; TRIALS] = [
     [IMAGES, 108, 20000, 0, 0],
     [IMAGES, 109, 20000, 1, 0],
     [IMAGES, 112, 20000, 1, 0],
+    [IMAGES, 113, 20000, 0, 1],
+    [IMAGES, 114, 20000, 1, 1],
 ];

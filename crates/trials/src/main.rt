@@ -1,5 +1,5 @@
-// Runs streams of events over the proved bench and prints a line for each: seed and count in decimal, the digest and the letter digest
-// in eight hex capitals each. With no argument, both lists of second/TRIALS.md; with SEED and COUNT, and SET and START where they are
+// Runs streams of events over the proved bench and prints a line for each: seed and count in decimal, the digest, the letter digest and
+// the tally digest in eight hex capitals each. With no argument, both lists of second/TRIALS.md; with SEED and COUNT, and SET and START where they are
 // not 0, that stream alone; with `images` before them, as a trial of saved benches.
 use bench::Bench;
 use libc::STDERR_FILENO;
@@ -13,8 +13,11 @@ mod damages;
 mod images;
 mod lent;
 mod list;
+mod older;
 mod runs;
 mod spots;
+mod starts;
+mod transfers;
 mod words;
 mod wounds;
 
@@ -46,6 +49,7 @@ fn print_line(seed: u64, count: u64, sums: Sums) {
     io::print_decimal(STDOUT_FILENO, count);
     print_digest(sums.sum);
     print_digest(sums.letters);
+    print_digest(sums.tallies);
     io::write_all(STDOUT_FILENO, b"\n");
 }
 
@@ -57,7 +61,6 @@ fn digests(images: bool, seed: u32, count: u64, set: u8, bench: Bench) -> Sums {
     runs::digests(seed, count, set, bench)
 }
 
-// Each start is an arm; 0 is the bench "as at power-up".
 fn run(images: bool, seed: u64, count: u64, set: u64, start: u64) {
     if seed > list::LAST_SEED as u64 {
         return usage();
@@ -65,14 +68,15 @@ fn run(images: bool, seed: u64, count: u64, set: u64, start: u64) {
     if set >= SETS as u64 {
         return usage();
     }
-    match start {
-        0 => print_line(
-            seed,
-            count,
-            digests(images, seed as u32, count, set as u8, Bench::power_up()),
-        ),
-        _ => usage(),
+    if start >= starts::STARTS {
+        return usage();
     }
+    let bench = starts::bench(start);
+    print_line(
+        seed,
+        count,
+        digests(images, seed as u32, count, set as u8, bench),
+    );
 }
 
 fn run_list() {

@@ -8,18 +8,23 @@ use streams::Stream;
 // "for line 8 it is refusal 1 and answer FFF": one line more than there are.
 pub(crate) const ASKED_LINES: u8 = 9;
 
-// A stream, the bench that its events were given to, the digest and the letter digest, at some point of a trial.
+// Twice as many as there are, so that every other one that is asked for is refused.
+const ASKED_SEATS: u8 = 16;
+
+// A stream, the bench that its events were given to, the digest, the letter digest and the tally digest, at some point of a trial.
 pub(crate) struct Run {
     pub stream: Stream,
     pub bench: Bench,
     pub sum: u32,
     pub letters: u32,
+    pub tallies: u32,
 }
 
-// Both digests, at the end of a trial.
+// The three digests, at the end of a trial.
 pub(crate) struct Sums {
     pub sum: u32,
     pub letters: u32,
+    pub tallies: u32,
 }
 
 // What is seen after an event: refusal, answer and output, and "for each line 0 to 8 in order, its place in turn", as far as lines are
@@ -32,6 +37,23 @@ fn add_seen(digest: u32, answer: Answer, controller: Controller, lines: u8) -> u
     sum
 }
 
+// "Let q be the seat byte of the record % 16": the tallies of seat q are asked, and refused where there is none.
+fn add_tallies(digest: u32, bench: Bench, seat: u8) -> u32 {
+    let told = bench.tallies(seat % ASKED_SEATS);
+    let answer = told.answer;
+    let refusal = answer.refusal();
+    let five = told.five;
+    let asked = streams::add(digest, refusal as u32);
+    if refusal > 0 {
+        return asked;
+    }
+    let arrived = streams::add(asked, five.arrived);
+    let read = streams::add(arrived, five.read);
+    let lost = streams::add(read, five.lost);
+    let dropped = streams::add(lost, five.dropped);
+    streams::add(dropped, five.queued)
+}
+
 impl Run {
     pub(crate) fn start(seed: u32, set: u8, bench: Bench) -> Run {
         Run {
@@ -39,10 +61,11 @@ impl Run {
             bench,
             sum: 0,
             letters: 0,
+            tallies: 0,
         }
     }
 
-    // The stream stands where it stood, with its letters; the bench and the digest are others.
+    // The stream stands where it stood, with its letters and tallies; the bench and the digest are others.
     pub(crate) fn with_bench(self, bench: Bench, sum: u32) -> Run {
         let stream = self.stream;
         Run {
@@ -50,6 +73,7 @@ impl Run {
             bench,
             sum,
             letters: self.letters,
+            tallies: self.tallies,
         }
     }
 
@@ -60,6 +84,7 @@ impl Run {
         let mut bench = self.bench;
         let mut sum = self.sum;
         let mut letters = self.letters;
+        let mut tallies = self.tallies;
         for _ in 0..count {
             let made = stream.next(rows);
             stream = made.stream;
@@ -84,12 +109,14 @@ impl Run {
             let answer = touched.answer;
             sum = add_seen(sum, answer, moved, lines);
             letters = streams::add(letters, streams::letter_mark(answer));
+            tallies = add_tallies(tallies, bench, record.seat);
         }
         Run {
             stream,
             bench,
             sum,
             letters,
+            tallies,
         }
     }
 
@@ -97,6 +124,7 @@ impl Run {
         Sums {
             sum: self.sum,
             letters: self.letters,
+            tallies: self.tallies,
         }
     }
 }

@@ -7,12 +7,12 @@ pub(crate) struct Spotted {
     pub at: u16,
 }
 
-// "Two picks, first t = pick(16), then u = pick(34)"
+// "Two picks, first t = pick(16), then u = pick(44)"
 pub(crate) fn spot(x: u32) -> Spotted {
     let t = advance(x);
     let u = advance(t);
     Spotted {
         x: u,
-        at: 34 * pick(t, 15) as u16 + pick(u, 33) as u16,
+        at: 44 * pick(t, 15) as u16 + pick(u, 43) as u16,
     }
 }

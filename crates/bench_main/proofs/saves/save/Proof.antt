@@ -39,7 +39,7 @@ array-share-prefix-bytes : tie.Need-array-share-prefix-bytes
 array-share-prefix-bytes c = search needs
 
 slice-aggregate-put-2 : tie.Need-slice-aggregate-put-2
-slice-aggregate-put-2 c = sym (length-take-le 544 (c .before .before .before .save .last .1 .0) (omega (arith, c .before .before .before .save .kept)))
+slice-aggregate-put-2 c = sym (length-take-le 704 (c .before .before .before .save .last .1 .0) (omega (arith, c .before .before .before .save .kept)))
 
 put-requires : tie.Need-put-requires
 put-requires c κs = search needs

@@ -1,5 +1,8 @@
 use Rattle.image.specs.Read.{benchFrom}
 use Rattle.image.specs.Refusals.{latchesAllowed, imageGood, bodyOf}
+use native.Mathlib.Omega.{arith}
+use Rattle.image.specs.Layout.{versionOf}
+use Rattle.image.specs.PlaceLaws.{front-inside}
 use borrow.Author.Needs.{needs}
 use Rattle.image.proofs.reading.body_of.Statement.{statement}
 use Rattle.image.proofs.reading.body_of.Tie as tie
@@ -8,7 +11,7 @@ records-from-requires : tie.Need-records-from-requires
 records-from-requires c κs = search needs
 
 controller-block-requires : tie.Need-controller-block-requires
-controller-block-requires c κs = search needs
+controller-block-requires c κs = omega (arith, front-inside (versionOf (c .before .before .args .p .now)) 8)
 
 lines-of-requires : tie.Need-lines-of-requires
 lines-of-requires c κs = search needs

@@ -5,16 +5,21 @@ use lib.Seq.{sets}
 use borrow.Author.Needs.{needs}
 use Rattle.base.specs.Every.{every}
 use Rattle.base.specs.ListLaws.{listed}
+use Rattle.image.specs.Layout.{versionOf}
+use Rattle.image.specs.PlaceLaws.{within, front-inside}
 use Rattle.image.specs.Read.{seatAt, goodAt, recordsFrom}
 use Rattle.image.specs.ReadLaws.{seat-turn, good-turn}
 use Rattle.image.proofs.reading.records_from.Statement.{statement}
 use Rattle.image.proofs.reading.records_from.Tie as tie
 
 abbrev Inv-loop : tie.InvT-loop
-Inv-loop p seats₀ good₀ k₀ seats good k = (k ≤ 8) × ((seats ≡ sets seats₀ 0 (listed k (seatAt p))) × (good ≡ every k (goodAt p)))
+Inv-loop p version seats₀ good₀ k₀ seats good k = (k ≤ 8) × ((seats ≡ sets seats₀ 0 (listed k (seatAt p))) × (good ≡ every k (goodAt p)))
 
 abbrev μ-loop : tie.MeasureT-loop
-μ-loop p seats₀ good₀ k₀ seats good k = 8 - k
+μ-loop p version seats₀ good₀ k₀ seats good k = 8 - k
+
+version-of-requires : tie.Need-version-of-requires Inv-loop μ-loop
+version-of-requires c κs = omega (arith, front-inside (versionOf (c .before .args .p .now)) 8)
 
 power-up-requires : tie.Need-power-up-requires Inv-loop μ-loop
 power-up-requires c κs = search needs
@@ -22,20 +27,17 @@ power-up-requires c κs = search needs
 loop-holds : tie.Need-loop-holds Inv-loop μ-loop
 loop-holds c = (omega arith, (refl, refl))
 
-mul-place : tie.Need-mul-place Inv-loop μ-loop
-mul-place c = omega arith
-
-add-place : tie.Need-add-place Inv-loop μ-loop
-add-place c = omega arith
+place-in-requires : tie.Need-place-in-requires Inv-loop μ-loop
+place-in-requires c κs = omega arith
 
 sub-get : tie.Need-sub-get Inv-loop μ-loop
-sub-get c = omega arith
+sub-get c = omega (arith, within (c .before .before .before .before .before .before .args .p .now) (c .before .before .before .before .version-of .result) (c .place-in .result) (c .before .before .loop .k) (c .before .before .before .before .version-of .ensures) (c .place-in .ensures) (omega arith) (omega arith))
 
 part-get-start : tie.Need-part-get-start Inv-loop μ-loop
-part-get-start c = omega arith
+part-get-start c = omega (arith, within (c .before .before .before .before .before .before .args .p .now) (c .before .before .before .before .version-of .result) (c .place-in .result) (c .before .before .loop .k) (c .before .before .before .before .version-of .ensures) (c .place-in .ensures) (omega arith) (omega arith))
 
 part-get-end : tie.Need-part-get-end Inv-loop μ-loop
-part-get-end c = omega arith
+part-get-end c = omega (arith, within (c .before .before .before .before .before .before .args .p .now) (c .before .before .before .before .version-of .result) (c .place-in .result) (c .before .before .loop .k) (c .before .before .before .before .version-of .ensures) (c .place-in .ensures) (omega arith) (omega arith))
 
 get-requires : tie.Need-get-requires Inv-loop μ-loop
 get-requires c κs = tt
@@ -56,8 +58,8 @@ loop-again : tie.Need-loop-again Inv-loop μ-loop
 loop-again c = (
   omega arith,
   (
-    seat-turn (c .before .before .before .before .before .before .before .before .args .p .now) (c .before .before .before .before .before .loop .k) (c .before .before .get .result) (c .before .before .get .ensures) _ (c .before .before .before .before .before .loop .seats) (c .before .before .before .before .before .loop .inv .1 .0),
-    good-turn (c .before .before .before .before .before .before .before .before .args .p .now) (c .before .before .before .before .before .loop .k) (c .before .before .get .result) (c .before .before .get .ensures) (c .before .before .before .before .before .loop .good) (c .before .before .before .before .before .loop .inv .1 .1),
+    seat-turn (c .before .before .before .before .before .before .before .before .before .before .args .p .now) (c .before .before .before .before .before .before .loop .k) (c .before .before .before .before .before .before .before .before .version-of .result) (c .before .before .before .before .place-in .result) (c .before .before .before .before .before .before .before .before .version-of .ensures) (c .before .before .before .before .place-in .ensures) (c .before .before .get .result) (c .before .before .get .ensures) _ (c .before .before .before .before .before .before .loop .seats) (c .before .before .before .before .before .before .loop .inv .1 .0),
+    good-turn (c .before .before .before .before .before .before .before .before .before .before .args .p .now) (c .before .before .before .before .before .before .loop .k) (c .before .before .before .before .before .before .before .before .version-of .result) (c .before .before .before .before .place-in .result) (c .before .before .before .before .before .before .before .before .version-of .ensures) (c .before .before .before .before .place-in .ensures) (c .before .before .get .result) (c .before .before .get .ensures) (c .before .before .before .before .before .before .loop .good) (c .before .before .before .before .before .before .loop .inv .1 .1),
   ),
 )
 
@@ -75,10 +77,10 @@ records-from-spec =
     (tie.spec
     Inv-loop
     μ-loop
+    version-of-requires
     power-up-requires
     loop-holds
-    mul-place
-    add-place
+    place-in-requires
     sub-get
     part-get-start
     part-get-end

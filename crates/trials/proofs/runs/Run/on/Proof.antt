@@ -6,10 +6,10 @@ use Rattle.trials.proofs.runs.Run.on.Tie as tie
 
 -- the count is a number of 64 bits, so that the one after a number below it is
 abbrev Inv-loop : tie.InvT-loop
-Inv-loop rows count lines stream₀ bench₀ sum₀ letters₀ counter₀ stream bench sum letters counter = count < 18446744073709551616
+Inv-loop rows count lines stream₀ bench₀ sum₀ letters₀ tallies₀ counter₀ stream bench sum letters tallies counter = count < 18446744073709551616
 
 abbrev μ-loop : tie.MeasureT-loop
-μ-loop rows count lines stream₀ bench₀ sum₀ letters₀ counter₀ stream bench sum letters counter = count - counter
+μ-loop rows count lines stream₀ bench₀ sum₀ letters₀ tallies₀ counter₀ stream bench sum letters tallies counter = count - counter
 
 loop-holds : tie.Need-loop-holds Inv-loop μ-loop
 loop-holds c = search needs
@@ -47,6 +47,9 @@ letter-mark-requires c κs = search needs
 add-requires : tie.Need-add-requires Inv-loop μ-loop
 add-requires c κs = search needs
 
+add-tallies-requires : tie.Need-add-tallies-requires Inv-loop μ-loop
+add-tallies-requires c κs = search needs
+
 add-counter : tie.Need-add-counter Inv-loop μ-loop
 add-counter c = omega arith
 
@@ -77,6 +80,7 @@ on-spec =
     add-seen-requires
     letter-mark-requires
     add-requires
+    add-tallies-requires
     add-counter
     loop-less
     loop-again

@@ -1,0 +1,4 @@
+pub mod Telling
+pub mod Lending
+pub mod Statements
+pub mod Slips

@@ -1,0 +1,12 @@
+pub mod Places
+pub mod Written
+pub mod Allowed
+pub mod Read
+pub mod Fields
+pub mod Told
+pub mod ThereAndBack
+pub mod Statements
+pub mod SlotLaws
+pub mod WrittenLaws
+pub mod FieldLaws
+pub mod ReadLaws
