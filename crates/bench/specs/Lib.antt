@@ -20,3 +20,4 @@ pub mod ValidLaws
 pub mod AcknowledgeLaws
 pub mod DoneLaws
 pub mod HeardLaws
+pub mod TalliedLaws

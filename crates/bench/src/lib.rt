@@ -11,6 +11,7 @@ mod tallies;
 
 pub use seats::chair;
 pub use seats::reset_all;
+pub use tallies::tallies_by;
 ghost use mathlib.Core.Path.{_≡_};
 ghost use Rattle.bench.specs.Seats.{powerUp};
 

@@ -215,6 +215,7 @@ bench-once M =
     record {
       bench·chair = value _ refl (λ κ a v w. refl);
       bench·reset-all = value _ refl (λ κ a v w. refl);
+      bench·tallies-by = value _ refl (λ κ a v w. refl);
       bench·Bench·power-up = value _ refl (λ κ a v w. refl);
       bench·Bench·step = value _ refl (λ κ a v w. refl);
       bench·Bench·step-short = value _ refl (λ κ a v w. refl);

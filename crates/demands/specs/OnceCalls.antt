@@ -212,6 +212,7 @@ pub record RecordsOnce (M : Type 1) : Type 2 where
 pub record BenchOnce (M : Type 1) : Type 2 where
   pub bench·chair : Once M bench.chair.ended bench.chair.clauses bench.chair.spec
   pub bench·reset-all : Once M bench.reset_all.ended bench.reset_all.clauses bench.reset_all.spec
+  pub bench·tallies-by : Once M bench.tallies_by.ended bench.tallies_by.clauses bench.tallies_by.spec
   pub bench·Bench·power-up : Once M bench.Bench.power_up.ended bench.Bench.power_up.clauses bench.Bench.power_up.spec
   pub bench·Bench·step : Once M bench.Bench.step.ended bench.Bench.step.clauses bench.Bench.step.spec
   pub bench·Bench·step-short : Once M bench.Bench.step_short.ended bench.Bench.step_short.clauses bench.Bench.step_short.spec

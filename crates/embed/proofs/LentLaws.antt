@@ -25,7 +25,7 @@ use Rattle.base.specs.Bits.{bit, digit}
 use Rattle.base.specs.Refusals.{firstOf, refusalBy}
 use Rattle.base.specs.Answers.{refusalOf, valueOf}
 use Rattle.base.specs.declared.Answer.{Answer}
-use Rattle.base.specs.declared.Answer.the-variants.{Letter, Refused}
+use Rattle.base.specs.declared.Answer.the-variants.{Done, Letter, Refused}
 use Rattle.registers.specs.declared.SeatEvent.the-variants.{Read}
 use Rattle.registers.specs.Refusals as registers
 use Rattle.registers.specs.Registers.{registerAt, plainRegister}
@@ -36,6 +36,7 @@ use Rattle.channel.specs.Steps as channel
 use Rattle.seat.specs.declared.Seat.{Seat}
 use Rattle.seat.specs.declared.Replied.{Replied}
 use Rattle.seat.specs.declared.Five.{Five}
+use Rattle.seat.specs.Seats.{five}
 use Rattle.seat.specs.SoundLaws.{sound-parts}
 use Rattle.seat.specs.TallyLaws.{sum}
 use Rattle.seat.specs.Steps as step
@@ -56,6 +57,7 @@ use Rattle.bench.specs.Runs.{afterAll}
 use Rattle.bench.specs.declared.Tallied.{Tallied}
 use Rattle.bench.specs.Seats.{powerUp, seat}
 use Rattle.bench.specs.Tallies.{talliesOf, noFive}
+use Rattle.bench.specs.TalliedLaws.{tallied-told, tallied-refused}
 use Rattle.bench.specs.Valid.{valid}
 use Rattle.bench.specs.ValidLaws.{parts, at-seat}
 use Rattle.bench.specs.DoneLaws.{seat-answer}
@@ -66,7 +68,6 @@ use Rattle.embed.specs.Word.{answerIn, refusalIn, outputIn, marksIn, beh
 use Rattle.embed.specs.WordLaws.{letter-back}
 use Rattle.embed.specs.Outputs.{outputs, outputsAt}
 use Rattle.embed.specs.OutputsLaws.{outputs-told, outputs-refused}
-use Rattle.embed.specs.TalliesLaws.{tallies-by, tallied-told, tallied-refused}
 use Rattle.embed.specs.Zeroed.{zeroed}
 use Rattle.embed.specs.ZeroedLaws.{power-up-zeroed}
 use Rattle.embed.proofs.hailstoat_power_up as power-up
@@ -100,19 +101,24 @@ abbrev pub AddsUp : Five → Type 0
 AddsUp z = z .read + z .lost + z .dropped + z .queued ≡ z .arrived
 
 module _ (b : Bench) (n : ℕ) where
-  told-five : n < seatCount → Figures (talliesOf b n .five) (seat b n)
-  told-five small =
-      subst (λ (t : Tallied). Figures (t .five) (seat b n)) (sym (tallies-by b n ∙ tallied-told (seat b n) n small))
-      (record { arrived-is = refl; read-is = refl; lost-is = refl; dropped-is = refl; queued-is = refl })
+  all-of-five : n < seatCount → talliesOf b n ≡ record { answer = Done; five = five (seat b n) }
+  unfolding talliesOf
+  all-of-five small = tallied-told (seat b n) n small
 
   none-of-five : seatCount ≤ n → talliesOf b n ≡ record { answer = Refused 1; five = noFive }
-  none-of-five large = tallies-by b n ∙ tallied-refused (seat b n) n large
+  unfolding talliesOf
+  none-of-five large = tallied-refused (seat b n) n large
+
+  told-five : n < seatCount → Figures (talliesOf b n .five) (seat b n)
+  told-five small =
+      subst (λ (t : Tallied). Figures (t .five) (seat b n)) (sym (all-of-five small))
+      (record { arrived-is = refl; read-is = refl; lost-is = refl; dropped-is = refl; queued-is = refl })
 
   five-add-up : valid b ≡ true → AddsUp (talliesOf b n .five)
   five-add-up is =
       ⊎-elim
       (λ (small : ltb n seatCount ≡ true).
-      subst (λ (t : Tallied). AddsUp (t .five)) (sym (tallies-by b n ∙ tallied-told (seat b n) n (ltb-true _ _ small)))
+      subst (λ (t : Tallied). AddsUp (t .five)) (sym (all-of-five (ltb-true _ _ small)))
       (sum (seat b n .tallies) _ (sound-parts (seat b n) (at-seat b (parts b is) n) .1) .total))
       (λ (large : ltb n seatCount ≡ false). subst (λ (t : Tallied). AddsUp (t .five)) (sym (none-of-five (ltb-false _ _ large))) refl)
       (either-way (ltb n seatCount))
@@ -259,11 +265,11 @@ module _ {M : Type 1} (𝓤 : URA M) (H : Heap 𝓤) (A : Atoms 𝓤) (mem : Mem
     pub tallies-lent : a .1 .0 < 8 → ent 𝓤 Handed (fact 𝓤 ((refusalIn r ≡ 0) × (answerIn r ≡ 0) × Figures stored (seat (a .0 .now) (a .1 .0))))
     unfolding refusalOf valueOf
     tallies-lent small =
-        let told = ap (λ (t : Tallied). t .answer) (tallies-by (a .0 .now) (a .1 .0) ∙ tallied-told (seat (a .0 .now) (a .1 .0)) (a .1 .0) small) in
+        let told = all-of-five (a .0 .now) (a .1 .0) small in
         fact-use 𝓤 Hands (id⊢ 𝓤 Handed) (λ p.
         factI 𝓤 ((refusalIn r ≡ 0) × (answerIn r ≡ 0) × Figures stored (seat (a .0 .now) (a .1 .0))) Handed (
-          p .1 .1 .refusal ∙ ap refusalOf told,
-          p .1 .1 .answer ∙ ap valueOf told,
+          p .1 .1 .refusal ∙ ap (λ (t : Tallied). refusalOf (t .answer)) told,
+          p .1 .1 .answer ∙ ap (λ (t : Tallied). valueOf (t .answer)) told,
           subst (λ (z : Five). Figures z (seat (a .0 .now) (a .1 .0))) (sym (p .0)) (told-five (a .0 .now) (a .1 .0) small),
         ))
 

@@ -8,6 +8,5 @@ pub mod Zeroed
 pub mod WordLaws
 pub mod NumberLaws
 pub mod OutputsLaws
-pub mod TalliesLaws
 pub mod VersionLaws
 pub mod ZeroedLaws

@@ -161,26 +161,14 @@ fn seat_outputs(held: Seat, n: u32) -> u64
     outputs_word(held.channel.settings.mcr, n)
 }
 
-// "seat (or line) above 7": refused, and nothing is told of any seat.
 fn seat_tallies(held: Seat, n: u32) -> Counted
     ensures { λ r. ⌜ Counts r held n ⌝ }
 {
-    if n < SEATS {
-        return Counted {
-            five: held.five(),
-            word: word(Answer::Done, false),
-        };
-    }
-    Counted {
-        five: Five {
-            arrived: 0,
-            read: 0,
-            lost: 0,
-            dropped: 0,
-            queued: 0,
-        },
-        word: word(Answer::Refused(Answer::SEAT_ABOVE), false),
-    }
+    let t = bench::tallies_by(held, n);
+    let five = t.five;
+    let answer = t.answer;
+    let told = word(answer, false);
+    Counted { five, word: told }
 }
 
 fn output_byte(controller: Controller) -> u8

@@ -1,6 +1,6 @@
 -- `hailstoat_tallies`, walked by hand. It is found where the seat lies; the shared loan is looked into, the seat copied out and that loan shut; of what
 -- `seat_tallies` returns the five are stored where the other loan lies, which is opened and closed for it, and the word is returned.
-use mathlib.Core.Path.{_≡_, refl, sym, ap, subst}
+use mathlib.Core.Path.{_≡_, refl, sym, ap}
 use mathlib.Core.Bool.{false}
 use Prim.Native.Nat.{ℕ, _+_, _<_, _^_}
 use mathlib.Core.List.{[], _∷_, List}
@@ -46,14 +46,12 @@ use Rattle.seat.proofs.Seat.Laws as S′
 use Rattle.seat.proofs.Five as F
 use Rattle.seat.proofs.Five.Laws as F′
 use Rattle.bench.specs.declared.Bench.{Bench}
-use Rattle.bench.specs.declared.Tallied.{Tallied}
 use Rattle.bench.specs.Seats.{chair, seat}
 use Rattle.bench.specs.Tallies.{talliesOf}
 use Rattle.bench.proofs.Bench as B
 use Rattle.bench.proofs.Bench.Laws as B′
 use Rattle.embed.specs.Bytes.{seatBytes}
 use Rattle.embed.specs.Tallies.{Counts}
-use Rattle.embed.specs.TalliesLaws.{tallies-by}
 use Rattle.embed.specs.Word.{Tells}
 use Rattle.embed.specs.declared.Counted.{Counted}
 use Rattle.embed.proofs.Handing.{found, finds, stores, leaves}
@@ -120,7 +118,8 @@ module _ {M : Type 1} (𝓤 : URA M) (H : Heap 𝓤) (A : Atoms 𝓤) (W : Given
   Shown r = (r .five ≡ talliesOf h n .five) × Tells (r .word) (talliesOf h n .answer) false
 
   shown : (r : Counted) → Ensured r → Shown r
-  shown r eq = subst (λ (t : Tallied). (r .five ≡ t .five) × Tells (r .word) (t .answer) false) (sym (tallies-by h n)) eq
+  unfolding talliesOf
+  shown r eq = eq
 
   -- what is left of both loans
   abbrev left : Counted → List (Item 𝓤)
