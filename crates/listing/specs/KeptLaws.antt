@@ -1,10 +1,11 @@
 -- Nine of ten numbers share the digits before the last with the number before them.
 use Prim.Native.Nat.{ℕ, _+_, _≤_, _<_, _^_}
 use mathlib.Core.List.{List}
-use mathlib.Core.Path.{_≡_, sym, ap, _∙_}
+use mathlib.Core.Path.{_≡_, refl, sym, _∙_}
 use native.Mathlib.Omega.{arith}
 use lib.ListN.{length, take}
-use lib.Seq.{sets, length-sets, sets-eq, take-at, length-take-le}
+use lib.Seq.{sets, length-sets, length-take-le}
+use Rattle.base.specs.StoreLaws.{stored-first}
 use Rattle.text.specs.Front.{front}
 use Rattle.text.specs.DecimalLaws.{decimal-length, front-length, front-same}
 use Rattle.listing.specs.Kept.{textSize, Fronts, Stays}
@@ -25,7 +26,7 @@ fronts-put text text′ digits n small size is put =
     (record {
       size = rw length-sets size;
       inside = rw length-sets (omega arith);
-      shown = ap (take digits) (sets-eq (front n) text 0 (omega arith)) ∙ take-at _ _ digits (sym is);
+      shown = stored-first digits (front n) text _ (sym is) (omega arith) refl .0;
     })
 
 pub fronts-count : (text : List ℕ) (digits n : ℕ) → Fronts text digits n → digits ≡ length (take digits text)

@@ -6,8 +6,9 @@ use mathlib.Core.Path.{_≡_, refl, sym, ap, ap₂, _∙_}
 use native.Mathlib.Omega.{arith}
 use native.Mathlib.Nat.{zero-add, suc-add}
 use lib.ListN.{length, take, drop}
-use lib.Seq.{sets-eq, take-append-seam, drop-append-seam, take-nil, length-take-le}
+use lib.Seq.{take-nil, length-take-le}
 use Rattle.base.specs.PickLaws.{pick-cases}
+use Rattle.base.specs.StoreLaws.{stored-first}
 use Rattle.records.specs.Events.{Record}
 use Rattle.bench.specs.Runs.{afterAll}
 use Rattle.bench.specs.Steps.{outcome}
@@ -35,13 +36,8 @@ module _ (b : Bench) (n : ℕ) (s : List ℕ) (last : Bool) (d d′ : List ℕ) 
   pub run-shown : (take (r .written) d′ ≡ listing b n (take (r .records) (recordsOf last s))) × (drop (r .written) d′ ≡ drop (r .written) d)
   run-shown =
       let ls : List ℕ = listing b n (answeredOf b n (recordsOf last s) (length d)) in
-      let fit : 0 + length ls ≤ length d = omega (arith, p .written, p .inside) in
-      let front : d′ ≡ ls ++ drop (length ls) d = p .bytes ∙ sets-eq ls d 0 fit ∙ ap (λ (k : ℕ). ls ++ drop k d) (zero-add (length ls)) in (
-        ap (λ (k : ℕ). take k d′) (p .written) ∙ ap (take (length ls)) front ∙ take-append-seam ls (drop (length ls) d)
-            ∙ ap (λ (k : ℕ). listing b n (take k (recordsOf last s))) (sym (p .records)),
-        ap (λ (k : ℕ). drop k d′) (p .written) ∙ ap (drop (length ls)) front ∙ drop-append-seam ls (drop (length ls) d)
-            ∙ ap (λ (k : ℕ). drop k d) (sym (p .written)),
-      )
+      let shown : _ = stored-first (r .written) ls d d′ (sym (p .written)) (p .inside) (p .bytes) in
+      (shown .0 ∙ ap (λ (k : ℕ). listing b n (take k (recordsOf last s))) (sym (p .records)), shown .1)
 
 -- a run from the bench, the number and the bytes that another left goes on where that stopped, whatever the buffers hold
 pub run-on : (b : Bench) (n : ℕ) (s : List ℕ) (last : Bool) (d d′ : List ℕ) (r : Ran) → Runs b n s last d d′ r

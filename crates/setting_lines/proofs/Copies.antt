@@ -1,12 +1,13 @@
 -- A line made in an array, as it is compared and copied.
 use Prim.Native.Nat.{ℕ, _+_, _≤_}
 use mathlib.Core.List.{List, _++_}
-use mathlib.Core.Path.{_≡_, refl, ap, sym, _∙_}
+use mathlib.Core.Path.{_≡_, ap, sym, _∙_}
 use native.Mathlib.Omega.{arith}
 use lib.ListN.{length, take, drop}
-use lib.Seq.{sets, sets-eq, take-at, take-length, length-sets}
+use lib.Seq.{sets, take-length, length-sets}
 use borrow.Author.Tests.{le-leb}
 use Rattle.base.specs.PickLaws.{pick-true}
+use Rattle.base.specs.StoreLaws.{stored-first}
 use Rattle.base.specs.Answers.{refusalOf}
 use Rattle.base.specs.declared.Answer.the-variants.{Done}
 use Rattle.rates.specs.declared.Found.{Found}
@@ -33,7 +34,7 @@ module _ (own own′ line : List ℕ) (n : ℕ) (m : Made own own′ line n) whe
 
   -- so many bytes of the array, from its start, are the line
   pub made-is : take n own′ ≡ line
-  made-is = rw (m .put, m .size, sets-eq line own 0 (omega (arith, m .few))) (take-at line (drop (0 + length line) own) (length line) refl)
+  made-is = stored-first n line own own′ (sym (m .size)) (omega (arith, m .size, m .few)) (m .put) .0
 
   pub made-length : n ≡ length (take n own′)
   made-length = m .size ∙ ap length (sym made-is)
