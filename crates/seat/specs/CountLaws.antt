@@ -6,20 +6,22 @@ use mathlib.Core.List.{List, [], _∷_}
 use mathlib.Core.Path.{_≡_, refl, ap, sym, subst, _∙_}
 use mathlib.Core.Logic.{⊎-elim}
 use native.Mathlib.Omega.{arith}
+use native.Mathlib.Nat.{sub-self}
 use lib.Dec.{eqb, leb}
 use lib.ListN.{length}
-use borrow.Author.Tests.{eq-eqb, ne-eqb, leb-true, leb-false, lt-ltb, le-ltb}
+use borrow.Author.Tests.{leb-true, leb-false, lt-ltb, le-ltb}
 use Rattle.base.specs.Pick.{pick}
 use Rattle.base.specs.PickLaws.{pick-true, pick-false, both-hold, either-way}
 use Rattle.base.specs.Answers.{refusalOf}
 use Rattle.base.specs.declared.Answer.the-variants.{Refused}
-use Rattle.receiver.specs.Ledger.{Moment, resets, Side, number, arrivedIn}
+use Rattle.receiver.specs.Ledger.{Moment, resets, Side, number, arrivedIn, readIn, lostIn, droppedIn}
 use Rattle.registers.specs.declared.SeatEvent.{SeatEvent}
 use Rattle.registers.specs.declared.SeatEvent.the-variants.{Read, Write, Arrival, Levels, Time}
+use Rattle.registers.specs.Refusals as registers
 use Rattle.channel.specs.declared.Channel.{Channel}
 use Rattle.channel.specs.declared.Stepped.{Stepped}
 use Rattle.channel.specs.Parts.{inLoopback}
-use Rattle.channel.specs.Moments.{side, acceptedMoments}
+use Rattle.channel.specs.Moments.{side, acceptedMoments, momentsOf}
 use Rattle.channel.specs.Steps as channel-step
 use Rattle.channel.specs.StepLaws as channel-laws
 use Rattle.channel_laws.specs.FigureLaws.{Figures, Received, Unmoved, read-figures, write-figures, levels-figures, arrival-received, arrival-unheard, time-received, time-unheard, resets-figures}
@@ -40,6 +42,9 @@ pub same-tallies : {a b c d a' b' c' d' : ℕ} → a ≡ a' → b ≡ b' → c �
     → _≡_ {A = Tallies} (record { arrived = a; read = b; lost = c; dropped = d }) (record { arrived = a'; read = b'; lost = c'; dropped = d' })
 same-tallies p q r s = cc
 
+pub none-more : (t : Tallies) → t .arrived < 4294967296 → t .read < 4294967296 → t .lost < 4294967296 → t .dropped < 4294967296 → t ≡ more t 0 0 0 0
+none-more t a r l d = same-tallies (kept (t .arrived) a) (kept (t .read) r) (kept (t .lost) l) (kept (t .dropped) d)
+
 -- what is tallied by these figures
 by-figures : (t : Tallies) (s : Side) (ms : List Moment) (a r l d : ℕ) → Figures s ms a r l d → tallied t s ms ≡ more t a r l d
 unfolding tallied
@@ -56,13 +61,6 @@ told-one : (heard : Bool) → _≡_ {A = ℕ} (pick heard 1 0) 1 → heard ≡ t
 unfolding pick
 told-one true e = refl
 told-one false e = let none : _≡_ {A = ℕ} 0 1 = e in absurd (omega arith)
-
--- where nothing is received: the event, and how many fewer are queued, as the code has them
-pub gone-counted : (t x : Tallies) (e f : SeatEvent) (heard : Bool) (before after n : ℕ) → heard ≡ false → e ≡ f → n ≡ before - after → x ≡ goneBy t f n
-    → x ≡ counted t e heard before after
-unfolding counted
-gone-counted t x e f heard before after n none is fewer gone =
-    gone ∙ ap (goneBy t f) fewer ∙ ap (λ (y : SeatEvent). goneBy t y (before - after)) (sym is) ∙ sym (pick-false _ _ _ none)
 
 -- the caller has been told whether the event receives
 abbrev pub Told : Channel → SeatEvent → Bool → Type 0
@@ -133,49 +131,93 @@ module _ (t : Tallies) (c : Channel) where
       (λ (outside : (inLoopback c && c .transmitter .busy) ≡ false). by-nothing Time heard told (λ n. refl) (time-unheard c outside))
       (either-way (inLoopback c && c .transmitter .busy))
 
--- ---- any event
+-- ---- any event, refused or not
 
--- what the code makes of the channel's step
-abbrev pub countedStep : Seat → SeatEvent → Bool → Stepped → Replied
-countedStep s e heard t =
-    record {
-      seat =
-          record {
-            tallies =
-                pick (eqb (refusalOf (t .answer)) 0) (counted (s .tallies) e heard (queued s) (t .channel .receiver .queue .count))
-                (s .tallies);
-            channel = t .channel;
-          };
-      answer = t .answer;
-    }
+and-so : (a b : Bool) → b ≡ true → (a && b) ≡ a
+and-so true b is = is
+and-so false b is = refl
+
+and-not : (a b : Bool) → b ≡ false → (a && b) ≡ false
+and-not true b is = is
+and-not false b is = refl
+
+-- it receives what it would, unless it is refused
+pub received-told : (c : Channel) (e : SeatEvent) (heard : Bool) → Told c e heard
+    → pick (heard && eqb (refusalOf (channel-step.stepped c e .answer)) 0) 1 0 ≡ length (arrivedIn (momentsOf c e))
+unfolding momentsOf arrivedIn
+received-told c e heard told =
+    ap (λ (n : ℕ). pick (heard && eqb n 0) 1 0) (channel-laws.step-number c e)
+    ∙ ⊎-elim
+    (λ (none : eqb (registers.refusal (c .settings) e) 0 ≡ true).
+    ap (λ (b : Bool). pick b 1 0) (and-so heard _ none) ∙ told ∙ ap (λ (ms : List Moment). length (arrivedIn ms)) (sym (pick-true _ _ [] none)))
+    (λ (some : eqb (registers.refusal (c .settings) e) 0 ≡ false).
+    ap (λ (b : Bool). pick b 1 0) (and-not heard _ some) ∙ pick-false false 1 0 refl
+    ∙ ap (λ (ms : List Moment). length (arrivedIn ms)) (sym (pick-false _ (acceptedMoments c e) [] some)))
+    (either-way (eqb (registers.refusal (c .settings) e) 0))
+
+none-gone : (t : Tallies) (e : SeatEvent) → goneBy t e 0 ≡ more t 0 0 0 0
+none-gone t (Read n) = refl
+none-gone t (Write n byte) = refl
+none-gone t (Arrival marks byte) = refl
+none-gone t (Levels levels) = refl
+none-gone t Time = refl
+
+-- counted by the numbers queued, of what the channel's step left, is told by the ledger
+pub by-counts : (t : Tallies) (c : Channel) (e : SeatEvent) (left : Stepped) (heard : Bool) → left ≡ channel-step.stepped c e
+    → pick heard 1 0 ≡ length (arrivedIn (momentsOf c e))
+    → counted t e heard (number (side c)) (number (side (left .channel))) ≡ tallied t (side c) (momentsOf c e)
+unfolding momentsOf counted tallied arrivedIn readIn lostIn droppedIn
+by-counts t c e left heard is told =
+    ap (λ (x : Stepped). counted t e heard (number (side c)) (number (side (x .channel)))) is
+    ∙ ⊎-elim
+    (λ (none : eqb (registers.refusal (c .settings) e) 0 ≡ true).
+    let all = pick-true (eqb (registers.refusal (c .settings) e) 0) (acceptedMoments c e) [] none in
+    ap (λ (x : Stepped). counted t e heard (number (side c)) (number (side (x .channel)))) (channel-laws.step-taken c e none)
+    ∙ effect-counted t c e heard (told ∙ ap (λ (ms : List Moment). length (arrivedIn ms)) all) ∙ ap (tallied t (side c)) (sym all))
+    (λ (some : eqb (registers.refusal (c .settings) e) 0 ≡ false).
+    let nothing = pick-false (eqb (registers.refusal (c .settings) e) 0) (acceptedMoments c e) [] some in
+    ap (λ (x : Stepped). counted t e heard (number (side c)) (number (side (x .channel)))) (channel-laws.step-refused c e some)
+    ∙ pick-false _ _ _ (told-none heard (told ∙ ap (λ (ms : List Moment). length (arrivedIn ms)) nothing))
+    ∙ ap (goneBy t e) (sub-self (number (side c))) ∙ none-gone t e ∙ ap (tallied t (side c)) (sym nothing))
+    (either-way (eqb (registers.refusal (c .settings) e) 0))
+
+-- an event of these, as the code has it: where one may be received
+pub heard-tallied : (t x : Tallies) (c : Channel) (e f : SeatEvent) (left : Stepped) (heard : Bool) → left ≡ channel-step.stepped c e → e ≡ f
+    → pick heard 1 0 ≡ length (arrivedIn (momentsOf c e)) → x ≡ counted t f heard (number (side c)) (number (side (left .channel)))
+    → x ≡ tallied t (side c) (momentsOf c e)
+heard-tallied t x c e f left heard after is told counts =
+    counts ∙ ap (λ (y : SeatEvent). counted t y heard (number (side c)) (number (side (left .channel)))) (sym is) ∙ by-counts t c e left heard after told
+
+-- and where none is, with how many fewer are queued
+pub gone-tallied : (t x : Tallies) (c : Channel) (e f : SeatEvent) (left : Stepped) (n : ℕ) → left ≡ channel-step.stepped c e → e ≡ f → Told c f false
+    → n ≡ number (side c) - number (side (left .channel)) → x ≡ goneBy t f n → x ≡ tallied t (side c) (momentsOf c e)
+unfolding counted
+gone-tallied t x c e f left n after is told fewer gone =
+    heard-tallied t x c e f left false after is (received-told c e false (subst (λ (y : SeatEvent). Told c y false) (sym is) told))
+    (gone ∙ ap (goneBy t f) fewer ∙ sym (pick-false false _ _ refl))
 
 -- the seat of a channel's step, with these tallies
 abbrev pub withTallies : Stepped → Tallies → Replied
 withTallies t x = record { seat = record { tallies = x; channel = t .channel }; answer = t .answer }
 
--- done, with the tallies that were counted; and refused, with those that stood
-pub done-counted : (s : Seat) (e : SeatEvent) (heard : Bool) (t : Stepped) (n : ℕ) (x : Tallies) → n ≡ refusalOf (t .answer) → n ≡ 0
-    → x ≡ counted (s .tallies) e heard (queued s) (t .channel .receiver .queue .count) → withTallies t x ≡ countedStep s e heard t
-done-counted s e heard t n x number none is = ap (withTallies t) (is ∙ sym (pick-true _ _ _ (eq-eqb _ 0 (sym number ∙ none))))
-
-pub refused-counted : (s : Seat) (e : SeatEvent) (heard : Bool) (t : Stepped) (n : ℕ) → n ≡ refusalOf (t .answer) → (n ≡ 0 → ⊥)
-    → withTallies t (s .tallies) ≡ countedStep s e heard t
-refused-counted s e heard t n number some = ap (withTallies t) (sym (pick-false _ _ _ (ne-eqb _ 0 (λ (z : refusalOf (t .answer) ≡ 0). some (number ∙ z)))))
-
-pub by-counts : (s : Seat) (e : SeatEvent) (heard : Bool) → Told (s .channel) e heard → wouldPass s e ≡ false
-    → countedStep s e heard (channel-step.stepped (s .channel) e) ≡ stepped s e
-unfolding effect refusalOf
-by-counts s e heard told within =
+-- so told, the step of the channel is the seat's, where the tallies are numbers of 32 bits
+pub by-moments : (s : Seat) (e : SeatEvent) (left : Stepped) (x : Tallies) → left ≡ channel-step.stepped (s .channel) e
+    → x ≡ tallied (s .tallies) (side (s .channel)) (momentsOf (s .channel) e) → s .tallies ≡ more (s .tallies) 0 0 0 0 → wouldPass s e ≡ false
+    → withTallies left x ≡ stepped s e
+unfolding effect momentsOf tallied arrivedIn readIn lostIn droppedIn
+by-moments s e left x is told whole within =
     let n = own-number s e within in
-    ⊎-elim
+    let counts = tallied (s .tallies) (side (s .channel)) in
+    ap (withTallies left) told ∙ ap (λ (l : Stepped). withTallies l (counts (momentsOf (s .channel) e))) is
+    ∙ ⊎-elim
     (λ (none : eqb (own s e) 0 ≡ true).
-    ap (countedStep s e heard) (channel-laws.step-taken (s .channel) e none)
-    ∙ ap (withTallies (channel-step.effect (s .channel) e))
-    (pick-true _ _ _ (ap (λ (k : ℕ). eqb k 0) (channel-laws.effect-taken (s .channel) e)) ∙ effect-counted (s .tallies) (s .channel) e heard told)
+    ap (λ (l : Stepped). withTallies l (counts (momentsOf (s .channel) e))) (channel-laws.step-taken (s .channel) e none)
+    ∙ ap (λ (ms : List Moment). withTallies (channel-step.effect (s .channel) e) (counts ms)) (pick-true _ (acceptedMoments (s .channel) e) [] none)
     ∙ sym (step-taken s e (ap (λ (k : ℕ). eqb k 0) n ∙ none)))
     (λ (some : eqb (own s e) 0 ≡ false).
-    ap (countedStep s e heard) (channel-laws.step-refused (s .channel) e some)
-    ∙ ap (withTallies (record { channel = s .channel; answer = Refused (own s e) })) (pick-false _ _ _ some)
+    ap (λ (l : Stepped). withTallies l (counts (momentsOf (s .channel) e))) (channel-laws.step-refused (s .channel) e some)
+    ∙ ap (withTallies (record { channel = s .channel; answer = Refused (own s e) }))
+    (ap counts (pick-false _ (acceptedMoments (s .channel) e) [] some) ∙ sym whole)
     ∙ ap {B = Replied} (λ (k : ℕ). record { seat = s; answer = Refused k }) (sym n)
     ∙ sym (step-refused s e (ap (λ (k : ℕ). eqb k 0) n ∙ some)))
     (either-way (eqb (own s e) 0))
@@ -211,6 +253,18 @@ room-within s e true told none =
     let one : 1 ≡ length (arrivedIn (acceptedMoments (s .channel) e)) = told in
     let less = leb-false largest (s .tallies .arrived) none in
     le-ltb (largest - s .tallies .arrived) (length (arrivedIn (acceptedMoments (s .channel) e))) (omega (arith, one, less))
+
+-- at its largest, it would pass exactly where the event receives; below, nowhere
+pub full-told : (s : Seat) (e : SeatEvent) (heard : Bool) → Told (s .channel) e heard → leb largest (s .tallies .arrived) ≡ true → heard ≡ wouldPass s e
+full-told s e true told most = sym (full-passes s e true told most)
+full-told s e false told most = sym (room-within s e false told refl)
+
+pub below-told : (s : Seat) (e : SeatEvent) → leb largest (s .tallies .arrived) ≡ false → wouldPass s e ≡ false
+below-told s (Read n) less = room-within s (Read n) false (read-told (s .channel) n) refl
+below-told s (Write n byte) less = room-within s (Write n byte) false (write-told (s .channel) n byte) refl
+below-told s (Arrival marks byte) less = room-within s (Arrival marks byte) _ (arrival-told (s .channel) marks byte) (and-not (not (inLoopback (s .channel))) _ less)
+below-told s (Levels levels) less = room-within s (Levels levels) false (levels-told (s .channel) levels) refl
+below-told s Time less = room-within s Time _ (time-told (s .channel)) (and-not (inLoopback (s .channel) && s .channel .transmitter .busy) _ less)
 
 -- a master reset drops what is queued
 pub reset-counts : (s : Seat) → tallied (s .tallies) (side (s .channel)) (resets ∷ []) ≡ more (s .tallies) 0 0 0 (queued s)

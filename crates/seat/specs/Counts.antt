@@ -21,7 +21,7 @@ goneBy t (Arrival marks byte) n = more t 0 0 0 0
 goneBy t (Levels levels) n = more t 0 0 0 0
 goneBy t Time n = more t 0 0 0 0
 
--- of an accepted event, by whether it receives; then as many are queued as before where an overrun has lost one
+-- of an event, by whether it has received one; then as many are queued as before where an overrun has lost one
 unfoldable pub counted : Tallies → SeatEvent → Bool → ℕ → ℕ → Tallies
 counted t e heard before after = pick heard (more t 1 0 (pick (eqb after before) 1 0) 0) (goneBy t e (before - after))
 

@@ -1,13 +1,17 @@
 // The tallies of a seat: four are kept, and how many are still queued is the receive queue's own number.
 use crate::Tallies;
+use crate::events::received;
+use channel::Channel;
+use channel::Stepped;
 use registers::SeatEvent;
 use std::num::wrapping_add_u32;
 ghost use mathlib.Core.Path.{_≡_};
 ghost use Prim.Native.Nat.{_-_};
 ghost use lib.Dec.{eqb, leb};
 ghost use Rattle.base.specs.Pick.{pick};
-ghost use Rattle.seat.specs.Tallies.{largest, more, addUp};
-ghost use Rattle.seat.specs.Counts.{counted};
+ghost use Rattle.channel.specs.Moments.{side, momentsOf};
+ghost use Rattle.channel.specs.Steps.{stepped};
+ghost use Rattle.seat.specs.Tallies.{largest, more, tallied, addUp};
 
 const LARGEST: u32 = 4294967295;
 
@@ -36,29 +40,36 @@ impl Tallies {
     }
 
     // As many are queued as before where an overrun has lost one.
-    fn arrived_more(mut self, before: u8, after: u8) -> Tallies
-        ensures { λ r. ⌜ r ≡ more self 1 0 (pick (eqb after before) 1 0) 0 ⌝ }
+    fn arrived_more(mut self, heard: bool, before: u8, after: u8) -> Tallies
+        ensures { λ r. ⌜ r ≡ pick heard (more self 1 0 (pick (eqb after before) 1 0) 0) (more self 0 0 0 0) ⌝ }
     {
-        self.arrived = wrapping_add_u32(self.arrived, 1);
-        if after == before {
-            self.lost = wrapping_add_u32(self.lost, 1);
+        if heard {
+            self.arrived = wrapping_add_u32(self.arrived, 1);
+            if after == before {
+                self.lost = wrapping_add_u32(self.lost, 1);
+            }
         }
         self
     }
 
-    // After an accepted event: by whether it received a character, and by how many were queued before and after it.
-    pub(crate) fn after(self, e: SeatEvent, heard: bool, before: u8, after: u8) -> Tallies
-        ensures { λ r. ⌜ r ≡ counted self e heard before after ⌝ }
+    // After an event that left this. A refused one left as many queued as there were, so that only one that may receive asks for the answer.
+    pub(crate) fn after(self, held: Channel, e: SeatEvent, left: Stepped) -> Tallies
+        requires { ⌜ left ≡ stepped held e ⌝ }
+        ensures { λ r. ⌜ r ≡ tallied self (side held) (momentsOf held e) ⌝ }
     {
-        if heard {
-            return self.arrived_more(before, after);
-        }
+        let before = held.receiver.queue.count;
+        let after = left.channel.receiver.queue.count;
+        let answer = left.answer;
         match e {
             SeatEvent::Read(_) => return self.read_more(fewer(before, after)),
             SeatEvent::Write(_, _) => return self.dropped_more(fewer(before, after)),
-            SeatEvent::Arrival(_, _) => return self,
+            SeatEvent::Arrival(_, _) => return self.arrived_more(
+                received(held, e, answer),
+                before,
+                after,
+            ),
             SeatEvent::Levels(_) => return self,
-            SeatEvent::Time => return self,
+            SeatEvent::Time => return self.arrived_more(received(held, e, answer), before, after),
         }
     }
 

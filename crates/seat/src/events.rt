@@ -4,12 +4,12 @@ use crate::Seat;
 use base::Answer;
 use channel::Channel;
 use registers::SeatEvent;
-ghost use mathlib.Core.Bool.{false};
 ghost use mathlib.Core.Path.{_≡_};
 ghost use lib.ListN.{length};
 ghost use Rattle.base.specs.Pick.{pick};
 ghost use Rattle.receiver.specs.Ledger.{arrivedIn};
-ghost use Rattle.channel.specs.Moments.{acceptedMoments};
+ghost use Rattle.channel.specs.Moments.{acceptedMoments, momentsOf};
+ghost use Rattle.channel.specs.Steps.{stepped as channel·stepped};
 ghost use Rattle.seat.specs.Steps.{wouldPass, stepped};
 ghost use Rattle.seat.specs.Counts.{refusedLast};
 
@@ -26,7 +26,25 @@ fn hears(c: Channel, e: SeatEvent) -> bool
     }
 }
 
+// And whether it has, by one that it answered so.
+pub(crate) fn received(c: Channel, e: SeatEvent, answer: Answer) -> bool
+    requires { ⌜ answer ≡ channel·stepped c e .answer ⌝ }
+    ensures { λ r. ⌜ pick r 1 0 ≡ length (arrivedIn (momentsOf c e)) ⌝ }
+{
+    hears(c, e) & (answer.refusal() == 0)
+}
+
 impl Seat {
+    // Only a tally at its largest asks what the event would receive.
+    fn would_pass(self, e: SeatEvent) -> bool
+        ensures { λ r. ⌜ r ≡ wouldPass self e ⌝ }
+    {
+        if self.tallies.is_full() {
+            return hears(self.channel, e);
+        }
+        false
+    }
+
     // Where one more would arrive than can be tallied: what the channel refuses comes first.
     fn refuse_last(self, e: SeatEvent) -> Replied
         ensures { λ r. ⌜ r ≡ refusedLast self e ⌝ }
@@ -41,43 +59,23 @@ impl Seat {
     }
 
     // The channel is lent to its step, which gives it back as it was where it refuses.
-    fn step_counted(self, e: SeatEvent, heard: bool) -> Replied
-        requires { ⌜ (pick heard 1 0 ≡ length (arrivedIn (acceptedMoments (self .channel) e))) × (wouldPass self e ≡ false) ⌝ }
-        ensures { λ r. ⌜ r ≡ stepped self e ⌝ }
-    {
-        let held = self.channel;
-        let tallies = self.tallies;
-        let before = held.receiver.queue.count;
-        let stepped = lending::lent(held, e);
-        let next = stepped.channel;
-        let answer = stepped.answer;
-        if answer.refusal() == 0 {
-            let moved = tallies.after(e, heard, before, next.receiver.queue.count);
-            return Replied {
-                seat: Seat {
-                    tallies: moved,
-                    channel: next,
-                },
-                answer,
-            };
-        }
-        Replied {
-            seat: Seat {
-                tallies,
-                channel: next,
-            },
-            answer,
-        }
-    }
-
     pub fn step(self, e: SeatEvent) -> Replied
         ensures { λ r. ⌜ r ≡ stepped self e ⌝ }
     {
         let held = self.channel;
-        let heard = hears(held, e);
-        if heard & self.tallies.is_full() {
+        if self.would_pass(e) {
             return self.refuse_last(e);
         }
-        self.step_counted(e, heard)
+        let stepped = lending::lent(held, e);
+        let moved = self.tallies.after(held, e, stepped);
+        let next = stepped.channel;
+        let answer = stepped.answer;
+        Replied {
+            seat: Seat {
+                tallies: moved,
+                channel: next,
+            },
+            answer,
+        }
     }
 }

@@ -1,47 +1,42 @@
-use mathlib.Core.Bool.{Bool, _&&_}
-use mathlib.Core.Path.{ap, sym, _∙_}
-use Rattle.seat.specs.CountLaws.{by-last, full-passes, room-within}
+use mathlib.Core.Path.{sym, _∙_}
+use native.Mathlib.Omega.{arith}
+use Rattle.seat.specs.CountLaws.{none-more, by-moments, by-last}
 use borrow.Author.Needs.{needs}
 use Rattle.seat.proofs.Seat.step.Statement.{statement}
 use Rattle.seat.proofs.Seat.step.Tie as tie
 
-hears-requires : tie.Need-hears-requires
-hears-requires c κs = search needs
-
-is-full-requires : tie.Need-is-full-requires
-is-full-requires c κs = search needs
+would-pass-requires : tie.Need-would-pass-requires
+would-pass-requires c κs = search needs
 
 refuse-last-requires : tie.Need-refuse-last-requires
 refuse-last-requires c κs = search needs
 
 returns : tie.Need-returns
 returns c =
-    let a = c .before .before .before .before .before .args in
-    let heard = c .before .before .before .hears in
-    c .refuse-last .ensures
-    ∙ by-last (a .self) (a .e)
-    (full-passes (a .self) (a .e) (heard .result) (heard .ensures)
-    (ap (λ (b : Bool). heard .result && b) (sym (c .before .before .is-full .ensures)) ∙ c .before .if1 .taken))
-
-step-counted-requires : tie.Need-step-counted-requires
-step-counted-requires c κs =
     let a = c .before .before .before .before .args in
-    let heard = c .before .before .hears in (
-      heard .ensures,
-      room-within (a .self) (a .e) (heard .result) (heard .ensures)
-          (ap (λ (b : Bool). heard .result && b) (sym (c .before .is-full .ensures)) ∙ c .if1 .left),
-    )
+    c .refuse-last .ensures ∙ by-last (a .self) (a .e) (sym (c .before .before .would-pass .ensures) ∙ c .before .if1 .taken)
+
+lent-requires : tie.Need-lent-requires
+lent-requires c κs = search needs
+
+after-requires : tie.Need-after-requires
+after-requires c κs = search needs
 
 returns-2 : tie.Need-returns-2
-returns-2 c = search needs
+returns-2 c =
+    let s = c .before .before .before .before .before .before in
+    let fit = s .good .0 .1 .1 .0 in
+    by-moments (s .args .self) (s .args .e) _ _ (c .before .before .lent .ensures) (c .before .after .ensures)
+    (none-more (s .args .self .tallies) (omega (arith, fit)) (omega (arith, fit)) (omega (arith, fit)) (omega (arith, fit)))
+    (sym (c .before .before .before .before .would-pass .ensures) ∙ c .before .before .before .if1 .left)
 
 pub step-spec : {M : Type 1} → statement M
 step-spec =
     tie.close
     (tie.spec
-    hears-requires
-    is-full-requires
+    would-pass-requires
     refuse-last-requires
     returns
-    step-counted-requires
+    lent-requires
+    after-requires
     returns-2)
