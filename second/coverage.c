@@ -5,6 +5,7 @@
 
 #include "image_trial.h"
 #include "output.h"
+#include "pairs.h"
 #include "scripts.h"
 #include "sets.h"
 #include "starts.h"
@@ -88,24 +89,51 @@ static bool sets_as_told(void)
     return true;
 }
 
-int coverage_run(void)
+static int tally_print(const struct tally *tally)
+{
+    int result = 0;
+    printf("%10" PRIu64 "  events\n%10" PRIu64 "  accepted\n", tally->events, tally->accepted);
+    for (size_t i = 0; i < TALLY_COUNT; i += 1) {
+        printf("%10" PRIu64 "  %s\n", tally->reached[i], item_words[i]);
+        if (tally->reached[i] == 0)
+            result = 1;
+    }
+    return result;
+}
+
+static int cover_streams(void)
 {
     struct tally tally = {0};
-    struct image_tally images = {0};
+    for (size_t i = 0; i < TRIALS; i += 1)
+        tally_trial(&tally, trials[i]);
+    return tally_print(&tally);
+}
+
+static int cover_images(void)
+{
+    struct image_tally tally = {0};
+    for (size_t i = 0; i < IMAGE_TRIALS; i += 1)
+        image_trial_digests(image_trials[i], &tally);
+    return image_tally_print(&tally);
+}
+
+static int cover_pairs(void)
+{
+    struct pair_tally tally = {0};
+    for (size_t i = 0; i < PAIRS; i += 1)
+        pair_sights(pairs[i], &tally);
+    return pair_tally_print(&tally);
+}
+
+int coverage_run(void)
+{
     int result = 0;
     if (!sets_as_told()) {
         printf("%10u  sets whose picks are as TRIALS.md tells\n", 0U);
         result = 1;
     }
-    for (size_t i = 0; i < TRIALS; i += 1)
-        tally_trial(&tally, trials[i]);
-    for (size_t i = 0; i < IMAGE_TRIALS; i += 1)
-        image_trial_digests(image_trials[i], &images);
-    printf("%10" PRIu64 "  events\n%10" PRIu64 "  accepted\n", tally.events, tally.accepted);
-    for (size_t i = 0; i < TALLY_COUNT; i += 1) {
-        printf("%10" PRIu64 "  %s\n", tally.reached[i], item_words[i]);
-        if (tally.reached[i] == 0)
-            result = 1;
-    }
-    return output_result(result | image_tally_print(&images));
+    result |= cover_streams();
+    result |= cover_images();
+    result |= cover_pairs();
+    return output_result(result);
 }

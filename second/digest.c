@@ -24,7 +24,7 @@ static uint64_t digest_places(uint64_t digest, const struct bench *bench)
     return digest;
 }
 
-static uint64_t digest_letter(uint64_t digest, struct outcome outcome)
+uint64_t digest_letter(uint64_t digest, struct outcome outcome)
 {
     unsigned figures = outcome.marks * 256U + outcome.behind;
     return digest_add(digest, outcome.is_letter ? 1U + figures : 0U);

@@ -3,6 +3,7 @@
 #include <string.h>
 
 #include "bench.h"
+#include "digest.h"
 #include "image_shape.h"
 
 #define BUFFER_FILL 165
@@ -12,6 +13,14 @@ struct buffer buffer_fresh(void)
     struct buffer buffer;
     memset(buffer.bytes, BUFFER_FILL, BUFFER_BYTES);
     return buffer;
+}
+
+/* Four bytes at a time, the first the least. */
+uint64_t digest_buffer(uint64_t digest, const struct buffer *buffer)
+{
+    for (unsigned i = 0; i < BUFFER_BYTES; i += 4)
+        digest = digest_add(digest, image_number(buffer->bytes + i));
+    return digest;
 }
 
 struct kept kept_as_older(const struct kept *newest)

@@ -19,6 +19,9 @@ struct kept {
 /* TRIALS.md: "A fresh buffer has 760 bytes, each 165." */
 struct buffer buffer_fresh(void);
 
+/* TRIALS.md: "add the buffer" */
+uint64_t digest_buffer(uint64_t digest, const struct buffer *buffer);
+
 /* TRIALS.md, A stop, step 5: the version 1 image is made from the version 2 one. */
 struct kept kept_as_older(const struct kept *newest);
 

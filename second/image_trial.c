@@ -61,23 +61,12 @@ static void add(struct image_trial *trial, uint64_t value)
     trial->digests.digest = digest_add(trial->digests.digest, value);
 }
 
-/* Four bytes at a time, the first the least. */
-static void add_buffer(struct image_trial *trial, const struct buffer *buffer)
-{
-    for (unsigned i = 0; i < BUFFER_BYTES; i += 4) {
-        uint64_t word = 0;
-        for (unsigned byte = 4; byte > 0; byte -= 1)
-            word = word * 256U + buffer->bytes[i + byte - 1];
-        add(trial, word);
-    }
-}
-
 static struct buffer save(struct image_trial *trial, const struct bench *bench,
                           struct lending lending)
 {
     struct buffer buffer = buffer_fresh();
     add(trial, image_save(bench, buffer.bytes, lending.length, lending.place));
-    add_buffer(trial, &buffer);
+    trial->digests.digest = digest_buffer(trial->digests.digest, &buffer);
     return buffer;
 }
 

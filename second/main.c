@@ -78,13 +78,24 @@ static bool parse_trial(int count, char **words, int most, struct trial *trial)
            parse_choice(count - 3, words + 3, STARTS, &trial->start);
 }
 
+/* The words for other trials than a stream. */
+static const struct {
+    const char *word;
+    int (*run)(struct trial trial);
+} other_trials[] = {
+    {"images", trials_run_one_of_images},
+    {"pairs", trials_run_one_of_pairs},
+};
+
 static int run_trials(int count, char **words)
 {
     struct trial trial;
-    int images = count > 0 && strcmp(words[0], "images") == 0 ? 1 : 0;
-    if (!parse_trial(count - images, words + images, 4, &trial))
-        return RESULT_USAGE;
-    return images == 1 ? trials_run_one_of_images(trial) : trials_run_one(trial);
+    int (*trials_of)(struct trial) = trials_run_one;
+    for (size_t i = 0; count > 0 && i < sizeof other_trials / sizeof other_trials[0]; i += 1)
+        if (strcmp(words[0], other_trials[i].word) == 0)
+            trials_of = other_trials[i].run;
+    int word = trials_of == trials_run_one ? 0 : 1;
+    return parse_trial(count - word, words + word, 4, &trial) ? trials_of(trial) : RESULT_USAGE;
 }
 
 static int run_generate(int count, char **words)
@@ -113,7 +124,7 @@ static const struct command commands[] = {
     {"show", " [START]", NULL, run_show},
     {"rates", "", rates_run, NULL},
     {"spoons", "", spoons_run, NULL},
-    {"trials", " [[images] SEED COUNT [SET [START]]]", trials_run_all, run_trials},
+    {"trials", " [[images|pairs] SEED COUNT [SET [START]]]", trials_run_all, run_trials},
     {"generate", " SEED COUNT [SET]", NULL, run_generate},
     {"coverage", "", coverage_run, NULL},
     {"settings", " CLOCK", NULL, run_settings},

@@ -6,6 +6,7 @@
 #include "digest.h"
 #include "image_trial.h"
 #include "output.h"
+#include "pairs.h"
 #include "starts.h"
 #include "stream.h"
 
@@ -18,11 +19,16 @@ const struct trial trials[TRIALS] = {
     {20, 1000, 0, 1}, {21, 200000, 0, 1}, {22, 200000, 1, 1},
 };
 
-static int print_digests(struct trial trial, struct digests digests)
+static int print_three(struct trial trial, uint64_t first, uint64_t second, uint64_t third)
 {
     printf("%" PRIu32 " %" PRIu64 " %08" PRIX64 " %08" PRIX64 " %08" PRIX64 "\n", trial.seed,
-           trial.count, digests.digest, digests.letters, digests.ledgers);
+           trial.count, first, second, third);
     return output_result(0);
+}
+
+static int print_digests(struct trial trial, struct digests digests)
+{
+    return print_three(trial, digests.digest, digests.letters, digests.ledgers);
 }
 
 int trials_run_one(struct trial trial)
@@ -40,6 +46,12 @@ int trials_run_one_of_images(struct trial trial)
     return print_digests(trial, image_trial_digests(trial, NULL));
 }
 
+int trials_run_one_of_pairs(struct trial trial)
+{
+    struct sights sights = pair_sights(trial, NULL);
+    return print_three(trial, sights.digest, sights.seen[SIDE_LEFT], sights.seen[SIDE_RIGHT]);
+}
+
 static int run_each(int (*run)(struct trial), const struct trial *list, size_t count)
 {
     int result = 0;
@@ -53,7 +65,8 @@ int trials_run_all(void)
 {
     int streams = run_each(trials_run_one, trials, TRIALS);
     int images = run_each(trials_run_one_of_images, image_trials, IMAGE_TRIALS);
-    return streams | images;
+    int couples = run_each(trials_run_one_of_pairs, pairs, PAIRS);
+    return streams | images | couples;
 }
 
 int trials_generate(struct trial trial)

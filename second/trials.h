@@ -16,10 +16,12 @@ struct trial {
 /* The streams that are run each time. */
 extern const struct trial trials[TRIALS];
 
-/* One stream, one trial of saved benches, or all of both lists: a line each of
-   seed, count, digest, letter digest and tally digest. */
+/* One stream, one trial of saved benches, one pair, or all of the three lists: a
+   line each of seed, count, digest, letter digest and tally digest; of a pair of
+   seed, count, digest, left sight and right sight. */
 int trials_run_one(struct trial trial);
 int trials_run_one_of_images(struct trial trial);
+int trials_run_one_of_pairs(struct trial trial);
 int trials_run_all(void);
 
 /* The stream's four-byte records on standard output. */

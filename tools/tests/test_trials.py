@@ -6,8 +6,8 @@ import subprocess
 from room import TOOLS, Room
 
 
-# Writes its line for a stream, another for each set and start and for saved benches; from event AT on it counts one more. What it
-# shows names set and start too.
+# Writes its line for a stream, another for each set and start and for saved benches, and for a pair with both sights; from event AT on
+# it counts one more. What it shows names set and start too.
 PROGRAM = """\
 #!/bin/sh
 case $1 in
@@ -15,7 +15,8 @@ generate) i=0; while [ $i -lt $3 ]; do echo record $i ${4:+of set $4}; i=$((i + 
 show) sed "s/\$/${2:+from start $2}/" ;;
 *) [ "$1" = trials ] && shift
     saved=0; [ "$1" = images ] && { saved=1; shift; }
-    echo $1 $2 $(($1 * 1000 + $2 + ($2 > AT) + ${3:-0} * 100000 + ${4:-0} * 1000000 + saved * 10000000)) ;;
+    sights=; [ "$1" = pairs ] && { sights='7 7'; shift; }
+    echo $1 $2 $(($1 * 1000 + $2 + ($2 > AT) + ${3:-0} * 100000 + ${4:-0} * 1000000 + saved * 10000000)) $sights ;;
 esac
 """
 
@@ -78,6 +79,22 @@ class Trials(Room):
         self.script("target/bin/trials", PROGRAM.replace("AT", "1000000").replace("saved=1", "saved=0"))
         self.assertEqual(self.run_it("images", "3", "250")[0], 1)
 
+    def test_pairs_reach_both_programs(self):
+        status, said = self.run_it("pairs", "3-4", "250", "2", "5")
+        self.assertEqual((status, said), (0, ["3 250 5203250 7 7", "4 250 5204250 7 7", "500 turns and 4 stops, no difference"]))
+        self.programs(199, 1000000)
+        status, said = self.run_it("pairs", "3", "250")
+        self.assertEqual((status, len(said)), (1, 4))
+        self.assertTrue(said[0].startswith("The digests differ from turn 199 on"))
+        self.assertTrue(said[3].startswith("There is a stop behind it"))
+
+    def test_sights_that_differ_are_no_agreement(self):
+        for program in ("target/bin/trials", "other"):
+            self.script(program, PROGRAM.replace("AT", "1000000").replace("7 7", "7 8"))
+        status, said = self.run_it("pairs", "3", "250")
+        self.assertEqual((status, said[0]), (1, "3 250 3250 7 8"))
+        self.assertEqual(self.run_it("3", "250")[0], 0)
+
     def test_stop_behind_the_first_difference_is_told(self):
         for at, told in ((99, True), (150, False), (199, True)):
             self.programs(at, 1000000)
@@ -100,5 +117,6 @@ class Trials(Room):
 
     def test_words_that_are_not_understood(self):
         for words in ((), ("3",), ("5-3", "100"), ("4294967296", "1"), ("3", "-1"), ("x", "1"), ("3", "1", "x"),
-                      ("3", "1", "0", "0", "0"), ("images",), ("images", "3"), ("3", "1", "images"), ("image", "3", "1")):
+                      ("3", "1", "0", "0", "0"), ("images",), ("images", "3"), ("3", "1", "images"), ("image", "3", "1"),
+                      ("pairs",), ("pairs", "3"), ("pairs", "images", "3", "1")):
             self.assertEqual(self.run_it(*words)[0], 2)

@@ -29,3 +29,5 @@ pub mod Tallies
 pub mod TalliesMove
 pub mod WithoutTallies
 pub mod TallyRuns
+pub mod Neighbours
+pub mod NeighbourRuns

@@ -21,12 +21,23 @@ use Rattle.records.specs.Events as events
 use Rattle.bench.specs.Seats as seats
 use Rattle.bench.specs.Refusals as refused
 use Rattle.bench.specs.Steps as bench
+use Rattle.bench.specs.Tallies as telling
 use Rattle.bench.specs.Runs as runs
 use Rattle.channel.specs.Moments as moments
 use Rattle.receiver.specs.Ledger as ledger
 use Rattle.receiver.specs.Letters as letters
 use Rattle.queue.specs.Joining as joining
 use Rattle.turn.proofs.Opened as turn
+use Rattle.base.specs.Refusals as grounds
+use Rattle.controller.specs.Valid as controller
+use Rattle.channel_image.specs.Allowed as allowed
+use Rattle.channel_image.specs.Read as channel-read
+use Rattle.seat_image.specs.Words as seat-words
+use Rattle.seat_image.specs.Written as seat-written
+use Rattle.seat_image.specs.Read as seat-read
+use Rattle.image.specs.Layout as layout
+use Rattle.image.specs.Read as image-read
+use Rattle.image.specs.Refusals as image
 
 unfoldable pub of-queue : ℕ
 unfolding queue.room queue.entered queue.replaced queue.capacity queue.accepted queue.movedDown queue.taken
@@ -64,7 +75,7 @@ of-steps = 0
 
 unfoldable pub of-bench : ℕ
 unfolding sets.withLine events.early events.eventOf events.decoded events.refusedNumber seats.seat seats.withSeat seats.lines
-    refused.roomGrounds refused.grounds refused.refusal bench.after bench.answerTo bench.outcome bench.roomRefusal bench.met bench.dealt
+    refused.roomGrounds refused.grounds refused.refusal bench.after bench.answerTo bench.outcome bench.roomRefusal bench.met bench.dealt telling.talliesOf
 of-bench = 0
 
 unfoldable pub of-moments : ℕ
@@ -86,3 +97,13 @@ of-seat = 0
 unfoldable pub laid-open : ℕ
 unfolding of-seat of-letters of-bench turn.laid-open
 laid-open = 0
+
+-- and what the reading of an image goes through
+unfoldable pub of-images : ℕ
+unfolding answers.refusalOf grounds.firstHeld controller.latchesHigh tallies.addUp
+    allowed.sixteenSmall allowed.registersInRange allowed.flagsInRange allowed.marksInRange allowed.queuesWithin allowed.countAllowed allowed.unusedZero allowed.channelGood
+    channel-read.slotsFrom channel-read.transmitterFrom channel-read.receiverFrom channel-read.channelFrom
+    seat-words.wordAt seat-words.wordBytes seat-written.tallyBytes seat-read.talliesIn seat-read.newRecord seat-read.talliesFrom seat-read.talliesGood seat-read.seatFrom seat-read.recordGood seat-read.found
+    layout.versionOf layout.placeIn image-read.recordsFrom image-read.controllerFrom image-read.benchFrom
+    image.marked image.controllerInRange image.latchesAllowed image.imageGood image.refusal image.restored
+of-images = 0

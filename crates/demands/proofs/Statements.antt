@@ -18,6 +18,8 @@ use Rattle.demands.proofs.Tallies.{counting-begins, tallies-add-up}
 use Rattle.demands.proofs.TalliesMove.{tallies-move, full-exactly, tallies-told}
 use Rattle.demands.proofs.WithoutTallies.{without-tallies}
 use Rattle.demands.proofs.TallyRuns.{five-move, full-refused, nearly-refused, tallies-met}
+use Rattle.demands.proofs.Neighbours.{neighbours}
+use Rattle.demands.proofs.NeighbourRuns.{neighbours-met, no-more-alike, agreements-needed, nothing-less}
 use Rattle.demands.proofs.Starred.{tasted}
 use Rattle.demands.proofs.Worked.{worked}
 use Rattle.demands.proofs.Edges.{at-the-edges, by-ingredient}
@@ -82,6 +84,11 @@ statements =
       full-refused = full-refused;
       nearly-refused = nearly-refused;
       tallies-met = tallies-met;
+      neighbours = neighbours;
+      neighbours-met = neighbours-met;
+      no-more-alike = no-more-alike;
+      agreements-needed = agreements-needed;
+      nothing-less = nothing-less;
       sheet-meant = sheet-meant;
       shut-out = shut-out;
       let-in = let-in;

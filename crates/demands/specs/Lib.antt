@@ -23,3 +23,5 @@ pub mod Loopback
 pub mod LoopbackRuns
 pub mod Tallies
 pub mod TallyRuns
+pub mod Neighbours
+pub mod NeighbourRuns

@@ -15,6 +15,8 @@ use Rattle.demands.specs.WrongPrograms.{ShutOut, LetIn}
 use Rattle.demands.specs.Needed.{Needed}
 use Rattle.demands.specs.Tallies.{CountingBegins, TalliesAddUp, TalliesMove, FullExactly, WithoutTallies, TalliesTold}
 use Rattle.demands.specs.TallyRuns.{FiveMove, FullRefused, NearlyRefused, TalliesMet}
+use Rattle.demands.specs.Neighbours.{Neighbours}
+use Rattle.demands.specs.NeighbourRuns.{NeighboursMet, NoMoreAlike, AgreementsNeeded, NothingLess}
 use Rattle.demands.specs.Starred.{Tasted}
 use Rattle.demands.specs.Worked.{Worked}
 use Rattle.demands.specs.Edges.{Edges, Ingredients}
@@ -77,6 +79,11 @@ pub record Statements : Type 0 where
   pub full-refused : FullRefused
   pub nearly-refused : NearlyRefused
   pub tallies-met : TalliesMet
+  pub neighbours : Neighbours
+  pub neighbours-met : NeighboursMet
+  pub no-more-alike : NoMoreAlike
+  pub agreements-needed : AgreementsNeeded
+  pub nothing-less : NothingLess
   pub sheet-meant : SheetMeant
   pub shut-out : ShutOut
   pub let-in : LetIn

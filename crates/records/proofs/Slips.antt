@@ -7,7 +7,7 @@ use Rattle.base.specs.Bits as base-bits
 use Rattle.base.specs.Answers as base-answers
 use Rattle.base.specs.Refusals as base-refusals
 use Rattle.base.specs.Bits.{digit}
-use Rattle.base.specs.Answers.{refusalOf}
+use Rattle.base.specs.Answers.{refusalOf, valueOf}
 use Rattle.queue.specs.Queue as queue
 use Rattle.receiver.specs.Receiver as receiver
 use Rattle.receiver.specs.Ledger as ledger
@@ -18,6 +18,7 @@ use Rattle.registers.specs.Modem as modem
 use Rattle.registers.specs.Loopback as loopback
 use Rattle.registers.specs.Refusals as settled-by
 use Rattle.status.specs.Status as status
+use Rattle.channel.specs.Parts as channel-parts
 use Rattle.channel.specs.Status as channel-status
 use Rattle.channel.specs.Effects as effects
 use Rattle.channel.specs.Moments as moments
@@ -47,12 +48,15 @@ runOn s c (r ∷ rs) = parted s c r ∷ runOn (parted s c r .seat) (parted s c r
 
 -- the same from power-up; it opens what a run computes with
 unfoldable pub run : List Record → List Touched
-unfolding base-pick.pick base-bits.bit base-bits.digit base-answers.refusalOf base-answers.valueOf base-refusals.firstOf base-refusals.refusalBy queue.oldest queue.anyMarked queue.marked receiver.noneQueued receiver.shownMarks receiver.someMarked receiver.dataStands receiver.timeoutStands transmitter.noneWaiting transmitter.allSent transmitter.flagSetIf transmitter.enabled settings.trigger registers.plainRegister registers.registerAt modem.changesAfter modem.someChange loopback.inputsOf status.lsrOf status.lineTrouble status.causes status.firstCause status.causeOf status.iirOf status.lineOf channel-status.lsr channel-status.msr channel-status.cause channel-status.iir channel-status.line effects.iirRead effects.answerAt effects.afterRead effects.ierWritten effects.noticed effects.mcrWritten effects.afterWrite settled-by.grounds channel.effect seat.refusal seat.effect seat.stepped rank.before rank.aboveEvery rank.find rank.firstPlace sets.withLine turns.settled turns.requests turns.asks turns.hinders turns.grantable turns.outputOf turns.found turns.granted turns.taken turns.grant turns.acknowledged words.icw1 words.icw2 words.icw4 words.ended words.served words.plainEnd words.command words.ocw2 words.written0 words.written1 words.written words.shown refusing.grounds refusing.refusal controller.step events.early events.eventOf events.decoded parts.touched parts.metParts parts.dealtParts ledger.arrivedIn moments.acceptedMoments moments.readMoments moments.writeMoments tallies.tallied
+unfolding base-pick.pick base-bits.bit base-bits.digit base-answers.refusalOf base-answers.valueOf base-refusals.firstOf base-refusals.refusalBy queue.oldest queue.anyMarked queue.marked receiver.noneQueued receiver.shownMarks receiver.someMarked receiver.dataStands receiver.timeoutStands receiver.restarted transmitter.noneWaiting transmitter.allSent transmitter.flagSetIf transmitter.enabled settings.trigger registers.plainRegister registers.registerAt modem.changesAfter modem.someChange loopback.inputsOf channel-parts.masterReset status.lsrOf status.lineTrouble status.causes status.firstCause status.causeOf status.iirOf status.lineOf channel-status.lsr channel-status.msr channel-status.cause channel-status.iir channel-status.line effects.iirRead effects.answerAt effects.afterRead effects.ierWritten effects.noticed effects.mcrWritten effects.afterWrite settled-by.grounds channel.effect seat.refusal seat.effect seat.stepped rank.before rank.aboveEvery rank.find rank.firstPlace sets.withLine turns.settled turns.requests turns.asks turns.hinders turns.grantable turns.outputOf turns.found turns.granted turns.taken turns.grant turns.acknowledged words.icw1 words.icw2 words.icw4 words.ended words.served words.plainEnd words.command words.ocw2 words.written0 words.written1 words.written words.shown refusing.grounds refusing.refusal controller.step events.early events.eventOf events.decoded parts.touched parts.metParts parts.dealtParts ledger.arrivedIn moments.acceptedMoments moments.readMoments moments.writeMoments moments.arrivalMoments tallies.tallied
 run rs = runOn seats.powerUp state.powerUp rs
 
--- what each of them shows: its refusal number, and the output after it
+-- what each of them shows: its refusal number, its answer, and the output after it
 abbrev numbers : List Record → List ℕ
 numbers rs = map (λ t. refusalOf (t .answer)) (run rs)
+
+abbrev values : List Record → List ℕ
+values rs = map (λ t. valueOf (t .answer)) (run rs)
 
 abbrev outputs : List Record → List ℕ
 outputs rs = map (λ t. digit (turns.outputOf (t .controller))) (run rs)
@@ -80,3 +84,13 @@ line-is-heard-at-once = refl
 lines-are-shown-once : outputs (rising ++ (whole 8 0 0 0 ∷ whole 1 2 7 0x00 ∷ whole 7 0 0 0x20 ∷ [])) ≡ 0 ∷ 0 ∷ 0 ∷ 0 ∷ 1 ∷ 0 ∷ 0 ∷ 0 ∷ []
 unfolding run
 lines-are-shown-once = refl
+
+-- the bench's `acknowledge-leaves`: line 2 is granted, and its seat's IER is still read
+acknowledge-leaves-the-seat : values (rising ++ (whole 8 0 0 0 ∷ whole 0 2 1 0 ∷ [])) ≡ 0x000 ∷ 0x000 ∷ 0x000 ∷ 0x000 ∷ 0x000 ∷ 0x042 ∷ 0x002 ∷ []
+unfolding run
+acknowledge-leaves-the-seat = refl
+
+-- the bench's `seat-answer`: the output is high, and the IER's byte is the answer all the same
+output-is-no-answer : values (rising ++ (whole 0 2 1 0 ∷ [])) ≡ 0x000 ∷ 0x000 ∷ 0x000 ∷ 0x000 ∷ 0x000 ∷ 0x002 ∷ []
+unfolding run
+output-is-no-answer = refl

@@ -7,7 +7,6 @@ use crate::list;
 use crate::older;
 use crate::runs::ASKED_LINES;
 use crate::runs::Run;
-use crate::runs::Sums;
 use crate::spots;
 use bench::Bench;
 use image::Restored;
@@ -86,7 +85,7 @@ impl Trial {
     }
 }
 
-pub(crate) fn digests(seed: u32, count: u64, set: u8, bench: Bench) -> Sums {
+pub(crate) fn digests(seed: u32, count: u64, set: u8, bench: Bench) -> [u32; 3] {
     let rows = streams::script_rows();
     let mut trial = Trial {
         run: Run::start(seed, set, bench),

@@ -1,4 +1,4 @@
-// The trials that are run each time: the streams, and behind them the saved benches.
+// The trials that are run each time: the streams, behind them the saved benches, and then the pairs.
 
 // x is "0 to 4294967295", and "4294967295 - seed" is where the picks of saved benches begin.
 pub(crate) const LAST_SEED: u32 = 4294967295;
@@ -7,7 +7,9 @@ pub(crate) const STREAM: u64 = 0;
 
 pub(crate) const IMAGES: u64 = 1;
 
-pub(crate) const TRIALS: usize = 35;
+pub(crate) const PAIRS: u64 = 2;
+
+pub(crate) const TRIALS: usize = 43;
 
 // Which kind it is, then "seed, count, set, start". The first four are short, so that a fault in every event shows at once.
 pub(crate) const LIST: [[u64; 5]; TRIALS] = [
@@ -46,4 +48,12 @@ pub(crate) const LIST: [[u64; 5]; TRIALS] = [
     [IMAGES, 112, 20000, 1, 0],
     [IMAGES, 113, 20000, 0, 1],
     [IMAGES, 114, 20000, 1, 1],
+    [PAIRS, 201, 20000, 0, 0],
+    [PAIRS, 202, 20000, 1, 0],
+    [PAIRS, 379, 20000, 1, 1],
+    [PAIRS, 204, 20000, 1, 1],
+    [PAIRS, 205, 20000, 0, 0],
+    [PAIRS, 206, 20000, 1, 0],
+    [PAIRS, 207, 20000, 0, 1],
+    [PAIRS, 280, 20000, 0, 1],
 ];

@@ -1,20 +1,21 @@
 // Runs streams of events over the proved bench and prints a line for each: seed and count in decimal, the digest, the letter digest and
-// the tally digest in eight hex capitals each. With no argument, both lists of second/TRIALS.md; with SEED and COUNT, and SET and START where they are
-// not 0, that stream alone; with `images` before them, as a trial of saved benches.
-use bench::Bench;
+// the tally digest in eight hex capitals each; of a pair, the digest and both sights. With no argument, the three lists of second/TRIALS.md; with SEED and
+// COUNT, and SET and START where they are not 0, that stream alone; with `images` before them, as a trial of saved benches, with `pairs` as a pair.
 use libc::STDERR_FILENO;
 use libc::STDOUT_FILENO;
-use runs::Sums;
 use streams::SETS;
 use words::Number;
 
 mod buffers;
+mod crossing;
 mod damages;
 mod images;
 mod lent;
 mod list;
 mod older;
+mod pairs;
 mod runs;
+mod sides;
 mod spots;
 mod starts;
 mod transfers;
@@ -39,29 +40,31 @@ fn print_digest(digest: u32) {
 fn usage() {
     io::write_all(
         STDERR_FILENO,
-        b"usage: trials [[images] SEED COUNT [SET [START]]], with SEED below 4294967296, SET and START of second/TRIALS.md\n",
+        b"usage: trials [[images|pairs] SEED COUNT [SET [START]]], with SEED below 4294967296, SET and START of second/TRIALS.md\n",
     );
 }
 
-fn print_line(seed: u64, count: u64, sums: Sums) {
+fn print_line(seed: u64, count: u64, digests: [u32; 3]) {
     io::print_decimal(STDOUT_FILENO, seed);
     io::write_all(STDOUT_FILENO, b" ");
     io::print_decimal(STDOUT_FILENO, count);
-    print_digest(sums.sum);
-    print_digest(sums.letters);
-    print_digest(sums.tallies);
+    print_digest(digests[0]);
+    print_digest(digests[1]);
+    print_digest(digests[2]);
     io::write_all(STDOUT_FILENO, b"\n");
 }
 
-// Over the bench that the trial starts from.
-fn digests(images: bool, seed: u32, count: u64, set: u8, bench: Bench) -> Sums {
-    if images {
-        return images::digests(seed, count, set, bench);
+// Over the bench of the start; a pair has that of the other start too.
+fn digests(kind: u64, seed: u32, count: u64, set: u8, start: u64) -> [u32; 3] {
+    let bench = starts::bench(start);
+    match kind {
+        list::IMAGES => images::digests(seed, count, set, bench),
+        list::PAIRS => pairs::digests(seed, count, set, bench, starts::other_bench(start)),
+        _ => runs::digests(seed, count, set, bench),
     }
-    runs::digests(seed, count, set, bench)
 }
 
-fn run(images: bool, seed: u64, count: u64, set: u64, start: u64) {
+fn run(kind: u64, seed: u64, count: u64, set: u64, start: u64) {
     if seed > list::LAST_SEED as u64 {
         return usage();
     }
@@ -71,23 +74,22 @@ fn run(images: bool, seed: u64, count: u64, set: u64, start: u64) {
     if start >= starts::STARTS {
         return usage();
     }
-    let bench = starts::bench(start);
     print_line(
         seed,
         count,
-        digests(images, seed as u32, count, set as u8, bench),
+        digests(kind, seed as u32, count, set as u8, start),
     );
 }
 
 fn run_list() {
     for i in 0..list::TRIALS {
         let row = list::LIST[i];
-        run(row[0] == list::IMAGES, row[1], row[2], row[3], row[4]);
+        run(row[0], row[1], row[2], row[3], row[4]);
     }
 }
 
 // The numbers stand from this word on, two to four of them.
-fn run_asked(images: bool, first: u8, words: usize) {
+fn run_asked(kind: u64, first: u8, words: usize) {
     let at = first as usize;
     if (words < at + 2) | (words > at + 4) {
         return usage();
@@ -104,16 +106,18 @@ fn run_asked(images: bool, first: u8, words: usize) {
     let Number::Whole(start) = words::argument(at + 3, words) else {
         return usage();
     };
-    run(images, seed, count, set, start);
+    run(kind, seed, count, set, start);
 }
 
 fn main() {
     let words = os::arg_count();
     if words == 1 {
         run_list();
-    } else if words::asks_for_images() {
-        run_asked(true, 2, words);
+    } else if words::asks_for(b"images") {
+        run_asked(list::IMAGES, 2, words);
+    } else if words::asks_for(b"pairs") {
+        run_asked(list::PAIRS, 2, words);
     } else {
-        run_asked(false, 1, words);
+        run_asked(list::STREAM, 1, words);
     }
 }

@@ -27,7 +27,7 @@ pub(crate) fn record_place(old: bool, c: u8) -> u16
 }
 
 // So many bytes of a buffer, from one place to another of a second.
-fn move_bytes(from: &[u8], source: u16, to: &mut [u8], target: u16, count: u16) {
+pub(crate) fn move_bytes(from: &[u8], source: u16, to: &mut [u8], target: u16, count: u16) {
     for k in 0..count {
         let byte = byte_at(from, source as usize + k as usize);
         replace(&mut *to, target as usize + k as usize, byte);

@@ -3,6 +3,7 @@ use base::Answer;
 use bench::Bench;
 use controller::Controller;
 use records::Event;
+use seat::Five;
 use streams::Stream;
 
 // "for line 8 it is refusal 1 and answer FFF": one line more than there are.
@@ -20,13 +21,6 @@ pub(crate) struct Run {
     pub tallies: u32,
 }
 
-// The three digests, at the end of a trial.
-pub(crate) struct Sums {
-    pub sum: u32,
-    pub letters: u32,
-    pub tallies: u32,
-}
-
 // What is seen after an event: refusal, answer and output, and "for each line 0 to 8 in order, its place in turn", as far as lines are
 // asked for.
 fn add_seen(digest: u32, answer: Answer, controller: Controller, lines: u8) -> u32 {
@@ -35,6 +29,15 @@ fn add_seen(digest: u32, answer: Answer, controller: Controller, lines: u8) -> u
         sum = streams::add(sum, streams::place_mark(controller.place(line)));
     }
     sum
+}
+
+// "add(arrived), add(read), add(lost), add(dropped), add(queued)."
+pub(crate) fn add_five(digest: u32, five: Five) -> u32 {
+    let arrived = streams::add(digest, five.arrived);
+    let read = streams::add(arrived, five.read);
+    let lost = streams::add(read, five.lost);
+    let dropped = streams::add(lost, five.dropped);
+    streams::add(dropped, five.queued)
 }
 
 // "Let q be the seat byte of the record % 16": the tallies of seat q are asked, and refused where there is none.
@@ -47,11 +50,7 @@ fn add_tallies(digest: u32, bench: Bench, seat: u8) -> u32 {
     if refusal > 0 {
         return asked;
     }
-    let arrived = streams::add(asked, five.arrived);
-    let read = streams::add(arrived, five.read);
-    let lost = streams::add(read, five.lost);
-    let dropped = streams::add(lost, five.dropped);
-    streams::add(dropped, five.queued)
+    add_five(asked, five)
 }
 
 impl Run {
@@ -120,17 +119,14 @@ impl Run {
         }
     }
 
-    pub(crate) fn sums(self) -> Sums {
-        Sums {
-            sum: self.sum,
-            letters: self.letters,
-            tallies: self.tallies,
-        }
+    // "The digest, the letter digest and the tally digest."
+    pub(crate) fn sums(self) -> [u32; 3] {
+        [self.sum, self.letters, self.tallies]
     }
 }
 
 // The bench is the one that the stream starts from.
-pub(crate) fn digests(seed: u32, count: u64, set: u8, bench: Bench) -> Sums {
+pub(crate) fn digests(seed: u32, count: u64, set: u8, bench: Bench) -> [u32; 3] {
     let rows = streams::script_rows();
     Run::start(seed, set, bench)
         .on(&rows, count, ASKED_LINES)

@@ -58,3 +58,11 @@ pub(crate) fn bench(start: u64) -> Bench {
     }
     Bench::power_up()
 }
+
+// "That of the other start, 1 - start."
+pub(crate) fn other_bench(start: u64) -> Bench {
+    if start == 1 {
+        return Bench::power_up();
+    }
+    near_the_largest()
+}

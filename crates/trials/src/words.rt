@@ -29,11 +29,11 @@ fn decimal(text: &[u8]) -> Number {
     Number::Whole(n)
 }
 
-// Whether the first word is `images`.
-pub(crate) fn asks_for_images() -> bool {
+// Whether the first word is this one.
+pub(crate) fn asks_for(word: &[u8]) -> bool {
     let mut text = [0u8; 20];
     let n = os::arg(1, &mut text);
-    check::same(&text[..n], b"images")
+    check::same(&text[..n], word)
 }
 
 // One that is left out is 0. The words are those of the command line, the program's name among them.

@@ -7,7 +7,7 @@ abbrev Inv-loop : tie.InvT-loop
 Inv-loop i₀ i = Unit
 
 abbrev μ-loop : tie.MeasureT-loop
-μ-loop i₀ i = 35 - i
+μ-loop i₀ i = 43 - i
 
 loop-holds : tie.Need-loop-holds Inv-loop μ-loop
 loop-holds c = search needs
