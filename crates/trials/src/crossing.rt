@@ -140,7 +140,7 @@ fn read(side: Side, sum: u32, image: [u8; ROOM], at: u8, n: u8) -> Given {
     }
 }
 
-// The bench of a side is kept; its sight takes the seat's record.
+// A side at a stop, with the buffer that its bench was saved into and the one seat's record there.
 struct Saved {
     side: Side,
     buffer: [u8; ROOM],
@@ -148,6 +148,7 @@ struct Saved {
     sum: u32,
 }
 
+// The sight takes the record, byte by byte.
 fn save(side: Side, sum: u32, at: u8, n: u8) -> Saved {
     let beside = side.beside;
     let bench = side.bench;
