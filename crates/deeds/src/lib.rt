@@ -1,7 +1,10 @@
-// What a record did, in words.
+// What a record did, and what came of it, in words.
+mod answers;
 mod deed;
 mod places;
 mod ports;
 
+pub use answers::came;
+pub use answers::refused;
 pub use deed::cut;
 pub use deed::done;
