@@ -127,6 +127,7 @@ static const struct command commands[] = {
     {"explain", TELLINGS_WORDS, NULL, tellings_explain},
     {"explain-show", " each|end" TELLINGS_WORDS, NULL, tellings_explain_show},
     {"vcd", TELLINGS_WORDS, NULL, tellings_timeline},
+    {"telling-coverage", TELLINGS_WORDS, NULL, tellings_coverage},
     {"rates", "", rates_run, NULL},
     {"spoons", "", spoons_run, NULL},
     {"trials", " [[images|pairs] SEED COUNT [SET [START]]]", trials_run_all, run_trials},

@@ -67,6 +67,8 @@ void page_words(struct page *page, const char *words)
 void page_end(struct page *page)
 {
     page->bytes[page->length] = '\n';
-    if (!page->silent)
+    if (page->pages.take != NULL)
+        page->pages.take(page->pages.with, page->bytes, page->length + 1);
+    else
         fwrite(page->bytes, 1, page->length + 1, stdout);
 }

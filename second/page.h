@@ -14,8 +14,10 @@
 #define PAGE_BYTES 4096U
 
 struct page {
-    struct taker pieces; /* who is told of each piece; may take none */
-    bool silent;         /* not printed */
+    /* Who is given each piece, and each whole page; standard output where the
+       second takes none. */
+    struct taker pieces;
+    struct taker pages;
     bool has_piece;
     size_t column; /* the last that is full */
     size_t length;
@@ -35,7 +37,7 @@ void page_words(struct page *page, const char *words);
 void page_byte(struct page *page, char byte);
 void page_new_line(struct page *page);
 
-/* The page with its last line feed, to standard output. */
+/* The page with its last line feed goes out. */
 void page_end(struct page *page);
 
 #endif

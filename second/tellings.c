@@ -5,6 +5,7 @@
 #include "image_file.h"
 #include "source.h"
 #include "telling.h"
+#include "telling_coverage.h"
 #include "timeline.h"
 
 #define WORD_FROM "--from"
@@ -70,4 +71,12 @@ int tellings_timeline(int count, char **words)
         return result;
     timeline_run(start.bench, &start.source);
     return source_result(&start.source, 0);
+}
+
+int tellings_coverage(int count, char **words)
+{
+    int result = begin(count, words);
+    if (result != 0)
+        return result;
+    return source_result(&start.source, telling_coverage(start.bench, &start.source, &start.page));
 }

@@ -14,5 +14,6 @@ int tellings_show(int count, char **words);
 int tellings_explain_show(int count, char **words);
 
 int tellings_timeline(int count, char **words);
+int tellings_coverage(int count, char **words);
 
 #endif
