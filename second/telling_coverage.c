@@ -75,7 +75,7 @@ static void take_line(struct told *told, struct line line)
     note(told, SHAPE_FULL_LINE, !comment && line.length == PAGE_COLUMNS);
     note(told, SHAPE_FULL_COMMENT, comment && line.length == PAGE_COLUMNS);
     note(told, SHAPE_HEAD_ALONE, !comment && line.at == 0 && ends_blank);
-    note(told, SHAPE_LONG_HEAD, line.at == 0 && line.length > indent && begins(line, "1")
+    note(told, SHAPE_LONG_HEAD, line.at == 0 && line.length > indent && line.text[0] != ' '
                                      && line.text[indent - 1] != ' ');
     note(told, SHAPE_TIGHT_COMMENT, comment && line.length > indent + 1 && line.text[indent + 1] != ' ');
     for (size_t i = indent + 1; comment && i + 1 < line.length; i += 1)
