@@ -55,11 +55,13 @@ static void note(struct told *told, enum shape shape, bool holds)
     told->shapes[shape] += holds ? 1U : 0U;
 }
 
-/* A line of a page without its line feed; `at` is its number in the page. */
+/* A line of a page without its line feed; `at` is its number in the page. The
+   last of a page of 4096 bytes may be cut anywhere (S225). */
 struct line {
     const char *text;
     size_t length;
     size_t at;
+    bool cut;
 };
 
 static bool begins(struct line line, const char *words)
@@ -80,7 +82,7 @@ static void take_line(struct told *told, struct line line)
     note(told, SHAPE_TIGHT_COMMENT, comment && line.length > indent + 1 && line.text[indent + 1] != ' ');
     for (size_t i = indent + 1; comment && i + 1 < line.length; i += 1)
         note(told, SHAPE_BLANKS_IN_COMMENT, line.text[i] == ' ' && line.text[i + 1] == ' ');
-    if (line.length > PAGE_COLUMNS || (line.at > 0 && !begins(line, INDENT))) {
+    if (line.length > PAGE_COLUMNS || (line.at > 0 && !line.cut && !begins(line, INDENT))) {
         printf("no line of a page: %.*s\n", (int)line.length, line.text);
         told->foreign += 1;
     }
@@ -93,7 +95,8 @@ static void take_page(void *with, const char *text, size_t length)
     size_t at = 0;
     for (size_t start = 0; start < length; at += 1) {
         const char *end = memchr(text + start, '\n', length - start);
-        struct line line = {text + start, (size_t)(end - (text + start)), at};
+        bool last = end + 1 == text + length;
+        struct line line = {text + start, (size_t)(end - (text + start)), at, last && length == PAGE_BYTES};
         take_line(told, line);
         comments += begins(line, COMMENT) ? 1U : 0U;
         start += line.length + 1;
