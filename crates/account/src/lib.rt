@@ -5,11 +5,10 @@ mod lines;
 mod seats;
 mod telling;
 
-pub use telling::record;
-pub use telling::short;
-
 use bench::Bench;
 use page::Page;
+pub use telling::record;
+pub use telling::short;
 
 // The bench behind a record, and the record's page.
 pub struct Told {

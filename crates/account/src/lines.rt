@@ -81,14 +81,26 @@ fn first(page: Page, before: u8, after: u8) -> Page
 fn output(page: Page, before: Controller, after: Controller) -> Page
     ensures { λ r. ⌜ r ≡ joined page (outputMoved before after) ⌝ }
 {
-    changes::flag(page, before.output(), after.output(), b"output rises", b"output falls")
+    changes::flag(
+        page,
+        before.output(),
+        after.output(),
+        b"output rises",
+        b"output falls",
+    )
 }
 
 pub(crate) fn moved(page: Page, before: Controller, after: Controller) -> Page
     ensures { λ r. ⌜ r ≡ joinedAll page (controllerMoved before after) ⌝ }
 {
     let ready = ready(page, before, after);
-    let levels = turns(ready, before.lines.levels, after.lines.levels, b" rises", b" falls");
+    let levels = turns(
+        ready,
+        before.lines.levels,
+        after.lines.levels,
+        b" rises",
+        b" falls",
+    );
     let served = turns(
         levels,
         before.operation.service,

@@ -13,8 +13,18 @@ ghost use Rattle.account.specs.Told.{seatMoved};
 fn queues(page: Page, before: Channel, after: Channel) -> Page
     ensures { λ r. ⌜ r ≡ joinedAll page (queuesMoved before after) ⌝ }
 {
-    let queued = changes::count(page, b"queued ", before.receiver.queue.count, after.receiver.queue.count);
-    let sending = changes::count(queued, b"to send ", before.transmitter.queue.count, after.transmitter.queue.count);
+    let queued = changes::count(
+        page,
+        b"queued ",
+        before.receiver.queue.count,
+        after.receiver.queue.count,
+    );
+    let sending = changes::count(
+        queued,
+        b"to send ",
+        before.transmitter.queue.count,
+        after.transmitter.queue.count,
+    );
     changes::flag(
         sending,
         before.transmitter.busy,
@@ -55,16 +65,41 @@ fn flags(page: Page, before: Channel, after: Channel) -> Page
 fn inputs(page: Page, before: u8, after: u8) -> Page
     ensures { λ r. ⌜ r ≡ joinedAll page (changesMoved before after) ⌝ }
 {
-    let cts = changes::bit(page, 0, before, after, b"CTS-changed set", b"CTS-changed cleared");
-    let dsr = changes::bit(cts, 1, before, after, b"DSR-changed set", b"DSR-changed cleared");
+    let cts = changes::bit(
+        page,
+        0,
+        before,
+        after,
+        b"CTS-changed set",
+        b"CTS-changed cleared",
+    );
+    let dsr = changes::bit(
+        cts,
+        1,
+        before,
+        after,
+        b"DSR-changed set",
+        b"DSR-changed cleared",
+    );
     let ri = changes::bit(dsr, 2, before, after, b"RI-ended set", b"RI-ended cleared");
-    changes::bit(ri, 3, before, after, b"DCD-changed set", b"DCD-changed cleared")
+    changes::bit(
+        ri,
+        3,
+        before,
+        after,
+        b"DCD-changed set",
+        b"DCD-changed cleared",
+    )
 }
 
 fn lsr(channel: Channel) -> u8
     ensures { λ r. ⌜ r ≡ Status·lsr channel ⌝ }
 {
-    status::lsr(channel.settings.is_fifo(), channel.receiver, channel.transmitter)
+    status::lsr(
+        channel.settings.is_fifo(),
+        channel.receiver,
+        channel.transmitter,
+    )
 }
 
 fn msr(channel: Channel) -> u8

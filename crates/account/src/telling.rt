@@ -74,7 +74,9 @@ pub fn short(bench: Bench, n: u64) -> Told
     let stepped = bench.step_short();
     let next = stepped.bench;
     let head = heads::head(n, stepped.answer, stepped.output);
-    let page = Page::begin(head).join(deeds::cut()).join(deeds::refused(Answer::SHORT));
+    let page = Page::begin(head)
+        .join(deeds::cut())
+        .join(deeds::refused(Answer::SHORT));
     let all = lines::moved(page, bench.controller, next.controller);
     Told {
         bench: next,

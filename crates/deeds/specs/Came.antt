@@ -17,7 +17,7 @@ use Rattle.records.specs.Kinds as kinds
 unfoldable pub refusedCame : ℕ → List ℕ
 refusedCame number = quoted "refused " ++ (decimal number ++ (quoted ": " ++ refusalWords number))
 
--- "where more remain behind it `, N behind`"
+-- "where more remain behind it `, B behind`, B decimal"
 unfoldable pub behindSaid : ℕ → List ℕ
 behindSaid behind = pick (eqb behind 0) [] (quoted ", " ++ (decimal behind ++ quoted " behind"))
 

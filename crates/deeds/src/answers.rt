@@ -96,7 +96,9 @@ fn vector(vector: u8) -> Piece
     ensures { λ r. ⌜ r ≡ piece (vectorCame vector) ⌝ }
 {
     let shown = Piece::empty().text(b"vector ").hex(vector);
-    shown.text(b": line ").decimal((vector % rank::LINES) as u64)
+    shown
+        .text(b": line ")
+        .decimal((vector % rank::LINES) as u64)
 }
 
 fn spurious(vector: u8) -> Piece

@@ -1,6 +1,5 @@
--- made by tools/answers for came of crates/deeds/src/answers.rt, sum bf81eb02a10ff047: do not change it by hand, make it anew
+-- made by tools/answers for came of crates/deeds/src/answers.rt, sum 35f4252dc227a44d: do not change it by hand, make it anew
 use Rattle.page.specs.PieceLaws.{with-append, with-none}
-use Rattle.page.specs.Pieces.{with}
 use borrow.Author.Needs.{needs}
 use Rattle.deeds.proofs.answers.came.Statement.{statement}
 use Rattle.deeds.proofs.answers.came.Tie as tie
@@ -90,18 +89,16 @@ returns-2 : tie.Need-returns-2
 returns-2 c = simp (c .before .before .answer2 .given .1, c .letter .ensures)
 
 returns-3 : tie.Need-returns-3
-returns-3 c = simp (c .before .enum-told .given .1, c .empty .ensures)
+returns-3 c = simp (c .before .enum-told .given .1, c .empty .ensures, with-append, with-none)
 
 returns-4 : tie.Need-returns-4
 returns-4 c = simp (c .before .before .answer3 .given .1, c .sent .ensures)
 
 returns-5 : tie.Need-returns-5
-unfolding with
-returns-5 c = simp (c .before .before .before .enum-told2 .given .1, c .text .ensures, c .before .before .empty2 .ensures, with-append, with-none)
+returns-5 c = simp (c .before .before .before .enum-told2 .given .1, c .text .ensures, c .before .before .empty2 .ensures)
 
 returns-6 : tie.Need-returns-6
-unfolding with
-returns-6 c = simp (c .before .before .before .enum-told3 .given .1, c .text2 .ensures, c .before .before .empty3 .ensures, with-append, with-none)
+returns-6 c = simp (c .before .before .before .enum-told3 .given .1, c .text2 .ensures, c .before .before .empty3 .ensures)
 
 returns-7 : tie.Need-returns-7
 returns-7 c = simp (c .before .before .answer4 .given .1, c .vector .ensures)
@@ -110,10 +107,10 @@ returns-8 : tie.Need-returns-8
 returns-8 c = simp (c .before .before .answer5 .given .1, c .spurious .ensures)
 
 returns-9 : tie.Need-returns-9
-returns-9 c = simp (c .before .enum-told4 .given .1, c .empty4 .ensures)
+returns-9 c = simp (c .before .enum-told4 .given .1, c .empty4 .ensures, with-append, with-none)
 
 returns-10 : tie.Need-returns-10
-returns-10 c = simp (c .before .enum-told5 .given .1, c .empty5 .ensures)
+returns-10 c = simp (c .before .enum-told5 .given .1, c .empty5 .ensures, with-append, with-none)
 
 returns-11 : tie.Need-returns-11
 returns-11 c = simp (c .before .before .answer6 .given .1, c .refused .ensures)
