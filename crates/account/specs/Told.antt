@@ -3,21 +3,20 @@ use Prim.Native.Nat.{ℕ}
 use mathlib.Core.Bool.{Bool, false, _&&_, not}
 use mathlib.Core.List.{List, [], _∷_, _++_}
 use Rattle.base.specs.Pick.{pick}
-use Rattle.base.specs.Refusals.{Short}
 use Rattle.receiver.specs.Receiver.{noneQueued}
 use Rattle.channel.specs.declared.Channel.{Channel}
 use Rattle.channel.specs.Parts as channel
 use Rattle.page.specs.Pages.{headed, joinedAll, ended}
 use Rattle.page.specs.Notes.{commented}
 use Rattle.page.specs.declared.Page.{Page}
+use Rattle.records.specs.Kinds as kinds
 use Rattle.records.specs.Events.{Record, whole, short, usesSeat, seatAbove}
 use Rattle.bench.specs.declared.Bench.{Bench}
-use Rattle.bench.specs.declared.Outcome.{Outcome}
 use Rattle.bench.specs.Seats.{seat}
 use Rattle.bench.specs.Steps.{outcome}
 use Rattle.deeds.specs.Done.{recordDone}
 use Rattle.account.specs.Head.{headWords}
-use Rattle.deeds.specs.Came.{cameOf, refusedCame}
+use Rattle.deeds.specs.Came.{cameOf}
 use Rattle.account.specs.Moved.{channelMoved, controllerMoved}
 
 -- the channel of a seat
@@ -32,11 +31,11 @@ abbrev pub divisorOf : Bench → Record → Bool
 divisorOf b (whole kind n number value) = divisorAt b n
 divisorOf b short = false
 
--- what came of a record on a bench, by its answer
+-- what came of a record on a bench, by its answer. One that is cut off is answered by a refusal, which goes by nothing else
 abbrev pub came : Bench → Record → List ℕ
 came b (whole kind n number value) =
     cameOf kind number (divisorAt b n) (b .controller .operation .selected) (noneQueued (channelAt b n .receiver)) (outcome b (whole kind n number value) .answer)
-came b short = refusedCame Short
+came b short = cameOf kinds.Acknowledge 0 false false false (outcome b short .answer)
 
 -- "of the seat that the record names, for kinds 0 to 4 and a seat up to 7; of other records there are none of them"
 unfoldable pub seatMoved : Channel → Channel → ℕ → ℕ → List (List ℕ)

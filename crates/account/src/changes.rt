@@ -45,7 +45,7 @@ pub(crate) fn flag(page: Page, before: bool, after: bool, on: &[u8], off: &[u8])
 }
 
 // Bit k of two bytes.
-pub(crate) fn bit(page: Page, k: u8, before: u8, after: u8, on: &[u8], off: &[u8]) -> Page
+pub(crate) fn turn(page: Page, k: u8, before: u8, after: u8, on: &[u8], off: &[u8]) -> Page
     ensures { λ r. ⌜ r ≡ joined page (turned (bit k before) (bit k after) (now (on .entry)) (now (off .entry))) ⌝ }
 {
     flag(page, base::bit(k, before), base::bit(k, after), on, off)

@@ -37,10 +37,10 @@ fn queues(page: Page, before: Channel, after: Channel) -> Page
 fn troubles(page: Page, before: u8, after: u8) -> Page
     ensures { λ r. ⌜ r ≡ joinedAll page (troublesMoved before after) ⌝ }
 {
-    let overrun = changes::bit(page, 1, before, after, b"overrun set", b"overrun cleared");
-    let parity = changes::bit(overrun, 2, before, after, b"parity set", b"parity cleared");
-    let framing = changes::bit(parity, 3, before, after, b"framing set", b"framing cleared");
-    changes::bit(framing, 4, before, after, b"break set", b"break cleared")
+    let overrun = changes::turn(page, 1, before, after, b"overrun set", b"overrun cleared");
+    let parity = changes::turn(overrun, 2, before, after, b"parity set", b"parity cleared");
+    let framing = changes::turn(parity, 3, before, after, b"framing set", b"framing cleared");
+    changes::turn(framing, 4, before, after, b"break set", b"break cleared")
 }
 
 fn flags(page: Page, before: Channel, after: Channel) -> Page
@@ -65,7 +65,7 @@ fn flags(page: Page, before: Channel, after: Channel) -> Page
 fn inputs(page: Page, before: u8, after: u8) -> Page
     ensures { λ r. ⌜ r ≡ joinedAll page (changesMoved before after) ⌝ }
 {
-    let cts = changes::bit(
+    let cts = changes::turn(
         page,
         0,
         before,
@@ -73,7 +73,7 @@ fn inputs(page: Page, before: u8, after: u8) -> Page
         b"CTS-changed set",
         b"CTS-changed cleared",
     );
-    let dsr = changes::bit(
+    let dsr = changes::turn(
         cts,
         1,
         before,
@@ -81,8 +81,8 @@ fn inputs(page: Page, before: u8, after: u8) -> Page
         b"DSR-changed set",
         b"DSR-changed cleared",
     );
-    let ri = changes::bit(dsr, 2, before, after, b"RI-ended set", b"RI-ended cleared");
-    changes::bit(
+    let ri = changes::turn(dsr, 2, before, after, b"RI-ended set", b"RI-ended cleared");
+    changes::turn(
         ri,
         3,
         before,

@@ -3,10 +3,9 @@ use crate::Told;
 use crate::heads;
 use crate::lines;
 use crate::seats;
-use base::Answer;
 use bench::Bench;
 use channel::Channel;
-use page::Page;
+use records::Event;
 use registers::Settings;
 ghost use mathlib.Core.Path.{_≡_};
 ghost use mathlib.Core.List.{[]};
@@ -48,18 +47,18 @@ pub fn record(
     let stepped = bench.step(kind, seat, number, value);
     let next = stepped.bench;
     let answer = stepped.answer;
-    let head = heads::head(n, answer, stepped.output);
+    let head = heads::begun(n, answer, stepped.output);
+    let selected = bench.controller.operation.selected;
+    let empty = before.receiver.is_empty();
     let done = deeds::done(kind, seat, number, value, divisor, bench.controller);
-    let came = deeds::came(
+    let came = deeds::came(kind, number, divisor, selected, empty, answer);
+    let moved = seats::moved(
+        head.join(done).join(came),
+        before,
+        channel_at(next, seat),
         kind,
-        number,
-        divisor,
-        bench.controller.operation.selected,
-        before.receiver.is_empty(),
-        answer,
+        seat,
     );
-    let page = Page::begin(head).join(done).join(came);
-    let moved = seats::moved(page, before, channel_at(next, seat), kind, seat);
     let all = lines::moved(moved, bench.controller, next.controller);
     Told {
         bench: next,
@@ -73,11 +72,14 @@ pub fn short(bench: Bench, n: u64) -> Told
 {
     let stepped = bench.step_short();
     let next = stepped.bench;
-    let head = heads::head(n, stepped.answer, stepped.output);
-    let page = Page::begin(head)
-        .join(deeds::cut())
-        .join(deeds::refused(Answer::SHORT));
-    let all = lines::moved(page, bench.controller, next.controller);
+    let answer = stepped.answer;
+    let head = heads::begun(n, answer, stepped.output);
+    let came = deeds::came(Event::ACKNOWLEDGE, 0, false, false, false, answer);
+    let all = lines::moved(
+        head.join(deeds::cut()).join(came),
+        bench.controller,
+        next.controller,
+    );
     Told {
         bench: next,
         page: all.end(),

@@ -8,7 +8,7 @@ ghost use mathlib.Core.Path.{_≡_};
 ghost use Rattle.page.specs.Pieces.{piece, with};
 ghost use Rattle.deeds.specs.Came.{refusedCame, behindSaid, figuresSaid, letterCame, plainCame, registerCame, portName, portCame, byteCame, sentCame, vectorCame, spuriousCame, cameOf};
 
-pub fn refused(number: u8) -> Piece
+fn refused(number: u8) -> Piece
     ensures { λ r. ⌜ r ≡ piece (refusedCame number) ⌝ }
 {
     let head = Piece::empty().text(b"refused ").decimal(number as u64);

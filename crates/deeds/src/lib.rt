@@ -5,6 +5,5 @@ mod places;
 mod ports;
 
 pub use answers::came;
-pub use answers::refused;
 pub use deed::cut;
 pub use deed::done;
