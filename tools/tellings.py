@@ -9,8 +9,9 @@ LIMIT = 60
 
 
 def records(lesson):
-    digits = "".join(line.split("#")[0] for line in lesson.read_text("latin-1").splitlines())
-    return bytes.fromhex("".join(digits.split()))
+    """The bytes of a lesson. A line ends at a line feed alone, and so does its comment."""
+    lines = lesson.read_bytes().split(b"\n")
+    return bytes.fromhex(b"".join(line.split(b"#")[0] for line in lines).decode("ascii"))
 
 
 def tell(program, *words, given=b"", status=0):
