@@ -1,1 +1,5 @@
 pub mod Using
+pub mod SeatPages
+pub mod ControllerPages
+pub mod PieceLaws
+pub mod HeadLaws

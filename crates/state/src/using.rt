@@ -41,5 +41,8 @@ pub fn is_in_use(held: Seat) -> bool
     ensures { λ r. ⌜ r ≡ inUse held ⌝ }
 {
     let c = held.channel;
-    any_setting(c.settings) | any_modem(c.modem) | any_to_send(c.transmitter) | any_arrived(held.tallies)
+    any_setting(c.settings)
+        | any_modem(c.modem)
+        | any_to_send(c.transmitter)
+        | any_arrived(held.tallies)
 }

@@ -1,0 +1,40 @@
+use Rattle.state.specs.SeatPages.{queuesPieces}
+use Rattle.page.specs.PageLaws.{joined-piece}
+use Rattle.state.specs.PieceLaws.{joined-all}
+use borrow.Author.Needs.{needs}
+use Rattle.state.proofs.queues.tell_queues.Statement.{statement}
+use Rattle.state.proofs.queues.tell_queues.Tie as tie
+
+slice-aggregate-tell-queue : tie.Need-slice-aggregate-tell-queue
+slice-aggregate-tell-queue c = search needs
+
+tell-queue-requires : tie.Need-tell-queue-requires
+tell-queue-requires c κs = search needs
+
+slice-aggregate-tell-queue-2 : tie.Need-slice-aggregate-tell-queue-2
+slice-aggregate-tell-queue-2 c = search needs
+
+tell-queue-requires-2 : tie.Need-tell-queue-requires-2
+tell-queue-requires-2 c κs = search needs
+
+shift-requires : tie.Need-shift-requires
+shift-requires c κs = search needs
+
+join-requires : tie.Need-join-requires
+join-requires c κs = search needs
+
+returns : tie.Need-returns
+unfolding queuesPieces
+returns c = simp (c .join .ensures, c .before .shift .ensures, c .before .before .tell-queue2 .ensures, c .before .before .before .before .tell-queue .ensures, joined-piece, joined-all)
+
+pub tell-queues-spec : {M : Type 1} → statement M
+tell-queues-spec =
+    tie.close
+    (tie.spec
+    slice-aggregate-tell-queue
+    tell-queue-requires
+    slice-aggregate-tell-queue-2
+    tell-queue-requires-2
+    shift-requires
+    join-requires
+    returns)
