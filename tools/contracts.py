@@ -7,16 +7,23 @@ import source as read
 
 ANSWER = re.compile(r"ensures\s*\{\s*λ \w+\.\s*⌜\s*(\(?)\w+ ≡ (\S+)")
 
+# What is told stands in a piece: `r ≡ piece (NAME ..)`, or behind what was told before, `r ≡ with PIECE (NAME ..)`.
+TOLD = re.compile(r"ensures\s*\{\s*λ \w+\.\s*⌜\s*\w+ ≡ (?:piece|with \w+) \(?([^\s()]+)")
+
+# The piece of no words.
+NOTHING = "noPiece"
+
 # A choice by a test stays shut: the laws of a choice settle it.
 SHUT = {"pick"}
 
 
 class Contract(NamedTuple):
-    """`r ≡ NAME ..`; paired where that is the first of several parts, `(r ≡ NAME ..) × ..`."""
+    """`r ≡ NAME ..`; paired where that is the first of several parts, `(r ≡ NAME ..) × ..`; told where NAME gives the words of a piece."""
 
     module: Optional[str] = None
     name: Optional[str] = None
     paired: bool = False
+    told: bool = False
 
 
 def brought(source):
@@ -34,9 +41,10 @@ def functions(source):
     source, found = read.without_comments(source), {}
     names = brought(source)
     for function in read.functions(source):
-        said = ANSWER.search(function.head)
-        module, name = names.get(said[2], (None, None)) if said else (None, None)
-        found[function.path] = Contract(module, name, bool(said and said[1]))
+        said, told = ANSWER.search(function.head), TOLD.search(function.head)
+        given = told[1] if told else said and said[2]
+        module, name = names.get(given, (None, None))
+        found[function.path] = Contract(module, name, bool(said and said[1]), bool(told) or name == NOTHING)
     return found
 
 

@@ -6,7 +6,7 @@ ghost use Prim.Native.Nat.{_+_, _≤_};
 ghost use Rattle.base.specs.Pick.{pick};
 ghost use Rattle.base.specs.Bits.{bit};
 ghost use Rattle.page.specs.Pieces.{piece, with};
-ghost use Rattle.names.specs.Names.{lsrWords, msrWords};
+ghost use Rattle.names.specs.Names.{lsrWords, msrWords, levelWords};
 ghost use Rattle.names.specs.Words.{bitsSaid, lsrSaid, msrSaid, marksNamed, marksSaid, levelsSaid};
 
 const ALL_LEVELS: u8 = 15;
@@ -119,6 +119,15 @@ pub fn marks(piece: Piece, marks: u8) -> Piece
     marks_named(piece.text(b" with"), marks)
 }
 
+fn level_bits(piece: Piece, levels: u8) -> Piece
+    ensures { λ r. ⌜ r ≡ with piece (bitsSaid levelWords levels) ⌝ }
+{
+    if levels == 0 {
+        return piece.text(b" none");
+    }
+    four(piece, levels, 0, b" CTS", b" DSR", b" RI", b" DCD")
+}
+
 // The modem levels that are set.
 pub fn levels(piece: Piece, levels: u8) -> Piece
     ensures { λ r. ⌜ r ≡ with piece (levelsSaid levels) ⌝ }
@@ -126,8 +135,5 @@ pub fn levels(piece: Piece, levels: u8) -> Piece
     if ALL_LEVELS < levels {
         return piece.text(b" ").hex(levels);
     }
-    if levels == 0 {
-        return piece.text(b" none");
-    }
-    four(piece, levels, 0, b" CTS", b" DSR", b" RI", b" DCD")
+    level_bits(piece, levels)
 }

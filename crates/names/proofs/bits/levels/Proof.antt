@@ -1,8 +1,9 @@
-use Rattle.names.specs.Words.{levelsSaid, bitsSaid}
-use Rattle.page.specs.Pieces.{with}
-use Rattle.page.specs.PieceLaws.{with-append, with-none}
+-- made by tools/answers for levels of crates/names/src/bits.rt, sum 43169f093558cced: do not change it by hand, make it anew
 use Rattle.base.specs.PickLaws.{pick-true, pick-false}
-use borrow.Author.Tests.{eq-eqb, le-leb, le-ltb, lt-leb, lt-ltb, ne-eqb}
+use borrow.Author.Tests.{le-leb, le-ltb, lt-leb, lt-ltb}
+use Rattle.page.specs.PieceLaws.{with-append, with-none}
+use Rattle.page.specs.Pieces.{with}
+use Rattle.names.specs.Words.{levelsSaid}
 use borrow.Author.Needs.{needs}
 use Rattle.names.proofs.bits.levels.Statement.{statement}
 use Rattle.names.proofs.bits.levels.Tie as tie
@@ -17,37 +18,15 @@ hex-requires : tie.Need-hex-requires
 hex-requires c κs = search needs
 
 returns : tie.Need-returns
-unfolding with levelsSaid bitsSaid
+unfolding with levelsSaid
 returns c = simp (c .hex .ensures, c .before .text .ensures, lt-ltb _ _ (c .before .before .before .if1 .taken), lt-leb _ _ (c .before .before .before .if1 .taken), pick-true, pick-false, with-append, with-none)
 
-slice-aggregate-text-2 : tie.Need-slice-aggregate-text-2
-slice-aggregate-text-2 c = search needs
-
-text-requires-2 : tie.Need-text-requires-2
-text-requires-2 c κs = search needs
+level-bits-requires : tie.Need-level-bits-requires
+level-bits-requires c κs = search needs
 
 returns-2 : tie.Need-returns-2
-unfolding with levelsSaid bitsSaid
-returns-2 c = simp (c .text2 .ensures, eq-eqb _ _ (c .before .before .if2 .taken), le-ltb _ _ (c .before .before .before .if1 .left), le-leb _ _ (c .before .before .before .if1 .left), pick-true, pick-false, with-append, with-none)
-
-slice-aggregate-four : tie.Need-slice-aggregate-four
-slice-aggregate-four c = search needs
-
-slice-aggregate-four-2 : tie.Need-slice-aggregate-four-2
-slice-aggregate-four-2 c = search needs
-
-slice-aggregate-four-3 : tie.Need-slice-aggregate-four-3
-slice-aggregate-four-3 c = search needs
-
-slice-aggregate-four-4 : tie.Need-slice-aggregate-four-4
-slice-aggregate-four-4 c = search needs
-
-four-requires : tie.Need-four-requires
-four-requires c κs = search needs
-
-returns-3 : tie.Need-returns-3
-unfolding with levelsSaid bitsSaid
-returns-3 c = simp (c .four .ensures, ne-eqb _ _ (c .before .before .before .before .before .if2 .left), le-ltb _ _ (c .before .before .before .before .before .before .if1 .left), le-leb _ _ (c .before .before .before .before .before .before .if1 .left), pick-true, pick-false, with-append, with-none)
+unfolding levelsSaid
+returns-2 c = simp (c .level-bits .ensures, le-ltb _ _ (c .before .if1 .left), le-leb _ _ (c .before .if1 .left), pick-true, pick-false)
 
 pub levels-spec : {M : Type 1} → statement M
 levels-spec =
@@ -57,12 +36,5 @@ levels-spec =
     text-requires
     hex-requires
     returns
-    slice-aggregate-text-2
-    text-requires-2
-    returns-2
-    slice-aggregate-four
-    slice-aggregate-four-2
-    slice-aggregate-four-3
-    slice-aggregate-four-4
-    four-requires
-    returns-3)
+    level-bits-requires
+    returns-2)

@@ -1,6 +1,7 @@
-use Rattle.names.specs.Words.{lsrSaid}
-use Rattle.page.specs.Pieces.{with}
+-- made by tools/answers for lsr of crates/names/src/bits.rt, sum 02fc108488a83ae0: do not change it by hand, make it anew
 use Rattle.page.specs.PieceLaws.{with-append, with-none}
+use Rattle.page.specs.Pieces.{with}
+use Rattle.names.specs.Words.{lsrSaid}
 use borrow.Author.Needs.{needs}
 use Rattle.names.proofs.bits.lsr.Statement.{statement}
 use Rattle.names.proofs.bits.lsr.Tie as tie

@@ -1,8 +1,9 @@
-use Rattle.names.specs.Words.{marksSaid}
-use Rattle.page.specs.Pieces.{with}
-use Rattle.page.specs.PieceLaws.{with-append, with-none}
+-- made by tools/answers for marks of crates/names/src/bits.rt, sum 39e2c3dce4965b53: do not change it by hand, make it anew
 use Rattle.base.specs.PickLaws.{pick-true, pick-false}
 use borrow.Author.Tests.{eq-eqb, le-leb, le-ltb, lt-leb, lt-ltb, ne-eqb}
+use Rattle.page.specs.PieceLaws.{with-append, with-none}
+use Rattle.page.specs.Pieces.{with}
+use Rattle.names.specs.Words.{marksSaid}
 use borrow.Author.Needs.{needs}
 use Rattle.names.proofs.bits.marks.Statement.{statement}
 use Rattle.names.proofs.bits.marks.Tie as tie
@@ -21,7 +22,7 @@ unfolding with marksSaid
 returns c = simp (c .hex .ensures, c .before .text .ensures, lt-ltb _ _ (c .before .before .before .if1 .taken), lt-leb _ _ (c .before .before .before .if1 .taken), pick-true, pick-false, with-append, with-none)
 
 returns-2 : tie.Need-returns-2
-unfolding with marksSaid
+unfolding marksSaid
 returns-2 c = simp (eq-eqb _ _ (c .if2 .taken), le-ltb _ _ (c .before .if1 .left), le-leb _ _ (c .before .if1 .left), pick-true, pick-false, with-append, with-none)
 
 slice-aggregate-text-2 : tie.Need-slice-aggregate-text-2

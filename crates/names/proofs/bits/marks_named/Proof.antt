@@ -1,6 +1,6 @@
-use Rattle.names.specs.Words.{marksNamed}
-use Rattle.page.specs.Pieces.{with}
+-- made by tools/answers for marks_named of crates/names/src/bits.rt, sum ba23bc4548bf2f8d: do not change it by hand, make it anew
 use Rattle.page.specs.PieceLaws.{with-append, with-none}
+use Rattle.names.specs.Words.{marksNamed}
 use borrow.Author.Needs.{needs}
 use Rattle.names.proofs.bits.marks_named.Statement.{statement}
 use Rattle.names.proofs.bits.marks_named.Tie as tie
@@ -33,7 +33,7 @@ word-requires-3 : tie.Need-word-requires-3
 word-requires-3 c κs = search needs
 
 returns : tie.Need-returns
-unfolding with marksNamed
+unfolding marksNamed
 returns c = simp (c .word3 .ensures, ← c .before .before .bit3 .ensures, c .before .before .before .word2 .ensures, ← c .before .before .before .before .before .bit2 .ensures, c .before .before .before .before .before .before .word .ensures, ← c .before .before .before .before .before .before .before .before .bit .ensures, with-append, with-none)
 
 pub marks-named-spec : {M : Type 1} → statement M

@@ -1,6 +1,7 @@
-use Rattle.names.specs.Words.{msrSaid}
-use Rattle.page.specs.Pieces.{with}
+-- made by tools/answers for msr of crates/names/src/bits.rt, sum 7ef7d716231ff7ee: do not change it by hand, make it anew
 use Rattle.page.specs.PieceLaws.{with-append, with-none}
+use Rattle.page.specs.Pieces.{with}
+use Rattle.names.specs.Words.{msrSaid}
 use borrow.Author.Needs.{needs}
 use Rattle.names.proofs.bits.msr.Statement.{statement}
 use Rattle.names.proofs.bits.msr.Tie as tie

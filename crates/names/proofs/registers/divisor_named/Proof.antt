@@ -1,6 +1,7 @@
+-- made by tools/answers for divisor_named of crates/names/src/registers.rt, sum 182b75b795ca5cd2: do not change it by hand, make it anew
+use Rattle.base.specs.PickLaws.{pick-true, pick-false}
 use borrow.Author.Tests.{ne-eqb}
 use Rattle.names.specs.Words.{nameAtDivisor}
-use Rattle.base.specs.PickLaws.{pick-true, pick-false}
 use borrow.Author.Needs.{needs}
 use Rattle.names.proofs.registers.divisor_named.Statement.{statement}
 use Rattle.names.proofs.registers.divisor_named.Tie as tie

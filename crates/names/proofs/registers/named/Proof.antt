@@ -1,7 +1,6 @@
-use Rattle.names.specs.Words.{nameOf}
-use Rattle.page.specs.Pieces.{with}
-use Rattle.page.specs.PieceLaws.{with-append, with-none}
+-- made by tools/answers for named of crates/names/src/registers.rt, sum 19eee3297ba9eb65: do not change it by hand, make it anew
 use Rattle.base.specs.PickLaws.{pick-true, pick-false}
+use Rattle.names.specs.Words.{nameOf}
 use borrow.Author.Needs.{needs}
 use Rattle.names.proofs.registers.named.Statement.{statement}
 use Rattle.names.proofs.registers.named.Tie as tie

@@ -1,7 +1,8 @@
-use Rattle.names.specs.Words.{nameRead}
-use Rattle.page.specs.Pieces.{with}
+-- made by tools/answers for read of crates/names/src/registers.rt, sum b5281e80a47855fe: do not change it by hand, make it anew
+use Rattle.base.specs.PickLaws.{pick-true, pick-false}
+use borrow.Author.Tests.{ne-eqb}
 use Rattle.page.specs.PieceLaws.{with-append, with-none}
-use Rattle.base.specs.PickLaws.{tests, pick-true, pick-false}
+use Rattle.names.specs.Words.{nameRead}
 use borrow.Author.Needs.{needs}
 use Rattle.names.proofs.registers.read.Statement.{statement}
 use Rattle.names.proofs.registers.read.Tie as tie
@@ -87,8 +88,8 @@ unfolding nameRead
 returns-8 c = simp (c .text8 .ensures, c .before .before .match .keys8, pick-true, pick-false)
 
 returns-9 : tie.Need-returns-9
-unfolding with nameRead
-returns-9 c = search tests
+unfolding nameRead
+returns-9 c = simp (ne-eqb _ _ (c .match .rest .1), ne-eqb _ _ (c .match .rest .0 .1), ne-eqb _ _ (c .match .rest .0 .0 .1), ne-eqb _ _ (c .match .rest .0 .0 .0 .1), ne-eqb _ _ (c .match .rest .0 .0 .0 .0 .1), ne-eqb _ _ (c .match .rest .0 .0 .0 .0 .0 .1), ne-eqb _ _ (c .match .rest .0 .0 .0 .0 .0 .0 .1), ne-eqb _ _ (c .match .rest .0 .0 .0 .0 .0 .0 .0 .1), pick-false, with-append, with-none)
 
 pub read-spec : {M : Type 1} → statement M
 read-spec =

@@ -1,6 +1,7 @@
+-- made by tools/answers for written of crates/names/src/registers.rt, sum bfe28eb6dfcf1f65: do not change it by hand, make it anew
+use Rattle.base.specs.PickLaws.{pick-true, pick-false}
 use borrow.Author.Tests.{ne-eqb}
 use Rattle.names.specs.Words.{nameWritten}
-use Rattle.base.specs.PickLaws.{pick-true, pick-false}
 use borrow.Author.Needs.{needs}
 use Rattle.names.proofs.registers.written.Statement.{statement}
 use Rattle.names.proofs.registers.written.Tie as tie

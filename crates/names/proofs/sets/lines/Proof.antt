@@ -1,8 +1,9 @@
-use Rattle.names.specs.Words.{linesSaid}
-use Rattle.page.specs.Pieces.{with}
-use Rattle.page.specs.PieceLaws.{with-append, with-none}
+-- made by tools/answers for lines of crates/names/src/sets.rt, sum dfeb1930772b1be8: do not change it by hand, make it anew
 use Rattle.base.specs.PickLaws.{pick-true, pick-false}
 use borrow.Author.Tests.{eq-eqb, ne-eqb}
+use Rattle.page.specs.PieceLaws.{with-append, with-none}
+use Rattle.page.specs.Pieces.{with}
+use Rattle.names.specs.Words.{linesSaid}
 use borrow.Author.Needs.{needs}
 use Rattle.names.proofs.sets.lines.Statement.{statement}
 use Rattle.names.proofs.sets.lines.Tie as tie
@@ -14,8 +15,8 @@ text-requires : tie.Need-text-requires
 text-requires c κs = search needs
 
 returns : tie.Need-returns
-unfolding with linesSaid
-returns c = simp (c .text .ensures, eq-eqb _ _ (c .before .before .if1 .taken), pick-true, with-append, with-none)
+unfolding linesSaid
+returns c = simp (c .text .ensures, eq-eqb _ _ (c .before .before .if1 .taken), pick-true)
 
 count-requires : tie.Need-count-requires
 count-requires c κs = search needs

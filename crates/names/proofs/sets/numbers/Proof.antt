@@ -1,6 +1,6 @@
-use Rattle.names.specs.Words.{lineList}
-use Rattle.page.specs.Pieces.{with}
+-- made by tools/answers for numbers of crates/names/src/sets.rt, sum 8a5ddb566e16caeb: do not change it by hand, make it anew
 use Rattle.page.specs.PieceLaws.{with-append, with-none}
+use Rattle.names.specs.Words.{lineList}
 use borrow.Author.Needs.{needs}
 use Rattle.names.proofs.sets.numbers.Statement.{statement}
 use Rattle.names.proofs.sets.numbers.Tie as tie
@@ -36,8 +36,8 @@ four-requires-2 : tie.Need-four-requires-2
 four-requires-2 c κs = search needs
 
 returns : tie.Need-returns
-unfolding with lineList
-returns c = simp (c .four2 .ensures, c .before .before .before .before .before .four .ensures, with-append, with-none)
+unfolding lineList
+returns c = simp (← c .four2 .ensures, ← c .before .before .before .before .before .four .ensures, with-append, with-none)
 
 pub numbers-spec : {M : Type 1} → statement M
 numbers-spec =

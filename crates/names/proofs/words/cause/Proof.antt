@@ -1,6 +1,7 @@
+-- made by tools/answers for cause of crates/names/src/words.rt, sum 3dfcacc5ff16b0a2: do not change it by hand, make it anew
+use Rattle.base.specs.PickLaws.{pick-true, pick-false}
 use borrow.Author.Tests.{ne-eqb}
 use Rattle.names.specs.Words.{causeSaid}
-use Rattle.base.specs.PickLaws.{pick-true, pick-false}
 use borrow.Author.Needs.{needs}
 use Rattle.names.proofs.words.cause.Statement.{statement}
 use Rattle.names.proofs.words.cause.Tie as tie

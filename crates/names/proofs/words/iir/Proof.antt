@@ -1,6 +1,7 @@
-use Rattle.names.specs.Words.{iirWords}
-use Rattle.page.specs.Pieces.{with}
+-- made by tools/answers for iir of crates/names/src/words.rt, sum 4a789936b80f2c48: do not change it by hand, make it anew
 use Rattle.page.specs.PieceLaws.{with-append, with-none}
+use Rattle.page.specs.Pieces.{with}
+use Rattle.names.specs.Words.{iirWords}
 use borrow.Author.Needs.{needs}
 use Rattle.names.proofs.words.iir.Statement.{statement}
 use Rattle.names.proofs.words.iir.Tie as tie
