@@ -1,0 +1,2 @@
+pub mod ControllerPages
+pub mod HeadLaws

@@ -1,0 +1,3 @@
+pub mod Using
+pub mod SeatPages
+pub mod HeadLaws
