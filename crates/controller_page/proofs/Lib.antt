@@ -1,1 +1,4 @@
 pub mod InOrder
+pub mod Short
+pub mod Exemplified
+pub mod Statements

@@ -1,6 +1,5 @@
 -- The page of the controller. docs/TELLING.md has its pieces under "`--show`: the state".
 use Prim.Native.Nat.{ℕ}
-use mathlib.Core.Bool.{Bool}
 use mathlib.Core.List.{List, [], _∷_, _++_}
 use lib.ListN.{replicate}
 use Rattle.base.specs.Pick.{pick}
@@ -13,7 +12,6 @@ use Rattle.names.specs.Words.{linesSaid}
 use Rattle.rank.specs.Rank.{order}
 use Rattle.controller.specs.declared.Controller.{Controller}
 use Rattle.controller.specs.declared.Setup.{Setup}
-use Rattle.controller.specs.declared.Operation.{Operation}
 use Rattle.controller.specs.State.{ready}
 use Rattle.controller.specs.Turns.{requests, outputOf}
 

@@ -2,12 +2,11 @@
 use Prim.Native.Nat.{ℕ, _+_}
 use mathlib.Core.Bool.{Bool, true, false, not, _&&_, _||_}
 use mathlib.Core.List.{[]}
-use mathlib.Core.Path.{_≡_, refl, sym, ap, _∙_}
-use mathlib.Core.Logic.{⊎-elim}
+use mathlib.Core.Path.{_≡_, refl, sym}
 use native.Mathlib.Omega.{arith}
 use lib.Dec.{eqb, leb, ltb}
 use borrow.Author.Tests.{eqb-true, eq-eqb}
-use Rattle.base.specs.PickLaws.{neither, both-hold, not-both, either-way}
+use Rattle.base.specs.PickLaws.{neither, both-hold, not-both}
 use Rattle.queue.specs.declared.Queue.{Queue}
 use Rattle.queue.specs.Queue.{emptyQueue, capacity, canonical, contents, marked}
 use Rattle.queue.specs.CanonicalLaws.{holding-canonical, contents-determine}
@@ -23,11 +22,10 @@ use Rattle.channel.specs.declared.Modem.{Modem}
 use Rattle.channel.specs.Parts.{fifo}
 use Rattle.channel.specs.Sound.{soundChannel}
 use Rattle.seat.specs.declared.Tallies.{Tallies}
-use Rattle.seat.specs.declared.Seat.{Seat}
 use Rattle.seat.specs.Seats.{queued}
 use Rattle.seat.specs.Tallies.{largest, noTallies, addUp}
 use Rattle.seat_page.specs.Using.{isSet, someSetting, someModem, someToSend, someArrived, inUse}
-use Rattle.seat_page.specs.Idle.{quietBut, PowerUpIdle, IdleAsAtPowerUp}
+use Rattle.seat_page.specs.Idle.{PowerUpIdle, IdleAsAtPowerUp}
 
 pub power-up-idle : PowerUpIdle
 unfolding inUse someSetting someModem someToSend someArrived noneWaiting
@@ -59,15 +57,15 @@ settings-none s e =
     let f = neither (isSet (s .ier) || isSet (s .fcr)) (isSet (s .lcr)) (d .0) in
     let g = neither (isSet (s .ier)) (isSet (s .fcr)) (f .0) in
     λ i.
-      record {
-        ier = none (s .ier) (g .0) i;
-        fcr = none (s .fcr) (g .1) i;
-        lcr = none (s .lcr) (f .1) i;
-        mcr = none (s .mcr) (d .1) i;
-        scratch = none (s .scratch) (c .1) i;
-        dll = none (s .dll) (b .1) i;
-        dlm = none (s .dlm) (a .1) i;
-      }
+    record {
+      ier = none (s .ier) (g .0) i;
+      fcr = none (s .fcr) (g .1) i;
+      lcr = none (s .lcr) (f .1) i;
+      mcr = none (s .mcr) (d .1) i;
+      scratch = none (s .scratch) (c .1) i;
+      dll = none (s .dll) (b .1) i;
+      dlm = none (s .dlm) (a .1) i;
+    }
 
 modem-none : (m : Modem) → someModem m ≡ false → m ≡ record { levels = 0; changes = 0 }
 unfolding someModem
@@ -141,13 +139,13 @@ idle-as-at-power-up s good idle =
     let f = neither (someSetting (c .settings)) (someModem (c .modem)) (e .0) in
     let counted = nothing (s .tallies) (queued s) (whole .1) (d .1) in
     λ i.
-      record {
-        tallies = counted .tallies i;
-        channel =
-            record {
-              settings = settings-none (c .settings) (f .0) i;
-              receiver = receiver-quiet (fifo c) (c .receiver) (heard .1) (counted .queued) i;
-              transmitter = transmitter-still (fifo c) (c .transmitter) (sides .1) (e .1) i;
-              modem = modem-none (c .modem) (f .1) i;
-            };
-      }
+    record {
+      tallies = counted .tallies i;
+      channel =
+          record {
+            settings = settings-none (c .settings) (f .0) i;
+            receiver = receiver-quiet (fifo c) (c .receiver) (heard .1) (counted .queued) i;
+            transmitter = transmitter-still (fifo c) (c .transmitter) (sides .1) (e .1) i;
+            modem = modem-none (c .modem) (f .1) i;
+          };
+    }

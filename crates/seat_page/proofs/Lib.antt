@@ -1,5 +1,6 @@
 pub mod Characters
 pub mod Exemplified
 pub mod Short
+pub mod Few
 pub mod Idling
 pub mod Statements

@@ -2,7 +2,6 @@
 use Prim.Native.Nat.{ℕ, _+_, _^_, _≤_, _<_}
 use mathlib.Core.Bool.{Bool, true, false}
 use mathlib.Core.List.{List, [], _∷_, _++_, map}
-use mathlib.Core.Path.{_≡_}
 use native.Mathlib.Omega.{arith}
 use lib.Dec.{eqb}
 use lib.ListN.{length, length-append}
@@ -11,7 +10,9 @@ use Rattle.base.specs.PickLaws.{pick-either}
 use Rattle.text.specs.Line.{decimal}
 use Rattle.text.specs.Quoted.{quoted}
 use Rattle.text.specs.DecimalLaws.{decimal-length}
-use Rattle.page.specs.Pieces.{pieceMost, letter}
+use Rattle.page.specs.Pieces.{letter}
+use Rattle.page.specs.Uncut.{Short, AllShort}
+use Rattle.page.specs.UncutLaws.{either-short, all-short}
 use Rattle.names.specs.Words.{marksSaid, marksNamed}
 use Rattle.names.specs.LengthLaws.{letter-length, lsr-length, msr-length, iir-length, marks-length, marks-named-length}
 use Rattle.queue.specs.declared.Character.{Character}
@@ -25,17 +26,7 @@ use Rattle.channel.specs.Status.{lsr, iir, msr, line}
 use Rattle.seat.specs.declared.Seat.{Seat}
 use Rattle.seat.specs.Seats.{five}
 use Rattle.seat_page.specs.SeatPages.{readPieces, lineWords, linePieces, characterWords, queuePieces, shiftWords, queuesPieces, timeoutWords, keptWords, flagPieces, tallyPieces, channelPieces, seatPieces}
-use Rattle.seat_page.specs.Uncut.{AllShort, Fields, NoneCut}
-
-abbrev Short : List ℕ → Type 0
-Short words = length words ≤ pieceMost
-
-either-short : (test : Bool) (words others : List ℕ) → Short words → Short others → Short (pick test words others)
-either-short = pick-either Short
-
-all-short : (first then : List (List ℕ)) → AllShort first → AllShort then → AllShort (first ++ then)
-all-short [] then a b = b
-all-short (words ∷ first) then a b = (a .0, all-short first then (a .1) b)
+use Rattle.seat_page.specs.Uncut.{Fields, NoneCut}
 
 number-short : (words : List ℕ) (n : ℕ) → length words ≤ 58 → n < 2 ^ 32 → Short (words ++ decimal n)
 number-short words n few small =
@@ -47,9 +38,10 @@ reads-short c = (lsr-length (lsr c), (iir-length (iir c), (msr-length (msr c), t
 
 line-short : (c : Channel) → AllShort (linePieces c)
 unfolding linePieces lineWords
-line-short c =
-    (either-short (line c) (quoted "line high") (quoted "line low") (omega arith) (omega arith),
-    (either-short (inLoopback c) (quoted "loopback") [] (omega arith) (omega arith), tt))
+line-short c = (
+  either-short (line c) (quoted "line high") (quoted "line low") (omega arith) (omega arith),
+  (either-short (inLoopback c) (quoted "loopback") [] (omega arith) (omega arith), tt),
+)
 
 character-short : (marks : Bool) (ch : Character) → Short (characterWords marks ch)
 unfolding characterWords
@@ -91,10 +83,13 @@ module _ (s : Seat) (f : Fields s) where
 
   flags-short : AllShort (flagPieces (s .channel))
   unfolding flagPieces
-  flags-short =
-      (timeout-short (s .channel .receiver) (f .timeout),
-      (either-short (s .channel .transmitter .flag) (quoted "holding-empty flag") [] (omega arith) (omega arith),
-      (kept-short (s .channel .receiver), tt)))
+  flags-short = (
+    timeout-short (s .channel .receiver) (f .timeout),
+    (
+      either-short (s .channel .transmitter .flag) (quoted "holding-empty flag") [] (omega arith) (omega arith),
+      (kept-short (s .channel .receiver), tt),
+    ),
+  )
 
   channel-short : AllShort (channelPieces (s .channel))
   unfolding channelPieces
@@ -105,12 +100,19 @@ module _ (s : Seat) (f : Fields s) where
 
   tallies-short : AllShort (tallyPieces (five s))
   unfolding tallyPieces
-  tallies-short =
-      (number-short (quoted "arrived ") (s .tallies .arrived) (omega arith) (f .arrived),
-      (number-short (quoted "read ") (s .tallies .read) (omega arith) (f .read),
-      (number-short (quoted "lost ") (s .tallies .lost) (omega arith) (f .lost),
-      (number-short (quoted "dropped ") (s .tallies .dropped) (omega arith) (f .dropped),
-      (number-short (quoted "queued ") (s .channel .receiver .queue .count) (omega arith) (omega (arith, f .received)), tt)))))
+  tallies-short = (
+    number-short (quoted "arrived ") (s .tallies .arrived) (omega arith) (f .arrived),
+    (
+      number-short (quoted "read ") (s .tallies .read) (omega arith) (f .read),
+      (
+        number-short (quoted "lost ") (s .tallies .lost) (omega arith) (f .lost),
+        (
+          number-short (quoted "dropped ") (s .tallies .dropped) (omega arith) (f .dropped),
+          (number-short (quoted "queued ") (s .channel .receiver .queue .count) (omega arith) (omega (arith, f .received)), tt),
+        ),
+      ),
+    ),
+  )
 
   pieces-short : AllShort (seatPieces s)
   unfolding seatPieces

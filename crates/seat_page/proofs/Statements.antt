@@ -1,6 +1,7 @@
 -- All statements of this room hold.
 use Rattle.seat_page.specs.Statements.{Statements}
 use Rattle.seat_page.proofs.Short.{none-cut}
+use Rattle.seat_page.proofs.Few.{whole}
 use Rattle.seat_page.proofs.Idling.{power-up-idle, idle-as-at-power-up}
 use Rattle.seat_page.proofs.Exemplified.{exemplified}
 
@@ -8,6 +9,7 @@ pub statements : Statements
 statements =
     record {
       none-cut = none-cut;
+      whole = whole;
       power-up-idle = power-up-idle;
       idle-as-at-power-up = idle-as-at-power-up;
       examples = exemplified;

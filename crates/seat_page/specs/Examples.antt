@@ -1,14 +1,13 @@
 -- Pages of seats by examples, line by line as a class sees them.
 use Prim.Native.Nat.{ℕ}
 use Prim.Native.String.{String}
-use mathlib.Core.Bool.{Bool, true, false}
-use mathlib.Core.List.{List, [], _∷_, _++_}
+use mathlib.Core.Bool.{true, false}
+use mathlib.Core.List.{List, [], _∷_}
 use mathlib.Core.Path.{_≡_}
-use lib.ListN.{length, replicate}
+use lib.ListN.{replicate}
 use Rattle.page.specs.Pages.{shown}
 use Rattle.page.specs.Examples.{lines}
 use Rattle.queue.specs.declared.Character.{Character}
-use Rattle.queue.specs.declared.Queue.{Queue}
 use Rattle.queue.specs.Queue.{noCharacter}
 use Rattle.seat.specs.declared.Seat.{Seat}
 use Rattle.seat.specs.Seats.{powerUp}

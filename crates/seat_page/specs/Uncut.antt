@@ -1,17 +1,17 @@
--- docs/TELLING.md: "A piece has at most 68 characters, and none is cut."
-use Prim.Native.Nat.{ℕ, _^_, _≤_, _<_}
-use mathlib.Core.List.{List, [], _∷_}
+-- docs/TELLING.md: "A piece has at most 68 characters, and none is cut. A page has at most 4096 bytes: of what would be more the first 4095 stand,
+-- and the line feed. That can only be so of a long comment."
+use Prim.Native.Nat.{ℕ, _^_, _<_}
+use mathlib.Core.Path.{_≡_}
 use lib.ListN.{length}
-use Rattle.page.specs.Pieces.{pieceMost}
+use Rattle.page.specs.Pages.{pageMost, headed, joinedAll}
+use Rattle.page.specs.Uncut.{AllShort}
 use Rattle.seat.specs.declared.Seat.{Seat}
-use Rattle.seat_page.specs.SeatPages.{seatPieces}
+use Rattle.seat_page.specs.SeatPages.{seatHead, seatPieces}
 
-abbrev pub AllShort : List (List ℕ) → Type 0
-AllShort [] = Unit {0}
-AllShort (words ∷ pieces) = (length words ≤ pieceMost) × AllShort pieces
-
--- the numbers of a seat that are told in decimal: bytes, and ticket 8's "32-bit tallies"
+-- what the fields of a seat can hold: sixteen slots, bytes, and ticket 8's "32-bit tallies"
 pub record Fields (s : Seat) : Type 0 where
+  pub heard : length (s .channel .receiver .queue .slots) ≡ 16
+  pub sent : length (s .channel .transmitter .queue .slots) ≡ 16
   pub received : s .channel .receiver .queue .count < 2 ^ 8
   pub waiting : s .channel .transmitter .queue .count < 2 ^ 8
   pub timeout : s .channel .receiver .timeout < 2 ^ 8
@@ -22,3 +22,7 @@ pub record Fields (s : Seat) : Type 0 where
 
 abbrev pub NoneCut : Type 0
 NoneCut = (s : Seat) → Fields s → AllShort (seatPieces s)
+
+-- there is room for the line feed behind the last piece
+abbrev pub Whole : Type 0
+Whole = (s : Seat) (n : ℕ) → Fields s → n < 2 ^ 8 → joinedAll (headed (seatHead n)) (seatPieces s) .count < pageMost
