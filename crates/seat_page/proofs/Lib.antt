@@ -3,4 +3,5 @@ pub mod Exemplified
 pub mod Short
 pub mod Few
 pub mod Idling
+pub mod Slips
 pub mod Statements
