@@ -1,5 +1,7 @@
+-- made by tools/answers for head of crates/controller_page/src/lib.rt, sum c3100a11d2a1bc63: do not change it by hand, make it anew
+use Rattle.page.specs.PieceLaws.{with-append, with-none}
+use Rattle.page.specs.Pieces.{with}
 use Rattle.controller_page.specs.ControllerPages.{controllerHead}
-use Rattle.page.specs.PieceLaws.{with-append}
 use borrow.Author.Needs.{needs}
 use Rattle.controller_page.proofs.head.Statement.{statement}
 use Rattle.controller_page.proofs.head.Tie as tie
@@ -20,8 +22,8 @@ text-requires-2 : tie.Need-text-requires-2
 text-requires-2 c κs = search needs
 
 returns : tie.Need-returns
-unfolding controllerHead
-returns c = simp (c .text2 .ensures, c .before .before .text .ensures, c .before .before .before .before .empty .ensures, with-append)
+unfolding with controllerHead
+returns c = simp (c .text2 .ensures, c .before .before .text .ensures, c .before .before .before .before .empty .ensures, with-append, with-none)
 
 pub head-spec : {M : Type 1} → statement M
 head-spec =

@@ -1,3 +1,5 @@
+-- made by tools/answers for output of crates/controller_page/src/lib.rt, sum 9501f8bbd94a2b31: do not change it by hand, make it anew
+use Rattle.page.specs.PieceLaws.{with-append, with-none}
 use Rattle.controller_page.specs.ControllerPages.{outputWords}
 use borrow.Author.Needs.{needs}
 use Rattle.controller_page.proofs.output.Statement.{statement}
@@ -17,7 +19,7 @@ either-requires c κs = search needs
 
 returns : tie.Need-returns
 unfolding outputWords
-returns c = simp (c .either .ensures, c .before .before .before .output .ensures)
+returns c = simp (c .either .ensures, c .before .before .before .output .ensures, with-append, with-none)
 
 pub output-spec : {M : Type 1} → statement M
 output-spec =

@@ -1,4 +1,5 @@
-use Rattle.page.specs.PieceLaws.{with-append}
+-- made by tools/answers for ranked of crates/controller_page/src/lib.rt, sum fc1142204f4e4394: do not change it by hand, make it anew
+use Rattle.page.specs.PieceLaws.{with-append, with-none}
 use Rattle.page.specs.Pieces.{with}
 use borrow.Author.Needs.{needs}
 use Rattle.controller_page.proofs.ranked.Statement.{statement}
@@ -21,7 +22,7 @@ decimal-requires c κs = search needs
 
 returns : tie.Need-returns
 unfolding with
-returns c = simp (c .decimal .ensures, c .before .line-at .ensures, c .before .before .text .ensures, with-append)
+returns c = simp (c .decimal .ensures, ← c .before .line-at .ensures, c .before .before .text .ensures, with-append, with-none)
 
 pub ranked-spec : {M : Type 1} → statement M
 ranked-spec =

@@ -1,5 +1,7 @@
+-- made by tools/answers for set_of_lines of crates/controller_page/src/lib.rt, sum 49696974f9665bff: do not change it by hand, make it anew
+use Rattle.page.specs.PieceLaws.{with-append, with-none}
+use Rattle.page.specs.Pieces.{with}
 use Rattle.controller_page.specs.ControllerPages.{setWords}
-use Rattle.page.specs.PieceLaws.{with-append}
 use borrow.Author.Needs.{needs}
 use Rattle.controller_page.proofs.set_of_lines.Statement.{statement}
 use Rattle.controller_page.proofs.set_of_lines.Tie as tie
@@ -23,8 +25,8 @@ lines-requires : tie.Need-lines-requires
 lines-requires c κs = search needs
 
 returns : tie.Need-returns
-unfolding setWords
-returns c = simp (c .lines .ensures, c .before .text2 .ensures, c .before .before .before .hex .ensures, c .before .before .before .before .text .ensures, c .before .before .before .before .before .empty .ensures, with-append)
+unfolding with setWords
+returns c = simp (c .lines .ensures, c .before .text2 .ensures, c .before .before .before .hex .ensures, c .before .before .before .before .text .ensures, c .before .before .before .before .before .empty .ensures, with-append, with-none)
 
 pub set-of-lines-spec : {M : Type 1} → statement M
 set-of-lines-spec =

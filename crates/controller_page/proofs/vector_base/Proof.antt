@@ -1,5 +1,7 @@
+-- made by tools/answers for vector_base of crates/controller_page/src/lib.rt, sum bf1123d44d5888cd: do not change it by hand, make it anew
+use Rattle.page.specs.PieceLaws.{with-append, with-none}
+use Rattle.page.specs.Pieces.{with}
 use Rattle.controller_page.specs.ControllerPages.{baseWords}
-use Rattle.page.specs.PieceLaws.{with-append}
 use borrow.Author.Needs.{needs}
 use Rattle.controller_page.proofs.vector_base.Statement.{statement}
 use Rattle.controller_page.proofs.vector_base.Tie as tie
@@ -17,8 +19,8 @@ hex-requires : tie.Need-hex-requires
 hex-requires c κs = search needs
 
 returns : tie.Need-returns
-unfolding baseWords
-returns c = simp (c .hex .ensures, c .before .text .ensures, c .before .before .before .empty .ensures, with-append)
+unfolding with baseWords
+returns c = simp (c .hex .ensures, c .before .text .ensures, c .before .before .before .empty .ensures, with-append, with-none)
 
 pub vector-base-spec : {M : Type 1} → statement M
 vector-base-spec =

@@ -1,6 +1,7 @@
-use Rattle.seat_page.specs.SeatPages.{characterWords}
-use Rattle.page.specs.PieceLaws.{with-append, with-none}
+-- made by tools/answers for character of crates/seat_page/src/queues.rt, sum bb3a469138a4f3dd: do not change it by hand, make it anew
 use Rattle.base.specs.PickLaws.{pick-true, pick-false}
+use Rattle.page.specs.PieceLaws.{with-append, with-none}
+use Rattle.seat_page.specs.SeatPages.{characterWords}
 use borrow.Author.Needs.{needs}
 use Rattle.seat_page.proofs.queues.character.Statement.{statement}
 use Rattle.seat_page.proofs.queues.character.Tie as tie

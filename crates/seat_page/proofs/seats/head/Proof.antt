@@ -1,5 +1,7 @@
+-- made by tools/answers for head of crates/seat_page/src/seats.rt, sum 922836e78875542c: do not change it by hand, make it anew
+use Rattle.page.specs.PieceLaws.{with-append, with-none}
+use Rattle.page.specs.Pieces.{with}
 use Rattle.seat_page.specs.SeatPages.{seatHead}
-use Rattle.page.specs.PieceLaws.{with-append}
 use borrow.Author.Needs.{needs}
 use Rattle.seat_page.proofs.seats.head.Statement.{statement}
 use Rattle.seat_page.proofs.seats.head.Tie as tie
@@ -29,8 +31,8 @@ text-requires-3 : tie.Need-text-requires-3
 text-requires-3 c κs = search needs
 
 returns : tie.Need-returns
-unfolding seatHead
-returns c = simp (c .text3 .ensures, c .before .before .decimal .ensures, c .before .before .before .text2 .ensures, c .before .before .before .before .before .text .ensures, c .before .before .before .before .before .before .before .empty .ensures, with-append)
+unfolding with seatHead
+returns c = simp (c .text3 .ensures, c .before .before .decimal .ensures, c .before .before .before .text2 .ensures, c .before .before .before .before .before .text .ensures, c .before .before .before .before .before .before .before .empty .ensures, with-append, with-none)
 
 pub head-spec : {M : Type 1} → statement M
 head-spec =

@@ -1,4 +1,4 @@
--- made by tools/answers for any_arrived of crates/state/src/using.rt, sum c652544ac58cc4f3: do not change it by hand, make it anew
+-- made by tools/answers for any_arrived of crates/seat_page/src/using.rt, sum 38f5df12df4b44c8: do not change it by hand, make it anew
 use Rattle.base.specs.PickLaws.{tests}
 use Rattle.seat_page.specs.Using.{someArrived}
 use Rattle.seat_page.proofs.using.any_arrived.Statement.{statement}

@@ -1,4 +1,4 @@
--- made by tools/answers for any_modem of crates/state/src/using.rt, sum dc2811007a9650e1: do not change it by hand, make it anew
+-- made by tools/answers for any_modem of crates/seat_page/src/using.rt, sum 11755631ce66b107: do not change it by hand, make it anew
 use Rattle.base.specs.PickLaws.{tests}
 use Rattle.seat_page.specs.Using.{someModem}
 use Rattle.seat_page.proofs.using.any_modem.Statement.{statement}

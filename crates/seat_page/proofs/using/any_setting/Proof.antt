@@ -1,4 +1,4 @@
--- made by tools/answers for any_setting of crates/state/src/using.rt, sum 9dfd752cb224d648: do not change it by hand, make it anew
+-- made by tools/answers for any_setting of crates/seat_page/src/using.rt, sum a683210dbdd411ea: do not change it by hand, make it anew
 use Rattle.base.specs.PickLaws.{tests}
 use Rattle.seat_page.specs.Using.{someSetting}
 use Rattle.seat_page.proofs.using.any_setting.Statement.{statement}

@@ -1,4 +1,4 @@
--- made by tools/answers for any_to_send of crates/state/src/using.rt, sum bfded2e8af4ff3e1: do not change it by hand, make it anew
+-- made by tools/answers for any_to_send of crates/seat_page/src/using.rt, sum 24018612fc8de6fc: do not change it by hand, make it anew
 use Rattle.seat_page.specs.Using.{someToSend}
 use borrow.Author.Needs.{needs}
 use Rattle.seat_page.proofs.using.any_to_send.Statement.{statement}

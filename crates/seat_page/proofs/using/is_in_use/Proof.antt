@@ -1,4 +1,4 @@
--- made by tools/answers for is_in_use of crates/state/src/using.rt, sum c42d0543c50e1aaa: do not change it by hand, make it anew
+-- made by tools/answers for is_in_use of crates/seat_page/src/using.rt, sum 29b821b6374f0260: do not change it by hand, make it anew
 use Rattle.seat_page.specs.Using.{inUse}
 use borrow.Author.Needs.{needs}
 use Rattle.seat_page.proofs.using.is_in_use.Statement.{statement}
