@@ -15,7 +15,7 @@ use Rattle.controller.specs.declared.Setup.{Setup}
 use Rattle.controller.specs.State.{ready}
 use Rattle.controller.specs.Turns.{requests, outputOf}
 
--- "A head is 12 blanks, the name and `: `, as in `controller: `"
+-- "A head is 12 blanks, the name and `: `, as in `seat 2: ` and `controller: `."
 unfoldable pub controllerHead : List ℕ
 controllerHead = replicate 12 space ++ quoted "controller: "
 

@@ -3,5 +3,6 @@ pub mod Exemplified
 pub mod Short
 pub mod Few
 pub mod Idling
+pub mod Reading
 pub mod Slips
 pub mod Statements

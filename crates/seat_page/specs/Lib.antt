@@ -1,6 +1,7 @@
 pub mod Using
 pub mod SeatPages
 pub mod HeadLaws
+pub mod AsRead
 pub mod Uncut
 pub mod Idle
 pub mod Examples

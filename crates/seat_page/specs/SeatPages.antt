@@ -23,7 +23,7 @@ use Rattle.seat.specs.declared.Five.{Five}
 use Rattle.seat.specs.declared.Seat.{Seat}
 use Rattle.seat.specs.Seats.{five}
 
--- "A head is 12 blanks, the name and `: `, as in `seat 2: `"
+-- "A head is 12 blanks, the name and `: `, as in `seat 2: ` and `controller: `."
 unfoldable pub seatHead : ℕ → List ℕ
 seatHead n = replicate 12 space ++ (quoted "seat " ++ (decimal n ++ quoted ": "))
 
