@@ -5,3 +5,4 @@ pub mod FitLaws
 pub mod WordLaws
 pub mod Examples
 pub mod Statements
+pub mod LengthLaws

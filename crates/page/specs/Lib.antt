@@ -11,3 +11,5 @@ pub mod ColumnLaws
 pub mod FitLaws
 pub mod Examples
 pub mod Statements
+pub mod Uncut
+pub mod UncutLaws
