@@ -1,0 +1,4 @@
+pub mod Sights
+pub mod Variables
+pub mod Dump
+pub mod InUse
