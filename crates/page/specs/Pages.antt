@@ -1,13 +1,14 @@
 -- A page: lines of at most 80 columns, filled with pieces.
 use Prim.Native.Nat.{ℕ, _+_, _-_}
 use mathlib.Core.Bool.{Bool, true, false}
-use mathlib.Core.List.{List, [], _∷_, _++_}
+use mathlib.Core.List.{List, [], _∷_}
 use lib.Dec.{ltb, leb, eqb}
 use lib.ListN.{length, take, set, replicate}
 use Rattle.base.specs.Pick.{pick}
 use Rattle.text.specs.Line.{space, newline}
 use Rattle.text.specs.Quoted.{quoted}
 use Rattle.page.specs.Pieces.{pieceMost}
+use Rattle.page.specs.Through.{through}
 use Rattle.page.specs.declared.Page.{Page}
 
 -- "A page has at most 4096 bytes with the last line feed"
@@ -34,8 +35,7 @@ putByte p c =
 
 -- with these bytes behind it
 unfoldable pub put : Page → List ℕ → Page
-put p [] = p
-put p (c ∷ rest) = put (putByte p c) rest
+put p words = through putByte p words
 
 -- what stands on it
 unfoldable pub shown : Page → List ℕ

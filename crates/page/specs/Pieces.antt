@@ -1,12 +1,12 @@
 -- A piece: words that are said in one go, and no line is broken within them.
-use Prim.Native.Nat.{ℕ, _+_, _-_, _/_, _%_}
-use mathlib.Core.Bool.{Bool, _||_}
+use Prim.Native.Nat.{ℕ, _+_, _/_, _%_}
 use mathlib.Core.List.{List, [], _∷_, _++_}
 use lib.Dec.{ltb}
-use lib.ListN.{length, take, set, replicate}
+use lib.ListN.{take, set, replicate}
 use Rattle.base.specs.Pick.{pick}
-use Rattle.text.specs.Line.{space, capital}
+use Rattle.text.specs.Line.{capital}
 use Rattle.text.specs.Quoted.{quoted}
+use Rattle.page.specs.Through.{through}
 use Rattle.page.specs.declared.Piece.{Piece}
 
 -- "A piece has at most 68 characters"
@@ -22,8 +22,7 @@ withByte p c = pick (ltb (p .count) pieceMost) (record { bytes = set (p .bytes) 
 
 -- with these bytes behind it
 unfoldable pub with : Piece → List ℕ → Piece
-with p [] = p
-with p (c ∷ rest) = with (withByte p c) rest
+with p words = through withByte p words
 
 -- the piece of these words
 abbrev pub piece : List ℕ → Piece

@@ -2,14 +2,14 @@
 use crate::Page;
 use crate::Piece;
 ghost use mathlib.Core.Path.{_≡_};
-ghost use Prim.Native.Nat.{_+_, _≤_};
+ghost use Prim.Native.Nat.{_+_, _≤_, min};
 ghost use lib.Dec.{leb};
 ghost use lib.ListN.{length};
 ghost use Rattle.page.specs.Pieces.{said};
 ghost use Rattle.page.specs.Pages.{noPage, columnAfter, putByte, put, headed, width, indent, separation, placed, joined, ended};
 
 fn up_to(most: usize, n: usize) -> usize
-    ensures { λ r. ⌜ r ≤ most ⌝ }
+    ensures { λ r. ⌜ (r ≡ min n most) × (r ≤ most) ⌝ }
 {
     if most < n {
         return most;
@@ -82,10 +82,19 @@ impl Page {
         page
     }
 
+    fn between(self) -> usize
+        ensures { λ r. ⌜ (r ≡ length (separation self)) × (r ≤ 2) ⌝ }
+    {
+        if self.first {
+            return 0;
+        }
+        2
+    }
+
     fn fits(self, words: usize) -> bool
         ensures { λ r. ⌜ r ≡ leb (self .column + length (separation self) + words) width ⌝ }
     {
-        let between = base::pick_byte(self.first, 0, 2) as usize;
+        let between = self.between();
         if Page::WIDTH < self.column {
             return false;
         }

@@ -1,18 +1,19 @@
--- made by tools/answers for Page::is_passed of crates/page/src/notes.rt, sum 5c2a90dd8aee3732: do not change it by hand, make it anew
-use Rattle.base.specs.PickLaws.{pick-true, pick-false}
-use borrow.Author.Tests.{le-leb, le-ltb, lt-leb, lt-ltb}
-use Rattle.page.specs.Notes.{passed}
+use Prim.Native.Nat.{ℕ, _+_, _≤_, _<_}
+use mathlib.Core.Path.{_≡_, refl, sym, ap, _∙_}
+use native.Mathlib.Omega.{arith}
+use borrow.Author.Tests.{lt-ltb}
 use borrow.Author.Needs.{needs}
+use Rattle.page.specs.Notes.{passed}
 use Rattle.page.proofs.Page.is_passed.Statement.{statement}
 use Rattle.page.proofs.Page.is_passed.Tie as tie
 
 returns : tie.Need-returns
 unfolding passed
-returns c = simp (le-ltb _ _ (c .if1 .taken), le-leb _ _ (c .if1 .taken), pick-true, pick-false)
+returns c = let a = c .before .before .args in sym (lt-ltb 80 (a .self .column + 1 + a .behind) (omega arith))
 
 returns-2 : tie.Need-returns-2
 unfolding passed
-returns-2 c = simp (lt-ltb _ _ (c .if2 .taken), lt-leb _ _ (c .if2 .taken), lt-ltb _ _ (c .before .if1 .left), lt-leb _ _ (c .before .if1 .left), pick-true, pick-false)
+returns-2 c = let a = c .before .before .before .args in sym (lt-ltb 80 (a .self .column + 1 + a .behind) (omega arith))
 
 add-result : tie.Need-add-result
 add-result c = search needs
@@ -22,7 +23,7 @@ add-result-2 c = search needs
 
 returns-3 : tie.Need-returns-3
 unfolding passed
-returns-3 c = simp (le-ltb _ _ (c .before .if2 .left), le-leb _ _ (c .before .if2 .left), lt-ltb _ _ (c .before .before .if1 .left), lt-leb _ _ (c .before .before .if1 .left), pick-true, pick-false)
+returns-3 c = refl
 
 pub is-passed-spec : {M : Type 1} → statement M
 is-passed-spec = tie.close (tie.spec returns returns-2 add-result add-result-2 returns-3)

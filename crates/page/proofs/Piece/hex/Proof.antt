@@ -1,5 +1,4 @@
--- made by tools/answers for Piece::hex of crates/page/src/pieces.rt, sum 795af3fefc6db60b: do not change it by hand, make it anew
-use Rattle.page.specs.Pieces.{with}
+use Rattle.page.specs.Pieces.{with, hex}
 use borrow.Author.Needs.{needs}
 use Rattle.page.proofs.Piece.hex.Statement.{statement}
 use Rattle.page.proofs.Piece.hex.Tie as tie
@@ -17,7 +16,7 @@ byte-requires-2 : tie.Need-byte-requires-2
 byte-requires-2 c κs = search needs
 
 returns : tie.Need-returns
-unfolding with
+unfolding with hex
 returns c = simp (← c .byte2 .ensures, ← c .before .capital2 .ensures, ← c .before .before .byte .ensures, ← c .before .before .before .capital .ensures)
 
 pub hex-spec : {M : Type 1} → statement M
