@@ -7,7 +7,7 @@ ghost use Rattle.page.specs.Pieces.{piece, with};
 ghost use Rattle.timeline.specs.Variables.{numbered};
 ghost use Rattle.timeline.specs.Dump.{binary, valueWords, change};
 
-fn digit(b: bool) -> u8
+fn as_digit(b: bool) -> u8
     ensures { λ r. ⌜ r ≡ digit b ⌝ }
 {
     base::pick_byte(b, 1, 0)
@@ -21,7 +21,7 @@ fn binary(front: Piece, width: u8, value: u8) -> Piece
     let mut k = width;
     while 0 < k {
         k = k - 1;
-        said = said.decimal(digit(base::bit(k, value)) as u64);
+        said = said.decimal(as_digit(base::bit(k, value)) as u64);
     }
     said
 }
@@ -50,8 +50,8 @@ pub(crate) fn of_number(front: Piece, all: bool, width: u8, was: u8, is: u8, let
 pub(crate) fn of_set(front: Piece, all: bool, was: u8, is: u8, letter: &[u8], n: u8) -> Piece
     ensures { λ r. ⌜ r ≡ with front (change all 1 (digit (bit n was)) (digit (bit n is)) (numbered (now (letter .entry)) n)) ⌝ }
 {
-    let before = digit(base::bit(n, was));
-    let after = digit(base::bit(n, is));
+    let before = as_digit(base::bit(n, was));
+    let after = as_digit(base::bit(n, is));
     of_number(front, all, 1, before, after, letter, n)
 }
 
@@ -59,10 +59,10 @@ pub(crate) fn of_output(all: bool, was: bool, is: bool) -> Piece
     ensures { λ r. ⌜ r ≡ piece (change all 1 (digit was) (digit is) (quoted "o")) ⌝ }
 {
     let none = Piece::empty();
-    let before = digit(was);
-    let after = digit(is);
+    let before = as_digit(was);
+    let after = as_digit(is);
     if all | !(before == after) {
-        return shown(none, 1, after).text(b"o").text(b"\n");
+        return shown(none, 1, after).text(b"o\n");
     }
     none
 }

@@ -1,0 +1,4 @@
+pub mod Behind
+pub mod Scopes
+pub mod Bits
+pub mod Lengths
