@@ -34,7 +34,7 @@ value-length w x =
     let bits = binary-length w x in
     pick-either (λ (l : List ℕ). length l ≤ w + 2) (eqb w 1) _ _ (omega arith) (rw (length-append (binary w x)) (omega arith))
 
-change-length : (all : Bool) (w was is : ℕ) (name : List ℕ) → length (change all w was is name) ≤ w + length name + 3
+pub change-length : (all : Bool) (w was is : ℕ) (name : List ℕ) → length (change all w was is name) ≤ w + length name + 3
 unfolding change valueLine
 change-length all w was is name =
     let long : length (valueWords w is ++ (name ++ lineFeed)) ≤ w + length name + 3 =

@@ -1,12 +1,14 @@
 -- The variables of a scope, where it is known whose it is; and one scope more.
-use Prim.Native.Nat.{ℕ, suc, _+_}
+use Prim.Native.Nat.{ℕ, _+_}
 use mathlib.Core.Bool.{Bool, true, false}
-use mathlib.Core.List.{List, [], _++_}
-use mathlib.Core.Path.{_≡_, sym, ap, _∙_}
+use mathlib.Core.List.{List, [], _∷_, _++_, append-assoc}
+use mathlib.Core.Path.{_≡_, refl, sym, _∙_}
 use native.Mathlib.Numerals.{add-one}
 use Rattle.base.specs.Bits.{bit}
 use Rattle.base.specs.PickLaws.{pick-true, pick-false}
 use Rattle.timeline.specs.Variables.{Variable, each, ofSeat, seatVariables}
+use Rattle.timeline.specs.Dump.{told}
+use Rattle.timeline.specs.declared.Sight.{Sight}
 
 module _ (used n : ℕ) {test : Bool} (tested : test ≡ bit n used) where
   pub in-use : test ≡ true → seatVariables used n ≡ ofSeat n
@@ -20,3 +22,8 @@ module _ (used n : ℕ) {test : Bool} (tested : test ≡ bit n used) where
 pub each-next : {A : Type 0} (k : ℕ) (f : ℕ → List A) → each (k + 1) f ≡ each k f ++ f k
 unfolding each
 each-next k f = rw (add-one k)
+
+pub told-append : (all : Bool) (before now : Sight) (vs ws : List Variable) → told all before now (vs ++ ws) ≡ told all before now vs ++ told all before now ws
+unfolding told
+told-append all before now [] ws = refl
+told-append all before now (v ∷ vs) ws = rw (told-append all before now vs ws, append-assoc)

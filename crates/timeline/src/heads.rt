@@ -1,10 +1,12 @@
 // The head of a timeline: which variables there are, each line and each seat in use in a scope of its own.
+use crate::LINES;
+use crate::SCOPES;
 use page::Page;
 use page::Piece;
 ghost use mathlib.Core.Path.{_≡_};
 ghost use Rattle.text.specs.Line.{decimal};
 ghost use Rattle.page.specs.Pages.{noPage, put};
-ghost use Rattle.timeline.specs.Variables.{numbered};
+ghost use Rattle.timeline.specs.Variables.{each, numbered, scopeCount};
 ghost use Rattle.timeline.specs.Dump.{declaration, scope, lineHead, seatHead, scopeHead, headWords};
 
 fn number(page: Page, n: u8) -> Page
@@ -53,22 +55,31 @@ fn seat_head(page: Page, used: u8, n: u8) -> Page
 fn scope_head(page: Page, used: u8, k: u8) -> Page
     ensures { λ r. ⌜ r ≡ put page (scopeHead used k) ⌝ }
 {
-    if k < 8 {
+    if k < LINES {
         return line_head(page, k);
     }
-    seat_head(page, used, k - 8)
+    seat_head(page, used, k - LINES)
 }
 
+fn scope_heads(page: Page, used: u8) -> Page
+    ensures { λ r. ⌜ r ≡ put page (each scopeCount (scopeHead used)) ⌝ }
+{
+    let mut heads = page;
+    let mut k: u8 = 0;
+    while k < SCOPES {
+        heads = scope_head(heads, used, k);
+        k = k + 1;
+    }
+    heads
+}
+
+// The seats in use are a set: seat n is its bit n.
 pub fn head(used: u8) -> Page
     ensures { λ r. ⌜ r ≡ put noPage (headWords used) ⌝ }
 {
     let version = Page::empty().text(b"$version hailstoat $end\n");
     let begun = version.text(b"$timescale 1 us $end\n$scope module bench $end\n");
-    let mut head = begun.text(b"$var wire 1 o output $end\n");
-    let mut k: u8 = 0;
-    while k < 16 {
-        head = scope_head(head, used, k);
-        k = k + 1;
-    }
-    head.text(b"$upscope $end\n$enddefinitions $end\n")
+    let output = begun.text(b"$var wire 1 o output $end\n");
+    let scopes = scope_heads(output, used);
+    scopes.text(b"$upscope $end\n$enddefinitions $end\n")
 }

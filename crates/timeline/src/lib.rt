@@ -1,6 +1,4 @@
 // The timeline of a lesson, for a wave viewer: a value change dump. The bench behind each record is seen, and what has changed is told.
-use page::Page;
-
 mod heads;
 mod sights;
 mod steps;
@@ -11,6 +9,11 @@ pub use sights::named;
 pub use steps::first;
 pub use steps::last;
 pub use steps::step;
+
+pub(crate) const LINES: u8 = rank::LINES;
+
+// A scope for each line and for each seat.
+pub(crate) const SCOPES: u8 = 16;
 
 // What is seen of a seat.
 pub struct Look {

@@ -1,4 +1,6 @@
 // The steps of a timeline: the time, and the lines of what has changed since the step before.
+use crate::LINES;
+use crate::SCOPES;
 use crate::Sight;
 use crate::values;
 use page::Page;
@@ -6,7 +8,7 @@ use page::Piece;
 ghost use mathlib.Core.Path.{_≡_};
 ghost use Rattle.page.specs.Pieces.{piece};
 ghost use Rattle.page.specs.Pages.{noPage, put};
-ghost use Rattle.timeline.specs.Variables.{lineVariables, seatVariables, scopeVariables, variables};
+ghost use Rattle.timeline.specs.Variables.{each, scopeCount, lineVariables, seatVariables, scopeVariables, variables};
 ghost use Rattle.timeline.specs.Dump.{told, time, firstWords, stepWords};
 
 fn line(all: bool, n: u8, before: Sight, now: Sight) -> Piece
@@ -35,22 +37,29 @@ fn seat(all: bool, used: u8, n: u8, before: Sight, now: Sight) -> Piece
 fn scope(all: bool, used: u8, k: u8, before: Sight, now: Sight) -> Piece
     ensures { λ r. ⌜ r ≡ piece (told all before now (scopeVariables used k)) ⌝ }
 {
-    if k < 8 {
+    if k < LINES {
         return line(all, k, before, now);
     }
-    seat(all, used, k - 8, before, now)
+    seat(all, used, k - LINES, before, now)
+}
+
+fn scopes(page: Page, all: bool, used: u8, before: Sight, now: Sight) -> Page
+    ensures { λ r. ⌜ r ≡ put page (told all before now (each scopeCount (scopeVariables used))) ⌝ }
+{
+    let mut told = page;
+    let mut k: u8 = 0;
+    while k < SCOPES {
+        told = told.add(scope(all, used, k, before, now));
+        k = k + 1;
+    }
+    told
 }
 
 fn tell(page: Page, all: bool, used: u8, before: Sight, now: Sight) -> Page
     ensures { λ r. ⌜ r ≡ put page (told all before now (variables used)) ⌝ }
 {
-    let mut told = page.add(values::of_output(all, before.output, now.output));
-    let mut k: u8 = 0;
-    while k < 16 {
-        told = told.add(scope(all, used, k, before, now));
-        k = k + 1;
-    }
-    told
+    let output = values::of_output(all, before.output, now.output);
+    scopes(page.add(output), all, used, before, now)
 }
 
 fn at(n: u64) -> Page

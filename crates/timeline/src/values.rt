@@ -36,7 +36,15 @@ fn shown(front: Piece, width: u8, value: u8) -> Piece
 }
 
 // A variable that has a number behind its letter.
-pub(crate) fn of_number(front: Piece, all: bool, width: u8, was: u8, is: u8, letter: &[u8], n: u8) -> Piece
+pub(crate) fn of_number(
+    front: Piece,
+    all: bool,
+    width: u8,
+    was: u8,
+    is: u8,
+    letter: &[u8],
+    n: u8,
+) -> Piece
     ensures { λ r. ⌜ r ≡ with front (change all width was is (numbered (now (letter .entry)) n)) ⌝ }
 {
     if all | !(was == is) {

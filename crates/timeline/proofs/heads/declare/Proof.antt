@@ -44,7 +44,7 @@ text-requires-6 c κs = search needs
 
 returns : tie.Need-returns
 unfolding declaration
-returns c = 
+returns c =
     in-one put put-append (c .before .before .before .before .before .before .before .before .before .before .text .ensures) (in-one put put-append (c .before .before .before .before .before .before .before .before .before .number .ensures) (in-one put put-append (c .before .before .before .before .before .before .before .text2 .ensures) (in-one put put-append (in-one put put-append (c .before .before .before .before .before .before .text3 .ensures) (c .before .before .before .before .before .number2 .ensures)) (in-one put put-append (c .before .before .before .text4 .ensures) (in-one put put-append (c .before .before .text5 .ensures) (c .text6 .ensures))))))
 
 pub declare-spec : {M : Type 1} → statement M

@@ -58,7 +58,7 @@ text-requires c κs = search needs
 
 returns : tie.Need-returns
 unfolding lineHead scoped lineVariables declarations
-returns c = 
+returns c =
     in-one put put-append (c .before .before .before .before .before .before .before .before .before .before .before .before .before .before .«open» .ensures) (in-one put put-append (in-one put put-append (c .before .before .before .before .before .before .before .before .before .before .before .declare .ensures) (in-one put put-append (c .before .before .before .before .before .before .before .before .declare2 .ensures) (in-one put put-append (c .before .before .before .before .before .declare3 .ensures) (in-one put put-append (c .before .before .declare4 .ensures) (sym (put-none _)))))) (c .text .ensures))
 
 pub line-head-spec : {M : Type 1} → statement M

@@ -20,7 +20,7 @@ add-requires : tie.Need-add-requires
 add-requires c κs = search needs
 
 returns : tie.Need-returns
-returns c = 
+returns c =
     let n : ℕ = c .before .before .before .args .n in
     c .add .ensures
     ∙ put-said _ (decimal n) (c .before .decimal .ensures ∙ ap (λ (p : Piece). with p (decimal n)) (c .before .before .empty .ensures))

@@ -47,7 +47,7 @@ text-requires c κs = search needs
 
 returns : tie.Need-returns
 unfolding seatHead scoped declarations
-returns c = 
+returns c =
     let a = c .before .before .before .before .before .before .before .before .before .before .before .before .args in
     let known = in-use (a .used) (a .n) (c .before .before .before .before .before .before .before .before .before .before .before .bit .ensures)
     (c .before .before .before .before .before .before .before .before .before .before .if1 .taken) in
@@ -56,7 +56,7 @@ returns c =
 
 returns-2 : tie.Need-returns-2
 unfolding seatHead scoped
-returns-2 c = 
+returns-2 c =
     let a = c .before .before .args in
     sym (put-none (a .page))
     ∙ ap (λ (vs : List Variable). put (a .page) (scoped (quoted "seat") (a .n) vs)) (sym (not-in-use (a .used) (a .n) (c .before .bit .ensures) (c .if1 .left)))

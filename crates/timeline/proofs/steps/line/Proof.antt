@@ -37,7 +37,7 @@ of-set-requires-4 c κs = search needs
 
 returns : tie.Need-returns
 unfolding told lineVariables
-returns c = 
+returns c =
     from-start with with-append (c .before .before .before .before .before .before .before .before .empty .ensures)
     (in-one with with-append (c .before .before .before .before .before .before .of-set .ensures) (in-one with with-append (c .before .before .before .before .of-set2 .ensures) (in-one with with-append (c .before .before .of-set3 .ensures) (in-one with with-append (c .of-set4 .ensures) (sym (with-none _))))))
 

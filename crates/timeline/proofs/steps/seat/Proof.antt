@@ -37,7 +37,7 @@ of-number-requires-2 c κs = search needs
 
 returns : tie.Need-returns
 unfolding told
-returns c = 
+returns c =
     let a = c .before .before .before .before .before .before .before .before .before .args in
     let was = c .before .before .before .before .before .look-at .ensures in
     let is = c .before .before .before .before .look-at2 .ensures in
@@ -50,7 +50,7 @@ returns c =
 
 returns-2 : tie.Need-returns-2
 unfolding told
-returns-2 c = 
+returns-2 c =
     let a = c .before .before .before .args in
     c .before .before .empty .ensures
     ∙ sym (with-none noPiece)

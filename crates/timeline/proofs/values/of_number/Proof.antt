@@ -25,7 +25,7 @@ text-requires-2 c κs = search needs
 
 returns : tie.Need-returns
 unfolding change valueLine
-returns c = 
+returns c =
     simp (c .before .before .before .before .before .if1 .taken, pick-true)
     (in-one with with-append (c .before .before .before .before .shown .ensures) (in-one with with-append (in-one with with-append (c .before .before .before .text .ensures) (c .before .before .decimal .ensures)) (c .text2 .ensures)))
 

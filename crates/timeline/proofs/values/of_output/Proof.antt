@@ -1,4 +1,8 @@
--- made by tools/answers for of_output of crates/timeline/src/values.rt, sum d59149c5a215d2e1: do not change it by hand, make it anew
+use mathlib.Core.Path.{sym, _∙_}
+use Rattle.page.specs.Pieces.{with}
+use Rattle.page.specs.PieceLaws.{with-append, with-none}
+use Rattle.timeline.specs.Dump.{valueLine, change}
+use Rattle.timeline.proofs.Behind.{in-one, from-start}
 use Rattle.base.specs.PickLaws.{pick-true, pick-false}
 use borrow.Author.Needs.{needs}
 use Rattle.timeline.proofs.values.of_output.Statement.{statement}
@@ -23,10 +27,17 @@ text-requires : tie.Need-text-requires
 text-requires c κs = search needs
 
 returns : tie.Need-returns
-returns c = simp (← c .text .ensures, ← c .before .before .shown .ensures, ← c .before .before .before .before .as-digit2 .ensures, ← c .before .before .before .before .before .as-digit .ensures, ← c .before .before .before .before .before .before .empty .ensures, c .before .before .before .if1 .taken, pick-true)
+unfolding change valueLine
+returns c =
+    simp (← c .before .before .before .before .as-digit2 .ensures, ← c .before .before .before .before .before .as-digit .ensures, c .before .before .before .if1 .taken, pick-true)
+    (from-start with with-append (c .before .before .before .before .before .before .empty .ensures)
+    (in-one with with-append (c .before .before .shown .ensures) (c .text .ensures)))
 
 returns-2 : tie.Need-returns-2
-returns-2 c = simp (← c .before .as-digit2 .ensures, ← c .before .before .as-digit .ensures, ← c .before .before .before .empty .ensures, c .if1 .left, pick-false)
+unfolding change
+returns-2 c =
+    simp (← c .before .as-digit2 .ensures, ← c .before .before .as-digit .ensures, c .if1 .left, pick-false)
+    (c .before .before .before .empty .ensures ∙ sym (with-none _))
 
 pub of-output-spec : {M : Type 1} → statement M
 of-output-spec =

@@ -32,7 +32,7 @@ text-requires-2 c κs = search needs
 
 returns-2 : tie.Need-returns-2
 unfolding valueWords
-returns-2 c = 
+returns-2 c =
     simp (ne-eqb _ _ (c .before .before .before .before .before .if1 .left), pick-false)
     (in-one with with-append (c .before .before .before .text .ensures) (in-one with with-append (c .before .before .binary2 .ensures) (c .text2 .ensures)))
 
