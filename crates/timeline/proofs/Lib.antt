@@ -5,3 +5,5 @@ pub mod Lengths
 pub mod Reading
 pub mod Names
 pub mod Watching
+pub mod Pages
+pub mod Exemplified

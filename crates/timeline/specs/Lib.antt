@@ -4,3 +4,6 @@ pub mod Dump
 pub mod InUse
 pub mod Meaning
 pub mod Told
+pub mod Seen
+pub mod Examples
+pub mod Statements
