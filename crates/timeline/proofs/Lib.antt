@@ -7,3 +7,6 @@ pub mod Names
 pub mod Watching
 pub mod Pages
 pub mod Exemplified
+pub mod Seeing
+pub mod Statements
+pub mod Slips
