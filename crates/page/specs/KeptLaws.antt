@@ -23,7 +23,7 @@ module _ {A : Type 0} (after : A → ℕ → A) (bytes : A → List ℕ) (count 
   abbrev kept : A → List ℕ
   kept a = take (count a) (bytes a)
 
-  full-through : (a : A) (l : List ℕ) → most ≤ count a → through after a l ≡ a
+  pub full-through : (a : A) (l : List ℕ) → most ≤ count a → through after a l ≡ a
   full-through a [] h = refl
   full-through a (c ∷ l) h = rw (keeps .full a c h) (full-through a l h)
 

@@ -2,7 +2,12 @@ pub mod Through
 pub mod Pieces
 pub mod Pages
 pub mod Notes
+pub mod Columns
 pub mod ThroughLaws
 pub mod KeptLaws
 pub mod PieceLaws
 pub mod PageLaws
+pub mod ColumnLaws
+pub mod FitLaws
+pub mod Examples
+pub mod Statements

@@ -9,7 +9,7 @@ use lib.Seq.{take-all}
 use borrow.Author.Tests.{lt-ltb, le-ltb}
 use Rattle.base.specs.PickLaws.{pick-true, pick-false}
 use Rattle.page.specs.ThroughLaws.{through-append}
-use Rattle.page.specs.KeptLaws.{Keeps, kept-through}
+use Rattle.page.specs.KeptLaws.{Keeps, full-through, kept-through}
 use Rattle.page.specs.Pieces.{pieceMost, piece, said}
 use Rattle.page.specs.PieceLaws.{said-piece}
 use Rattle.page.specs.Pages.{pageMost, noPage, columnAfter, putByte, put, shown, placed, joined}
@@ -23,13 +23,13 @@ pub put-none : (p : Page) → put p [] ≡ p
 unfolding put
 put-none p = refl
 
-put-more : (p : Page) (c : ℕ) → p .count < pageMost
+pub put-more : (p : Page) (c : ℕ) → p .count < pageMost
     → putByte p c
     ≡ record { bytes = set (p .bytes) (p .count) c; count = p .count + 1; column = columnAfter (p .column) c; first = false }
 unfolding putByte
 put-more p c room = pick-true _ _ _ (lt-ltb (p .count) pageMost room)
 
-put-full : (p : Page) (c : ℕ) → pageMost ≤ p .count → putByte p c ≡ p
+pub put-full : (p : Page) (c : ℕ) → pageMost ≤ p .count → putByte p c ≡ p
 unfolding putByte
 put-full p c full = pick-false _ _ _ (le-ltb (p .count) pageMost full)
 
@@ -39,6 +39,11 @@ page-keeps = record {
   count-more = λ p c room. ap (λ (q : Page). q .count) (put-more p c room);
   full = put-full;
 }
+
+-- on a full page nothing is put
+pub put-full-all : (p : Page) (words : List ℕ) → pageMost ≤ p .count → put p words ≡ p
+unfolding put
+put-full-all p words full = full-through putByte (λ (q : Page). q .bytes) (λ (q : Page). q .count) pageMost page-keeps p words full
 
 -- behind what stands on a page stands what was put, as far as there is room
 pub shown-put : (p : Page) (words : List ℕ) → length (p .bytes) ≡ pageMost → p .count ≤ pageMost

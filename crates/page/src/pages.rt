@@ -6,7 +6,7 @@ ghost use Prim.Native.Nat.{_+_, _≤_, min};
 ghost use lib.Dec.{leb};
 ghost use lib.ListN.{length};
 ghost use Rattle.page.specs.Pieces.{said};
-ghost use Rattle.page.specs.Pages.{noPage, columnAfter, putByte, put, headed, width, indent, separation, placed, joined, ended};
+ghost use Rattle.page.specs.Pages.{noPage, columnAfter, putByte, put, shown, headed, width, indent, separation, placed, joined, ended};
 
 fn up_to(most: usize, n: usize) -> usize
     ensures { λ r. ⌜ (r ≡ min n most) × (r ≤ most) ⌝ }
@@ -138,6 +138,13 @@ impl Page {
         let bytes = piece.bytes;
         let count = up_to(Piece::MOST, piece.count);
         self.place(&bytes[..count])
+    }
+
+    // How many bytes stand on it.
+    pub fn length(self) -> usize
+        ensures { λ r. ⌜ (r ≡ length (shown self)) × (r ≤ 4096) ⌝ }
+    {
+        up_to(Page::MOST, self.count)
     }
 
     // The line feed at the end; where there is no room for it, it takes the last place.
