@@ -7,7 +7,7 @@ use native.Mathlib.Numerals.{add-one}
 use Rattle.base.specs.Bits.{bit}
 use Rattle.base.specs.PickLaws.{pick-true, pick-false}
 use Rattle.timeline.specs.Variables.{Variable, each, ofSeat, seatVariables}
-use Rattle.timeline.specs.Dump.{told}
+use Rattle.timeline.specs.Dump.{declarations, told}
 use Rattle.timeline.specs.declared.Sight.{Sight}
 
 module _ (used n : ℕ) {test : Bool} (tested : test ≡ bit n used) where
@@ -23,7 +23,13 @@ pub each-next : {A : Type 0} (k : ℕ) (f : ℕ → List A) → each (k + 1) f �
 unfolding each
 each-next k f = rw (add-one k)
 
-pub told-append : (all : Bool) (before now : Sight) (vs ws : List Variable) → told all before now (vs ++ ws) ≡ told all before now vs ++ told all before now ws
+pub told-append : (all : Bool) (before now : Sight) (vs ws : List Variable)
+    → told all before now (vs ++ ws) ≡ told all before now vs ++ told all before now ws
 unfolding told
 told-append all before now [] ws = refl
 told-append all before now (v ∷ vs) ws = rw (told-append all before now vs ws, append-assoc)
+
+pub declared-append : (vs ws : List Variable) → declarations (vs ++ ws) ≡ declarations vs ++ declarations ws
+unfolding declarations
+declared-append [] ws = refl
+declared-append (v ∷ vs) ws = rw (declared-append vs ws, append-assoc)

@@ -1,13 +1,13 @@
 -- A value change dump: its head, and what stands behind each step. "A line feed ends each line."
-use Prim.Native.Nat.{ℕ, zero, suc, _-_}
+use Prim.Native.Nat.{ℕ}
 use mathlib.Core.Bool.{Bool, true, false, not, _||_}
 use mathlib.Core.List.{List, [], _∷_, _++_}
-use lib.Dec.{ltb, eqb}
+use lib.Dec.{eqb}
 use Rattle.base.specs.Pick.{pick}
 use Rattle.base.specs.Bits.{bit, digit}
 use Rattle.text.specs.Line.{newline, decimal}
 use Rattle.text.specs.Quoted.{quoted}
-use Rattle.timeline.specs.Variables.{Variable, each, outputVariable, lineVariables, seatVariables, scopeCount, variables}
+use Rattle.timeline.specs.Variables.{Variable, each, downFrom, numbered, bitName, bitWord, outputVariable, lineVariables, ofSeat, variables}
 use Rattle.timeline.specs.declared.Sight.{Sight}
 
 abbrev pub lineFeed : List ℕ
@@ -15,71 +15,70 @@ lineFeed = newline ∷ []
 
 -- ---- the head
 
--- "$var wire 8 L2 lsr $end"
-unfoldable pub declaration : ℕ → List ℕ → List ℕ → List ℕ
-declaration width name word =
-    quoted "$var wire " ++ (decimal width ++ (quoted " " ++ (name ++ (quoted " " ++ (word ++ (quoted " $end" ++ lineFeed))))))
+-- "$var wire 1 L27 lsr2[7] $end"
+unfoldable pub declaration : List ℕ → List ℕ → List ℕ
+declaration name word = quoted "$var wire 1 " ++ (name ++ (quoted " " ++ (word ++ (quoted " $end" ++ lineFeed))))
 
 unfoldable pub declarations : List Variable → List ℕ
 declarations [] = []
-declarations (v ∷ vs) = declaration (v .width) (v .name) (v .word) ++ declarations vs
+declarations (v ∷ vs) = declaration (v .name) (v .word) ++ declarations vs
+
+-- those of a number of seat n
+unfoldable pub bitDeclarations : List ℕ → List ℕ → ℕ → ℕ → List ℕ
+bitDeclarations letter word n width = downFrom width (λ k. declaration (bitName letter n k) (bitWord word n k))
 
 -- "$scope module seat2 $end"
 unfoldable pub scope : List ℕ → ℕ → List ℕ
-scope word n = quoted "$scope module " ++ (word ++ (decimal n ++ (quoted " $end" ++ lineFeed)))
+scope word n = quoted "$scope module " ++ (numbered word n ++ (quoted " $end" ++ lineFeed))
 
 -- "$upscope $end"
 abbrev pub upscope : List ℕ
 upscope = quoted "$upscope $end" ++ lineFeed
 
--- the variables of a line or a seat stand in a scope of their own; a seat that has none has no scope
+-- the variables of a line or a seat stand in a scope of their own
 unfoldable pub scoped : List ℕ → ℕ → List Variable → List ℕ
-scoped word n [] = []
-scoped word n (v ∷ vs) = scope word n ++ (declarations (v ∷ vs) ++ upscope)
-
--- what stands before the lines, and behind the seats
-abbrev pub opening : List ℕ
-opening =
-    quoted "$version hailstoat $end" ++ (lineFeed ++ (quoted "$timescale 1 us $end" ++ (lineFeed ++ (quoted "$scope module bench $end" ++ lineFeed))))
-
-abbrev pub closing : List ℕ
-closing = upscope ++ (quoted "$enddefinitions $end" ++ lineFeed)
+scoped word n vs = scope word n ++ (declarations vs ++ upscope)
 
 unfoldable pub lineHead : ℕ → List ℕ
 lineHead n = scoped (quoted "line") n (lineVariables n)
 
-unfoldable pub seatHead : ℕ → ℕ → List ℕ
-seatHead used n = scoped (quoted "seat") n (seatVariables used n)
+-- what stands before the seats
+unfoldable pub headWords : List ℕ
+headWords =
+    quoted "$version hailstoat $end" ++ (lineFeed
+    ++ (quoted "$timescale 1 us $end" ++ (lineFeed
+    ++ (quoted "$scope module bench $end" ++ (lineFeed
+    ++ (declarations (outputVariable ∷ []) ++ each 8 lineHead))))))
 
-unfoldable pub scopeHead : ℕ → ℕ → List ℕ
-scopeHead used k = pick (ltb k 8) (lineHead k) (seatHead used (k - 8))
+unfoldable pub seatHead : ℕ → List ℕ
+seatHead n = scoped (quoted "seat") n (ofSeat n)
 
-unfoldable pub headWords : ℕ → List ℕ
-headWords used = opening ++ (declarations (outputVariable ∷ []) ++ (each scopeCount (scopeHead used) ++ closing))
+-- "and at its end"
+unfoldable pub headEnd : List ℕ
+headEnd = upscope ++ (quoted "$enddefinitions $end" ++ lineFeed)
+
+-- the whole head, "for each seat in use"
+unfoldable pub wholeHead : ℕ → List ℕ
+wholeHead used = headWords ++ (each 8 (λ n. pick (bit n used) (seatHead n) []) ++ headEnd)
 
 -- ---- the steps
 
--- "the bits, highest first and all of them"
-unfoldable pub binary : ℕ → ℕ → List ℕ
-binary zero n = []
-binary (suc k) n = decimal (digit (bit k n)) ++ binary k n
-
--- "`0` or `1` and its name for one bit; `b`, the bits, .. a blank and its name for more": what stands before the name
-unfoldable pub valueWords : ℕ → ℕ → List ℕ
-valueWords width value = pick (eqb width 1) (binary width value) (quoted "b" ++ (binary width value ++ quoted " "))
-
--- the line that tells a value
-unfoldable pub valueLine : ℕ → ℕ → List ℕ → List ℕ
-valueLine width value name = valueWords width value ++ (name ++ lineFeed)
+-- "`0` or `1` and the short name, as in `1L25`"
+unfoldable pub valueLine : Bool → List ℕ → List ℕ
+valueLine value name = decimal (digit value) ++ (name ++ lineFeed)
 
 -- it is told where all are, or where it has changed
-unfoldable pub change : Bool → ℕ → ℕ → ℕ → List ℕ → List ℕ
-change all width before now name = pick (all || not (eqb before now)) (valueLine width now name) []
+unfoldable pub change : Bool → Bool → Bool → List ℕ → List ℕ
+change all before now name = pick (all || not (eqb (digit before) (digit now))) (valueLine now name) []
+
+-- of a number of seat n, in so many bits
+unfoldable pub bitChanges : Bool → List ℕ → ℕ → ℕ → ℕ → ℕ → List ℕ
+bitChanges all letter n width before now = downFrom width (λ k. change all (bit k before) (bit k now) (bitName letter n k))
 
 -- "a line for each variable, in the order in which they are declared", or "the lines of those variables that have changed, in the same order"
 unfoldable pub told : Bool → Sight → Sight → List Variable → List ℕ
 told all before now [] = []
-told all before now (v ∷ vs) = change all (v .width) (v .value before) (v .value now) (v .name) ++ told all before now vs
+told all before now (v ∷ vs) = change all (v .value before) (v .value now) (v .name) ++ told all before now vs
 
 -- "#N"
 unfoldable pub time : ℕ → List ℕ

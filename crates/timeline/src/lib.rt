@@ -5,6 +5,8 @@ mod steps;
 mod values;
 
 pub use heads::head;
+pub use heads::head_end;
+pub use heads::seat_head;
 pub use sights::named;
 pub use steps::first;
 pub use steps::last;

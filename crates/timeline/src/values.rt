@@ -1,11 +1,14 @@
-// The line of a variable: its value in bits, and its name; where it is not due, nothing.
+// The line of a variable, 0 or 1 and its name; where it is not due, nothing.
 use page::Piece;
 ghost use mathlib.Core.Path.{_≡_};
+ghost use mathlib.Core.Bool.{not, _||_};
+ghost use lib.Dec.{eqb};
 ghost use Rattle.base.specs.Bits.{bit, digit};
+ghost use Rattle.text.specs.Line.{decimal};
 ghost use Rattle.text.specs.Quoted.{quoted};
 ghost use Rattle.page.specs.Pieces.{piece, with};
-ghost use Rattle.timeline.specs.Variables.{numbered};
-ghost use Rattle.timeline.specs.Dump.{binary, valueWords, change};
+ghost use Rattle.timeline.specs.Variables.{numbered, bitName};
+ghost use Rattle.timeline.specs.Dump.{change, bitChanges};
 
 fn as_digit(b: bool) -> u8
     ensures { λ r. ⌜ r ≡ digit b ⌝ }
@@ -13,29 +16,58 @@ fn as_digit(b: bool) -> u8
     base::pick_byte(b, 1, 0)
 }
 
-// The bits of a value, highest first.
-fn binary(front: Piece, width: u8, value: u8) -> Piece
-    ensures { λ r. ⌜ r ≡ with front (binary width value) ⌝ }
+fn is_due(all: bool, was: bool, is: bool) -> bool
+    ensures { λ r. ⌜ r ≡ (all || not (eqb (digit was) (digit is))) ⌝ }
 {
-    let mut said = front;
-    let mut k = width;
-    while 0 < k {
-        k = k - 1;
-        said = said.decimal(as_digit(base::bit(k, value)) as u64);
-    }
-    said
+    let before = as_digit(was);
+    let after = as_digit(is);
+    all | !(before == after)
 }
 
-fn shown(front: Piece, width: u8, value: u8) -> Piece
-    ensures { λ r. ⌜ r ≡ with front (valueWords width value) ⌝ }
+fn value(front: Piece, is: bool) -> Piece
+    ensures { λ r. ⌜ r ≡ with front (decimal (digit is)) ⌝ }
 {
-    if width == 1 {
-        return binary(front, width, value);
-    }
-    binary(front.text(b"b"), width, value).text(b" ")
+    front.decimal(as_digit(is) as u64)
 }
 
-// A variable that has a number behind its letter.
+pub(crate) fn of_output(all: bool, was: bool, is: bool) -> Piece
+    ensures { λ r. ⌜ r ≡ piece (change all was is (quoted "o")) ⌝ }
+{
+    let none = Piece::empty();
+    if is_due(all, was, is) {
+        return value(none, is).text(b"o\n");
+    }
+    none
+}
+
+// Whether line n is in a set.
+pub(crate) fn of_set(front: Piece, all: bool, was: u8, is: u8, letter: &[u8], n: u8) -> Piece
+    ensures { λ r. ⌜ r ≡ with front (change all (bit n was) (bit n is) (numbered (now (letter .entry)) n)) ⌝ }
+{
+    let before = base::bit(n, was);
+    let after = base::bit(n, is);
+    if is_due(all, before, after) {
+        return value(front, after)
+            .text(letter)
+            .decimal(n as u64)
+            .text(b"\n");
+    }
+    front
+}
+
+fn of_bit(front: Piece, all: bool, was: u8, is: u8, letter: &[u8], n: u8, k: u8) -> Piece
+    ensures { λ r. ⌜ r ≡ with front (change all (bit k was) (bit k is) (bitName (now (letter .entry)) n k)) ⌝ }
+{
+    let before = base::bit(k, was);
+    let after = base::bit(k, is);
+    if is_due(all, before, after) {
+        let name = value(front, after).text(letter).decimal(n as u64);
+        return name.decimal(k as u64).text(b"\n");
+    }
+    front
+}
+
+// A number of a seat, the highest bit first.
 pub(crate) fn of_number(
     front: Piece,
     all: bool,
@@ -45,32 +77,13 @@ pub(crate) fn of_number(
     letter: &[u8],
     n: u8,
 ) -> Piece
-    ensures { λ r. ⌜ r ≡ with front (change all width was is (numbered (now (letter .entry)) n)) ⌝ }
+    ensures { λ r. ⌜ r ≡ with front (bitChanges all (now (letter .entry)) n width was is) ⌝ }
 {
-    if all | !(was == is) {
-        let value = shown(front, width, is);
-        return value.text(letter).decimal(n as u64).text(b"\n");
+    let mut said = front;
+    let mut k = width;
+    while 0 < k {
+        k = k - 1;
+        said = of_bit(said, all, was, is, letter, n, k);
     }
-    front
-}
-
-// Whether line n is in a set.
-pub(crate) fn of_set(front: Piece, all: bool, was: u8, is: u8, letter: &[u8], n: u8) -> Piece
-    ensures { λ r. ⌜ r ≡ with front (change all 1 (digit (bit n was)) (digit (bit n is)) (numbered (now (letter .entry)) n)) ⌝ }
-{
-    let before = as_digit(base::bit(n, was));
-    let after = as_digit(base::bit(n, is));
-    of_number(front, all, 1, before, after, letter, n)
-}
-
-pub(crate) fn of_output(all: bool, was: bool, is: bool) -> Piece
-    ensures { λ r. ⌜ r ≡ piece (change all 1 (digit was) (digit is) (quoted "o")) ⌝ }
-{
-    let none = Piece::empty();
-    let before = as_digit(was);
-    let after = as_digit(is);
-    if all | !(before == after) {
-        return shown(none, 1, after).text(b"o\n");
-    }
-    none
+    said
 }

@@ -1,8 +1,6 @@
-use Rattle.page.specs.Pages.{put}
-use Rattle.page.specs.PageLaws.{put-append}
-use Rattle.base.specs.Pick.{pick}
-use Rattle.text.specs.Line.{decimal, digitsWithin}
 use Rattle.timeline.proofs.Behind.{in-one, from-start}
+use Rattle.page.specs.PageLaws.{put-append}
+use Rattle.page.specs.Pages.{put}
 use Rattle.timeline.specs.Dump.{declaration, declarations, headWords}
 use borrow.Author.Needs.{needs}
 use Rattle.timeline.proofs.heads.head.Statement.{statement}
@@ -29,20 +27,14 @@ slice-aggregate-text-3 c = search needs
 text-requires-3 : tie.Need-text-requires-3
 text-requires-3 c κs = search needs
 
-scope-heads-requires : tie.Need-scope-heads-requires
-scope-heads-requires c κs = search needs
-
-slice-aggregate-text-4 : tie.Need-slice-aggregate-text-4
-slice-aggregate-text-4 c = search needs
-
-text-requires-4 : tie.Need-text-requires-4
-text-requires-4 c κs = search needs
+line-heads-requires : tie.Need-line-heads-requires
+line-heads-requires c κs = search needs
 
 returns : tie.Need-returns
-unfolding headWords declarations declaration decimal digitsWithin pick
+unfolding headWords declarations declaration
 returns c =
-    from-start put put-append (c .before .before .before .before .before .before .before .before .before .empty .ensures)
-    (in-one put put-append (c .before .before .before .before .before .before .before .text .ensures) (in-one put put-append (c .before .before .before .before .before .text2 .ensures) (in-one put put-append (c .before .before .before .text3 .ensures) (in-one put put-append (c .before .before .scope-heads .ensures) (c .text4 .ensures)))))
+    from-start put put-append (c .before .before .before .before .before .before .before .empty .ensures)
+    (in-one put put-append (c .before .before .before .before .before .text .ensures) (in-one put put-append (c .before .before .before .text2 .ensures) (in-one put put-append (c .before .text3 .ensures) (c .line-heads .ensures))))
 
 pub head-spec : {M : Type 1} → statement M
 head-spec =
@@ -55,7 +47,5 @@ head-spec =
     text-requires-2
     slice-aggregate-text-3
     text-requires-3
-    scope-heads-requires
-    slice-aggregate-text-4
-    text-requires-4
+    line-heads-requires
     returns)

@@ -1,7 +1,7 @@
+use Rattle.timeline.proofs.Behind.{in-one}
+use Rattle.page.specs.PageLaws.{put-append, put-none}
 use Rattle.page.specs.Pages.{put}
 use mathlib.Core.Path.{sym}
-use Rattle.page.specs.PageLaws.{put-append, put-none}
-use Rattle.timeline.proofs.Behind.{in-one}
 use Rattle.timeline.specs.Variables.{lineVariables}
 use Rattle.timeline.specs.Dump.{lineHead, scoped, declarations}
 use borrow.Author.Needs.{needs}

@@ -1,7 +1,7 @@
+use Rattle.timeline.proofs.Behind.{in-one, from-start}
+use Rattle.page.specs.PieceLaws.{with-append, with-none}
 use Rattle.page.specs.Pieces.{with}
 use mathlib.Core.Path.{sym}
-use Rattle.page.specs.PieceLaws.{with-append, with-none}
-use Rattle.timeline.proofs.Behind.{in-one, from-start}
 use Rattle.timeline.specs.Variables.{lineVariables}
 use Rattle.timeline.specs.Dump.{told}
 use borrow.Author.Needs.{needs}

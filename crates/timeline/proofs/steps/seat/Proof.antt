@@ -1,8 +1,9 @@
-use Rattle.page.specs.Pieces.{with, piece, noPiece}
+use Rattle.timeline.proofs.Behind.{in-one, from-start}
+use Rattle.page.specs.PieceLaws.{with-append, with-none}
+use Rattle.page.specs.Pieces.{noPiece, with, piece}
 use mathlib.Core.List.{List}
 use mathlib.Core.Path.{sym, ap, _∙_}
-use Rattle.page.specs.PieceLaws.{with-append, with-none}
-use Rattle.timeline.proofs.Behind.{in-one, from-start}
+use Rattle.timeline.proofs.Bits.{told-seat}
 use Rattle.timeline.proofs.Scopes.{in-use, not-in-use}
 use Rattle.timeline.specs.Variables.{Variable}
 use Rattle.timeline.specs.Dump.{told}
@@ -36,7 +37,6 @@ of-number-requires-2 : tie.Need-of-number-requires-2
 of-number-requires-2 c κs = search needs
 
 returns : tie.Need-returns
-unfolding told
 returns c =
     let a = c .before .before .before .before .before .before .before .before .before .args in
     let was = c .before .before .before .before .before .look-at .ensures in
@@ -44,8 +44,8 @@ returns c =
     let known = in-use (a .used) (a .n) (c .before .before .before .before .before .before .before .bit .ensures)
     (c .before .before .before .before .before .before .if1 .taken) in
     from-start with with-append (c .before .before .before .before .before .before .before .before .empty .ensures)
-    (in-one with with-append (simp (was, is) at (c .before .before .of-number .ensures))
-    (in-one with with-append (simp (was, is) at (c .of-number2 .ensures)) (sym (with-none _))))
+    (in-one with with-append (simp (was, is) at (c .before .before .of-number .ensures)) (simp (was, is) at (c .of-number2 .ensures)))
+    ∙ ap piece (sym (told-seat (a .all) (a .before) (a .now) (a .n)))
     ∙ ap (λ (vs : List Variable). piece (told (a .all) (a .before) (a .now) vs)) (sym known)
 
 returns-2 : tie.Need-returns-2

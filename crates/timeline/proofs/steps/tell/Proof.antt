@@ -3,7 +3,6 @@ use Rattle.page.specs.PageLaws.{put-append}
 use Prim.Native.Nat.{ℕ}
 use mathlib.Core.Path.{_∙_}
 use native.Mathlib.Omega.{arith}
-use Rattle.base.specs.Bits.{digit}
 use Rattle.text.specs.Quoted.{quoted}
 use Rattle.timeline.proofs.Behind.{in-one, put-said}
 use Rattle.timeline.proofs.Lengths.{change-length}
@@ -26,7 +25,7 @@ returns : tie.Need-returns
 unfolding told variables
 returns c =
     let a = c .before .before .before .args in
-    let few = change-length (a .all) 1 (digit (a .before .output)) (digit (a .now .output)) (quoted "o") in
+    let few = change-length (a .all) (a .before .output) (a .now .output) (quoted "o") in
     in-one put put-append (c .before .add .ensures ∙ put-said _ _ (c .before .before .of-output .ensures) (omega (arith, few))) (c .scopes .ensures)
 
 pub tell-spec : {M : Type 1} → statement M

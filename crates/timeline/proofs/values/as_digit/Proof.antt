@@ -1,3 +1,4 @@
+-- made by tools/answers for as_digit of crates/timeline/src/values.rt, sum f641af735c7c073f: do not change it by hand, make it anew
 use Rattle.base.specs.Bits.{digit}
 use borrow.Author.Needs.{needs}
 use Rattle.timeline.proofs.values.as_digit.Statement.{statement}

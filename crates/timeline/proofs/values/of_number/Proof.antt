@@ -1,46 +1,53 @@
-use mathlib.Core.Path.{sym}
+use Prim.Native.Nat.{ℕ, _-_, _≤_}
+use mathlib.Core.Path.{_≡_, refl, ap, sym, _∙_}
+use native.Mathlib.Omega.{arith}
+use borrow.Author.Needs.{needs}
+use Rattle.base.specs.Bits.{bit}
 use Rattle.page.specs.Pieces.{with}
 use Rattle.page.specs.PieceLaws.{with-append, with-none}
-use Rattle.timeline.proofs.Behind.{in-one}
-use Rattle.timeline.specs.Dump.{valueLine, change}
-use Rattle.base.specs.PickLaws.{pick-true, pick-false}
-use borrow.Author.Needs.{needs}
+use Rattle.timeline.specs.Variables.{downFrom, bitName}
+use Rattle.timeline.specs.Dump.{change, bitChanges}
+use Rattle.timeline.proofs.Bits.{one-down}
 use Rattle.timeline.proofs.values.of_number.Statement.{statement}
 use Rattle.timeline.proofs.values.of_number.Tie as tie
 
-shown-requires : tie.Need-shown-requires
-shown-requires c κs = search needs
+abbrev Inv-loop : tie.InvT-loop
+Inv-loop all width was is letter n said₀ k₀ said k =
+    (k ≤ width) × (with said (bitChanges all letter n k was is) ≡ with said₀ (bitChanges all letter n width was is))
 
-text-requires : tie.Need-text-requires
-text-requires c κs = search needs
+abbrev μ-loop : tie.MeasureT-loop
+μ-loop all width was is letter n said₀ k₀ said k = k
 
-decimal-requires : tie.Need-decimal-requires
-decimal-requires c κs = search needs
+loop-holds : tie.Need-loop-holds Inv-loop μ-loop
+loop-holds c = (omega arith, refl)
 
-slice-aggregate-text : tie.Need-slice-aggregate-text
-slice-aggregate-text c = search needs
+sub-k : tie.Need-sub-k Inv-loop μ-loop
+sub-k c = search needs
 
-text-requires-2 : tie.Need-text-requires-2
-text-requires-2 c κs = search needs
+of-bit-requires : tie.Need-of-bit-requires Inv-loop μ-loop
+of-bit-requires c κs = search needs
 
-returns : tie.Need-returns
-unfolding change valueLine
+loop-less : tie.Need-loop-less Inv-loop μ-loop
+loop-less c = omega arith
+
+loop-again : tie.Need-loop-again Inv-loop μ-loop
+unfolding bitChanges
+loop-again c =
+    let b = c .before .before in
+    let a = b .before .before .args in (
+      omega arith,
+      one-down with with-append (λ k. change (a .all) (bit k (a .was)) (bit k (a .is)) (bitName (a .letter .now) (a .n) k)) (b .loop .k) (omega arith)
+          (c .of-bit .ensures) (b .loop .inv .1),
+    )
+
+returns : tie.Need-returns Inv-loop μ-loop
+unfolding bitChanges downFrom
 returns c =
-    simp (c .before .before .before .before .before .if1 .taken, pick-true)
-    (in-one with with-append (c .before .before .before .before .shown .ensures) (in-one with with-append (in-one with with-append (c .before .before .before .text .ensures) (c .before .before .decimal .ensures)) (c .text2 .ensures)))
-
-returns-2 : tie.Need-returns-2
-unfolding change
-returns-2 c = simp (c .if1 .left, pick-false) (sym (with-none _))
+    let none : c .before .loop .k ≡ 0 = omega arith in
+    let a = c .before .before .before .args in
+    sym (with-none _)
+    ∙ ap (λ (k : ℕ). with (c .before .loop .said) (bitChanges (a .all) (a .letter .now) (a .n) k (a .was) (a .is))) (sym none)
+    ∙ c .before .loop .inv .1
 
 pub of-number-spec : {M : Type 1} → statement M
-of-number-spec =
-    tie.close
-    (tie.spec
-    shown-requires
-    text-requires
-    decimal-requires
-    slice-aggregate-text
-    text-requires-2
-    returns
-    returns-2)
+of-number-spec = tie.close (tie.spec Inv-loop μ-loop loop-holds sub-k of-bit-requires loop-less loop-again returns)
