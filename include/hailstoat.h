@@ -248,7 +248,7 @@ static inline const char *hailstoat_refusal_words(unsigned refusal)
     case HAILSTOAT_KIND_ABOVE: return "kind above 8";
     case HAILSTOAT_SHORT: return "record cut off at the end";
     case HAILSTOAT_NO_DIVISOR: return "arrival or character time while the divisor is 0";
-    case HAILSTOAT_MARKS_ABOVE: return "arrival: marks above 7";
+    case HAILSTOAT_MARKS_ABOVE: return "marks above 7";
     case HAILSTOAT_LEVELS_ABOVE: return "modem levels above 15";
     case HAILSTOAT_NOT_READY: return "controller not ready";
     case HAILSTOAT_NOT_SERVED: return "not served (cascaded controllers, 8080 mode, poll)";
@@ -258,9 +258,9 @@ static inline const char *hailstoat_refusal_words(unsigned refusal)
     case HAILSTOAT_WRONG_MARK: return "wrong mark";
     case HAILSTOAT_UNKNOWN_VERSION: return "unknown version";
     case HAILSTOAT_NO_SUCH_BENCH: return "a saved bench that cannot be";
-    case HAILSTOAT_BEYOND_WORD: return "arrival: data beyond the word length";
-    case HAILSTOAT_PARITY_UNASKED: return "arrival: parity mark with parity off";
-    case HAILSTOAT_BREAK_WITH_DATA: return "arrival: break with data not 0";
+    case HAILSTOAT_BEYOND_WORD: return "data beyond the word length";
+    case HAILSTOAT_PARITY_UNASKED: return "parity mark with parity off";
+    case HAILSTOAT_BREAK_WITH_DATA: return "break with data not 0";
     case HAILSTOAT_TALLY_FULL: return "reception that no tally can hold";
     default: return "no refusal that this header knows";
     }

@@ -61,7 +61,7 @@ fits-decimal d n small = record { short = decimal-length d n small; one = digits
 pub fits-byte : (n : ℕ) → n < 256 → Fits 3 (decimal n)
 fits-byte n small = fits-decimal 2 n (omega arith)
 
-capital-one : (d : ℕ) → capital d ≡ 10 → ⊥
+pub capital-one : (d : ℕ) → capital d ≡ 10 → ⊥
 unfolding capital
 capital-one d =
     pick-either (λ (c : ℕ). c ≡ 10 → ⊥) (ltb d 10) (numeral d) (letterA - 10 + d) (λ e. omega arith) (λ e. omega arith)

@@ -31,7 +31,7 @@ none-left : (n : ℕ) → n ≤ width → Left noPage n
 unfolding noPage
 none-left n h = inr (omega arith)
 
-head-stands : (head : List ℕ) → OneLine head → length head ≤ width → Stands (headed head)
+pub head-stands : (head : List ℕ) → OneLine head → length head ≤ width → Stands (headed head)
 unfolding headed shown
 head-stands head one short =
     let s : Stands (put noPage head) = line-stands noPage head 0 none-stands one (none-left (length head + 0) (omega arith)) .0 in
