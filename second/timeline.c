@@ -40,18 +40,25 @@ static unsigned seats_in_use(const struct bench *bench)
 static void declare_line(unsigned line)
 {
     printf("$scope module line%u $end\n", line);
-    printf("$var wire 1 l%u level $end\n", line);
-    printf("$var wire 1 r%u request $end\n", line);
-    printf("$var wire 1 s%u service $end\n", line);
-    printf("$var wire 1 m%u mask $end\n", line);
+    printf("$var wire 1 l%u level%u $end\n", line, line);
+    printf("$var wire 1 r%u request%u $end\n", line, line);
+    printf("$var wire 1 s%u service%u $end\n", line, line);
+    printf("$var wire 1 m%u mask%u $end\n", line, line);
     printf("$upscope $end\n");
+}
+
+/* "bit by bit, the highest first" */
+static void declare_bits(char name, const char *word, unsigned seat, unsigned bits)
+{
+    for (unsigned bit = bits; bit > 0; bit -= 1)
+        printf("$var wire 1 %c%u%u %s%u[%u] $end\n", name, seat, bit - 1U, word, seat, bit - 1U);
 }
 
 static void declare_seat(unsigned seat)
 {
     printf("$scope module seat%u $end\n", seat);
-    printf("$var wire %u L%u lsr $end\n", LSR_BITS, seat);
-    printf("$var wire %u q%u queued $end\n", QUEUED_BITS, seat);
+    declare_bits('L', "lsr", seat, LSR_BITS);
+    declare_bits('q', "queued", seat, QUEUED_BITS);
     printf("$upscope $end\n");
 }
 
@@ -74,9 +81,9 @@ struct step {
     const struct bench *later;
 };
 
-/* "`0` or `1` and its name for one bit" */
-static void tell_bit(const struct step *step, char name, unsigned line,
-                     unsigned (*set_of)(const struct bench *bench))
+/* "`0` or `1` and the short name" */
+static void tell_line(const struct step *step, char name, unsigned line,
+                      unsigned (*set_of)(const struct bench *bench))
 {
     unsigned bit = set_of(step->later) >> line & 1U;
     if (step->earlier == NULL || (set_of(step->earlier) >> line & 1U) != bit)
@@ -104,17 +111,15 @@ static unsigned masks_of(const struct bench *bench)
     return bench->controller.mask;
 }
 
-/* "`b`, the bits, highest first and all of them, a blank and its name for more" */
+/* "the lines of those variables that have changed": of a number the bits that have, and not the others. */
 static void tell_number(const struct step *step, char name, unsigned seat, unsigned bits,
                         unsigned (*number_of)(const struct channel *seat))
 {
     unsigned number = number_of(&step->later->seats[seat]);
-    if (step->earlier != NULL && number_of(&step->earlier->seats[seat]) == number)
-        return;
-    printf("b");
+    unsigned changed = step->earlier == NULL ? ~0U : number ^ number_of(&step->earlier->seats[seat]);
     for (unsigned bit = bits; bit > 0; bit -= 1)
-        printf("%u", number >> (bit - 1U) & 1U);
-    printf(" %c%u\n", name, seat);
+        if ((changed >> (bit - 1U) & 1U) != 0)
+            printf("%u%c%u%u\n", number >> (bit - 1U) & 1U, name, seat, bit - 1U);
 }
 
 static unsigned queued_of(const struct channel *seat)
@@ -129,10 +134,10 @@ static void tell(const struct step *step, unsigned seats)
     if (step->earlier == NULL || bench_output(step->earlier) != output)
         printf("%uo\n", output);
     for (unsigned line = 0; line < LINES; line += 1) {
-        tell_bit(step, 'l', line, levels_of);
-        tell_bit(step, 'r', line, requests_of);
-        tell_bit(step, 's', line, services_of);
-        tell_bit(step, 'm', line, masks_of);
+        tell_line(step, 'l', line, levels_of);
+        tell_line(step, 'r', line, requests_of);
+        tell_line(step, 's', line, services_of);
+        tell_line(step, 'm', line, masks_of);
     }
     for (unsigned seat = 0; seat < SEATS; seat += 1)
         if ((seats >> seat & 1U) != 0) {

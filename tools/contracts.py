@@ -7,8 +7,9 @@ import source as read
 
 ANSWER = re.compile(r"ensures\s*\{\s*λ \w+\.\s*⌜\s*(\(?)\w+ ≡ (\S+)")
 
-# What is told stands in a piece: `r ≡ piece (NAME ..)`, or behind what was told before, `r ≡ with PIECE (NAME ..)`.
-TOLD = re.compile(r"ensures\s*\{\s*λ \w+\.\s*⌜\s*\w+ ≡ (?:piece|with \w+) \(?([^\s()]+)")
+# What is told stands in a piece: `r ≡ piece (NAME ..)`, or behind what was told before, `r ≡ with PIECE (NAME ..)`; or its pieces are joined to a
+# page: `r ≡ joined PAGE (NAME ..)`, and so joinedAll of several.
+TOLD = re.compile(r"ensures\s*\{\s*λ \w+\.\s*⌜\s*\w+ ≡ (?:piece|(?:with|joined|joinedAll) \w+) \(?([^\s()]+)")
 
 # The piece of no words.
 NOTHING = "noPiece"
@@ -18,7 +19,7 @@ SHUT = {"pick"}
 
 
 class Contract(NamedTuple):
-    """`r ≡ NAME ..`; paired where that is the first of several parts, `(r ≡ NAME ..) × ..`; told where NAME gives the words of a piece."""
+    """`r ≡ NAME ..`; paired where that is the first of several parts, `(r ≡ NAME ..) × ..`; told where NAME gives the words of pieces."""
 
     module: Optional[str] = None
     name: Optional[str] = None
@@ -44,7 +45,7 @@ def functions(source):
         said, told = ANSWER.search(function.head), TOLD.search(function.head)
         given = told[1] if told else said and said[2]
         module, name = names.get(given, (None, None))
-        found[function.path] = Contract(module, name, bool(said and said[1]), bool(told) or name == NOTHING)
+        found[function.path] = Contract(module, name, bool(said and said[1]), bool(told))
     return found
 
 
@@ -55,3 +56,8 @@ def is_unfoldable(root, contract):
     if not file or not file.is_file() or contract.name in SHUT:
         return False
     return bool(re.search(rf"(?m)^unfoldable (?:pub )?{re.escape(contract.name)} :", file.read_text("utf-8")))
+
+
+def tells(contract):
+    """Whether a call of the function adds to what is told, be it nothing."""
+    return contract.told or contract.name == NOTHING

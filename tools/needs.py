@@ -38,14 +38,14 @@ class Calls(NamedTuple):
     """The callees, by their names, of which an answer has to know more than that they have contracts."""
 
     paired: frozenset = frozenset()  # their contracts say several things, of which the answer's equation is the first
-    told: frozenset = frozenset()  # they tell a piece
+    told: frozenset = frozenset()  # they add to what is told
 
 
 class Answer(NamedTuple):
     words: str
     choice: tuple = ()  # the names of base's PickLaws that it cites
     tests: tuple = ()  # and of the library's tests
-    pieces: tuple = ()  # and of page's PieceLaws
+    pieces: tuple = ()  # and of page's PieceLaws and PageLaws
     spelt: bool = False  # whether a piece is spelt out byte by byte, so that words with others behind them are the same
 
 
@@ -54,7 +54,7 @@ class Facts:
 
     def __init__(self):
         self.variants, self.calls, self.tests, self.laws, self.choice = [], [], [], set(), set()
-        self.told = []  # the callees that tell a piece
+        self.told = []  # the callees that add to what is told
 
     def add_branch(self, fact, kind):
         laws, choice = LAWS[kind]
@@ -150,14 +150,16 @@ def answer(need, walk, contract, calls):
 
 
 def told_answer(need, walk, calls):
-    """The answer of a function that tells a piece: what each call adds is put behind what was told before. Words in quotation
-    marks with others behind them are one list of bytes, so there the piece is spelt out."""
+    """The answer of a function that tells something: what each call adds is put behind what was told before. Words in quotation
+    marks with others behind them are one list of bytes, so there a piece is spelt out."""
     facts = facts_at(walk, need, calls)
     for way, own in known_at(walk, need):
         for fact in [] if enums_of(walk) else others(way, own):
             facts.add_branch(fact, "ne")
-    several = len(facts.told) > 1
-    pieces = ("with-append", "with-none") if several or not facts.told else ()
+    said = [name for name in facts.told if name != "empty"]
+    several = len(said) > 1
+    joins = ("joined-piece",) if "join" in said else ()
+    pieces = ("with-append", "with-none") if (several or not said) and not joins else joins
     choice = tuple(sorted(facts.choice, reverse=True))
     words = [*facts.variants, *facts.calls, *facts.tests, *choice, *pieces]
-    return Answer(f"simp ({', '.join(words)})", choice, tuple(sorted(facts.laws)), pieces, several and "text" in facts.told)
+    return Answer(f"simp ({', '.join(words)})", choice, tuple(sorted(facts.laws)), pieces, several and "text" in said)

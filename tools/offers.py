@@ -40,16 +40,17 @@ def function_at(place, contracts):
 
 def uses(crate, answers, opened):
     """The `use` lines that the answers need, and that of the definition that they open."""
-    laws = "Rattle.base.specs.PickLaws" if crate == "base" else "Rattle.base.specs.PickLaws"
+    picks = "Rattle.base.specs.PickLaws" if crate == "base" else "Rattle.base.specs.PickLaws"
     choice = [name for name in ("tests", "pick-true", "pick-false") if any(name in one.choice for one in answers)]
     tests = sorted({name for one in answers for name in one.tests})
     if choice:
-        yield f"use {laws}.{{{', '.join(choice)}}}"
+        yield f"use {picks}.{{{', '.join(choice)}}}"
     if tests:
         yield f"use borrow.Author.Tests.{{{', '.join(tests)}}}"
-    pieces = [name for name in ("with-append", "with-none") if any(name in one.pieces for one in answers)]
-    if pieces:
-        yield f"use Rattle.page.specs.PieceLaws.{{{', '.join(pieces)}}}"
+    for file, laws in (("PieceLaws", ("with-append", "with-none")), ("PageLaws", ("joined-piece",))):
+        cited = [name for name in laws if any(name in one.pieces for one in answers)]
+        if cited:
+            yield f"use Rattle.page.specs.{file}.{{{', '.join(cited)}}}"
     if any(one.spelt for one in answers):
         yield "use Rattle.page.specs.Pieces.{with}"
     if opened:

@@ -5,7 +5,7 @@ words, with ROOT for the tree's folder, and in take.lts the places and the needs
 """
 import unittest
 
-from contracts import Contract, functions, is_unfoldable
+from contracts import Contract, functions, is_unfoldable, tells
 from needs import Answer, Calls, Place, answer, known_at, walk_of
 from offers import answered, function_at, offers, source_of
 from room import TOOLS, Room
@@ -99,11 +99,16 @@ class Contracts(Room):
 
     def test_a_function_that_tells_a_piece(self):
         words = "ghost use Rattle.names.specs.Words.{iirWords, marksSaid};\nghost use Rattle.page.specs.Pieces.{noPiece, with, piece};\n"
-        for said, name in (("piece (iirWords byte)", "iirWords"), ("with self (marksSaid marks)", "marksSaid"), ("noPiece", "noPiece")):
+        for said, name, told in (
+            ("piece (iirWords byte)", "iirWords", True),
+            ("with self (marksSaid marks)", "marksSaid", True),
+            ("joined page (marksSaid marks)", "marksSaid", True),
+            ("with self words", None, True),
+            ("noPiece", "noPiece", False),
+        ):
             found = functions(f"{words}fn told(byte: u8) -> Piece\n    ensures {{ λ r. ⌜ r ≡ {said} ⌝ }}\n{{\n    0\n}}\n")["told"]
-            self.assertEqual((found.name, found.told), (name, True))
-        found = functions(f"{words}fn told(byte: u8) -> Piece\n    ensures {{ λ r. ⌜ r ≡ with self words ⌝ }}\n{{\n    0\n}}\n")["told"]
-        self.assertEqual((found.name, found.told), (None, True))
+            self.assertEqual((found.name, found.told, tells(found)), (name, told, True))
+        self.assertFalse(tells(TAKEN))
 
     def test_what_is_unfoldable(self):
         self.write("crates/queue/specs/Queue.antt", SPECS)
@@ -207,6 +212,13 @@ class Told(unittest.TestCase):
 
     def test_nothing_more_is_said(self):
         self.assertEqual(answer("returns", self.behind(), self.TELLS, Calls()).words, "simp (c .if1 .left, pick-false, with-append, with-none)")
+        found = answer("returns", self.behind("empty"), self.TELLS, Calls(told=frozenset({"empty"})))
+        self.assertEqual(found.words, "simp (c .empty .ensures, c .before .if1 .left, pick-false, with-append, with-none)")
+
+    def test_a_piece_is_joined(self):
+        found = answer("returns", self.behind("named", "join"), self.TELLS, Calls(told=frozenset({"named", "join"})))
+        self.assertEqual(found.words, "simp (c .join .ensures, c .before .named .ensures, c .before .before .if1 .left, pick-false, joined-piece)")
+        self.assertEqual((found.pieces, found.spelt), (("joined-piece",), False))
 
     def test_the_arm_that_is_left(self):
         said = "rest : (Unit × (Run.OneOf (List._∷_ 6 List.[]) m → ⊥)) × (Run.OneOf (List._∷_ 4 List.[]) m → ⊥)"

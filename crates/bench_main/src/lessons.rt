@@ -24,13 +24,11 @@ fn records() -> [u8; 1048576]
     [0u8; 1048576]
 }
 
-// The seats that the records name.
+// The seats that the records name. One that is cut off names none.
 fn named(records: &[u8]) -> u8 {
     let mut used: u8 = 0;
-    let mut at: usize = 0;
-    while at + 1 < records.len() {
-        used = timeline::named(used, records[at], records[at + 1]);
-        at = at + 4;
+    for k in 0..records.len() / 4 {
+        used = timeline::named(used, records[4 * k], records[4 * k + 1]);
     }
     used
 }

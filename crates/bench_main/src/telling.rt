@@ -109,7 +109,8 @@ fn follow(start: Course, before: Sight) -> Course
         course.failed = true;
         return course;
     }
-    telling.file = timelines::step(telling, course.number, before, course.bench);
+    let file = timelines::step(telling, course.number, before, course.bench);
+    telling.file = file;
     course.telling = telling;
     course
 }

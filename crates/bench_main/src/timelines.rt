@@ -6,6 +6,7 @@ use crate::told;
 use crate::words;
 use bench::Bench;
 use options::TIMELINE;
+use records::SEATS;
 use timeline::Sight;
 ghost use Prim.Native.Nat.{_≤_};
 ghost use lib.ListN.{length};
@@ -13,9 +14,24 @@ ghost use lib.ListN.{length};
 // No file is open.
 const NONE: i32 = -1;
 
+// Which variables there are.
+fn is_headed(file: i32, used: u8) -> bool {
+    if !write(file, timeline::head()) {
+        return false;
+    }
+    for n in 0..SEATS {
+        if base::bit(n as u8, used) {
+            if !write(file, timeline::seat_head(n as u8)) {
+                return false;
+            }
+        }
+    }
+    write(file, timeline::head_end())
+}
+
 // What stands before the first record.
 fn is_begun(file: i32, used: u8, bench: Bench) -> bool {
-    if !write(file, timeline::head(used)) {
+    if !is_headed(file, used) {
         return false;
     }
     write(file, timeline::first(used, Sight::of(bench)))

@@ -72,6 +72,7 @@ options-once M =
     record {
       options·Words·start = value _ refl (λ κ a v w. refl);
       options·Words·after = value _ refl (λ κ a v w. refl);
+      options·Words·place-of = value _ refl (λ κ a v w. refl);
       options·Words·are-whole = value _ refl (λ κ a v w. refl);
       options·Words·due = value _ refl (λ κ a v w. refl);
       options·Words·stop = told _ refl (λ κ a r s v w p q. (p .0 ∙ sym (q .0), refl));

@@ -20,6 +20,7 @@ use Rattle.controller.proofs as controller
 use Rattle.records.proofs as records
 use Rattle.bench.proofs as bench
 use Rattle.text.proofs as text
+use Rattle.page.proofs as page
 use Rattle.image.proofs as image
 use Rattle.listing.proofs as listing
 use Rattle.lesson.proofs as lesson
@@ -79,6 +80,7 @@ pub record SheetsOnce (M : Type 1) : Type 2 where
 pub record OptionsOnce (M : Type 1) : Type 2 where
   pub options·Words·start : Once M options.Words.start.ended options.Words.start.clauses options.Words.start.spec
   pub options·Words·after : Once M options.Words.after.ended options.Words.after.clauses options.Words.after.spec
+  pub options·Words·place-of : Once M options.Words.place_of.ended options.Words.place_of.clauses options.Words.place_of.spec
   pub options·Words·are-whole : Once M options.Words.are_whole.ended options.Words.are_whole.clauses options.Words.are_whole.spec
   pub options·Words·due : Once M options.Words.due.ended options.Words.due.clauses options.Words.due.spec
   pub options·Words·stop : Once M options.Words.stop.ended options.Words.stop.clauses options.Words.stop.spec
@@ -229,6 +231,23 @@ pub record ListingOnce (M : Type 1) : Type 2 where
   pub text·put-front : Once M text.put_front.ended text.put_front.clauses text.put_front.spec
   pub text·put-after : Once M text.put_after.ended text.put_after.clauses text.put_after.spec
   pub listing·run : Once M listing.run.ended listing.run.clauses listing.run.spec
+
+-- ---- page: pieces of words, and pages that they fill
+
+pub record PageOnce (M : Type 1) : Type 2 where
+  pub page·Piece·empty : Once M page.Piece.empty.ended page.Piece.empty.clauses page.Piece.empty.spec
+  pub page·Piece·text : Once M page.Piece.text.ended page.Piece.text.clauses page.Piece.text.spec
+  pub page·Piece·decimal : Once M page.Piece.decimal.ended page.Piece.decimal.clauses page.Piece.decimal.spec
+  pub page·Piece·hex : Once M page.Piece.hex.ended page.Piece.hex.clauses page.Piece.hex.spec
+  pub page·Piece·letter : Once M page.Piece.letter.ended page.Piece.letter.clauses page.Piece.letter.spec
+  pub page·Page·empty : Once M page.Page.empty.ended page.Page.empty.clauses page.Page.empty.spec
+  pub page·Page·text : Once M page.Page.text.ended page.Page.text.clauses page.Page.text.spec
+  pub page·Page·add : Once M page.Page.add.ended page.Page.add.clauses page.Page.add.spec
+  pub page·Page·begin : Once M page.Page.begin.ended page.Page.begin.clauses page.Page.begin.spec
+  pub page·Page·join : Once M page.Page.join.ended page.Page.join.clauses page.Page.join.spec
+  pub page·Page·length : Once M page.Page.length.ended page.Page.length.clauses page.Page.length.spec
+  pub page·Page·comment : Once M page.Page.comment.ended page.Page.comment.clauses page.Page.comment.spec
+  pub page·Page·end : Once M page.Page.end.ended page.Page.end.clauses page.Page.end.spec
 
 -- ---- image: the whole bench as an image, with the buffer that is lent back
 

@@ -1,3 +1,7 @@
 pub mod Names
 pub mod Words
-pub mod LengthLaws
+pub mod Fits
+pub mod FitLaws
+pub mod WordLaws
+pub mod Examples
+pub mod Statements

@@ -87,7 +87,8 @@ msrSaid byte = quoted "MSR " ++ (hex byte ++ (quoted ":" ++ bitsSaid msrWords by
 unfoldable pub marksNamed : ℕ → List ℕ
 marksNamed marks = wordsOf markWords marks
 
--- "none, or ` with` and the words of the bits that are set, each behind a blank, lowest first; N above 7: ` with marks` and N as a byte"
+-- "none, or ` with` and the words of the bits that are set, each behind a blank, lowest first; N above 7: ` with marks` and, behind a
+-- blank, N as a byte"
 unfoldable pub marksSaid : ℕ → List ℕ
 marksSaid marks =
     pick (ltb 7 marks) (quoted " with marks " ++ hex marks) (pick (eqb marks 0) [] (quoted " with" ++ marksNamed marks))

@@ -1,0 +1,4 @@
+pub mod Head
+pub mod HeadLaws
+pub mod Moved
+pub mod Told

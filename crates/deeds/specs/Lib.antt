@@ -1,0 +1,5 @@
+pub mod Done
+pub mod Came
+pub mod DeedLaws
+pub mod Examples
+pub mod Statements
