@@ -5,4 +5,3 @@ pub mod FitLaws
 pub mod WordLaws
 pub mod Examples
 pub mod Statements
-pub mod LengthLaws

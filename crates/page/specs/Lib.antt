@@ -11,5 +11,4 @@ pub mod ColumnLaws
 pub mod FitLaws
 pub mod Examples
 pub mod Statements
-pub mod Uncut
-pub mod UncutLaws
+pub mod CountLaws

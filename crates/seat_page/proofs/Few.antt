@@ -7,7 +7,7 @@ use native.Mathlib.Omega.{arith}
 use lib.ListN.{length, length-append, length-map, length-take}
 use Rattle.text.specs.Quoted.{quoted}
 use Rattle.page.specs.Pages.{headed}
-use Rattle.page.specs.UncutLaws.{all-count, head-count}
+use Rattle.page.specs.CountLaws.{all-count, head-count}
 use Rattle.queue.specs.declared.Queue.{Queue}
 use Rattle.queue.specs.Queue.{contents}
 use Rattle.seat.specs.declared.Seat.{Seat}

@@ -10,7 +10,7 @@ use Rattle.text.specs.Quoted.{quoted}
 use Rattle.page.specs.Pieces.{hex, letter}
 use Rattle.names.specs.Words.{marksNamed, marksSaid}
 use Rattle.queue.specs.Queue.{noCharacter}
-use Rattle.transmitter.specs.Transmitter.{still, noneWaiting}
+use Rattle.transmitter.specs.Transmitter.{noneWaiting}
 use Rattle.channel.specs.declared.Channel.{Channel}
 use Rattle.channel.specs.Parts.{powerUp, withModem, withReceiver}
 use Rattle.seat.specs.Seats as seat

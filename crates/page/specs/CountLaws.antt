@@ -1,27 +1,14 @@
--- No piece of some is cut where none is of the parts that they are made of; and how many bytes a page has at most, so that none is left out where
--- its pieces are few.
+-- How many bytes a page has at most: none is left out where its pieces are few.
 use Prim.Native.Nat.{ℕ, _+_, _*_, _≤_}
-use mathlib.Core.Bool.{Bool}
-use mathlib.Core.List.{List, [], _∷_, _++_}
+use mathlib.Core.List.{List, [], _∷_}
 use native.Mathlib.Omega.{arith}
 use lib.Dec.{ltb, eqb}
 use lib.ListN.{length, take, length-take}
-use Rattle.base.specs.Pick.{pick}
 use Rattle.base.specs.PickLaws.{pick-either}
 use Rattle.text.specs.Quoted.{quoted}
 use Rattle.page.specs.Pieces.{pieceMost}
 use Rattle.page.specs.Pages.{pageMost, noPage, putByte, put, headed, indent, separation, fits, placed, joined, joinedAll}
-use Rattle.page.specs.Uncut.{Short, AllShort}
 use Rattle.page.specs.declared.Page.{Page}
-
-pub either-short : (test : Bool) (words others : List ℕ) → Short words → Short others → Short (pick test words others)
-either-short = pick-either Short
-
-pub all-short : (first then : List (List ℕ)) → AllShort first → AllShort then → AllShort (first ++ then)
-all-short [] then a b = b
-all-short (words ∷ first) then a b = (a .0, all-short first then (a .1) b)
-
--- ---- how many bytes
 
 abbrev AtMost : ℕ → Page → Type 0
 AtMost n p = p .count ≤ n
