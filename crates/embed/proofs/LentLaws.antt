@@ -64,8 +64,9 @@ use Rattle.bench.specs.DoneLaws.{seat-answer}
 use Rattle.bench.specs.MeetLaws.{outcome-dealt}
 use Rattle.bench.specs.Steps.{shown, dealt, outcome}
 use Rattle.bench.specs.OutcomeLaws.{outcome-output, outcome-refused}
-use Rattle.embed.specs.Word.{answerIn, refusalIn, outputIn, marksIn, behindIn, Told, Tells}
-use Rattle.embed.specs.WordLaws.{letter-back}
+use Rattle.c_word.specs.Word.{answerIn, refusalIn, outputIn, marksIn, behindIn, Tells}
+use Rattle.embed.specs.Told.{Told}
+use Rattle.c_word.specs.WordLaws.{letter-back}
 use Rattle.embed.specs.Outputs.{outputs, outputsAt}
 use Rattle.embed.specs.OutputsLaws.{outputs-told, outputs-refused}
 use Rattle.embed.specs.Zeroed.{zeroed}

@@ -5,6 +5,7 @@ mod InPlace
 mod Leaving
 mod Looking
 mod Places
+mod Restoring
 mod Storing
 pub mod Slips
 pub mod DivisorLaws

@@ -1,12 +1,13 @@
-pub mod Word
 pub mod Bytes
 pub mod Version
-pub mod Numbers
+pub mod Told
 pub mod Outputs
 pub mod Tallies
+pub mod Settings
+pub mod Images
 pub mod Zeroed
-pub mod WordLaws
 pub mod NumberLaws
 pub mod OutputsLaws
+pub mod SettingLaws
 pub mod VersionLaws
 pub mod ZeroedLaws

@@ -33,12 +33,8 @@ use Rattle.records.specs.Events.{whole, early, eventOf, decoded}
 use Rattle.records.specs.EarlyLaws.{early-kind, early-seat}
 use Rattle.records.specs.UsesLaws.{decoded-alike}
 use Rattle.records.specs.Parts.{touched, besides, metParts, dealtParts, parted}
-use Rattle.embed.specs.Numbers.{asByte}
-
--- what is the same from 255 on is told by the byte
-by-byte : {A : Type 0} (f : ℕ → A) → ((n : ℕ) → 255 ≤ n → f n ≡ f 255) → (n : ℕ) → f n ≡ f (asByte n)
-unfolding asByte
-by-byte f same n = pick-cases (λ (m : ℕ). f n ≡ f m) (ltb n 255) n 255 (λ below. refl) (λ past. same n (ltb-false n 255 past))
+use Rattle.c_word.specs.Numbers.{asByte}
+use Rattle.c_word.specs.NumberLaws.{told-up-to}
 
 -- ---- the kind: each is refused
 
@@ -151,16 +147,16 @@ module _ (s : Seat) (c : Controller) (n v : ℕ) where
   -- a record of C's numbers comes to what it comes to as bytes
   pub past-a-byte : (k m : ℕ) → parted s c (whole k n m v) ≡ parted s c (whole (asByte k) (asByte n) (asByte m) v)
   past-a-byte k m =
-      by-byte (λ (j : ℕ). parted s c (whole j n m v)) (λ j past. ap (dealtParts s c) (kind-past n m v j past)) k
-      ∙ by-byte (λ (j : ℕ). parted s c (whole (asByte k) n j v)) (number-past (asByte k)) m
-      ∙ by-byte (λ (j : ℕ). parted s c (whole (asByte k) j (asByte m) v)) (λ j past. ap (dealtParts s c) (seat-past (asByte k) (asByte m) v j past)) n
+      told-up-to 255 (λ (j : ℕ). parted s c (whole j n m v)) (λ j past. ap (dealtParts s c) (kind-past n m v j past)) k
+      ∙ told-up-to 255 (λ (j : ℕ). parted s c (whole (asByte k) n j v)) (number-past (asByte k)) m
+      ∙ told-up-to 255 (λ (j : ℕ). parted s c (whole (asByte k) j (asByte m) v)) (λ j past. ap (dealtParts s c) (seat-past (asByte k) (asByte m) v j past)) n
 
 -- ---- a line, and a clock
 
 -- "line above 7 gives refusal 1"
 pub line-past : (c : Controller) (n : ℕ) → placed c n ≡ placed c (asByte n)
-line-past c = by-byte (placed c) (λ n past. place-refused c n (omega arith) ∙ sym (place-refused c 255 (omega arith)))
+line-past c = told-up-to 255 (placed c) (λ n past. place-refused c n (omega arith) ∙ sym (place-refused c 255 (omega arith)))
 
 -- "rate or clock not in the divisor list"
 pub clock-past : (rate n : ℕ) → divisorOf rate n ≡ divisorOf rate (asByte n)
-clock-past rate = by-byte (divisorOf rate) (λ n past. clock-refused rate n (omega arith) ∙ sym (clock-refused rate 255 (omega arith)))
+clock-past rate = told-up-to 255 (divisorOf rate) (λ n past. clock-refused rate n (omega arith) ∙ sym (clock-refused rate 255 (omega arith)))

@@ -7,9 +7,10 @@ use Rattle.controller.specs.Turns.{outputOf}
 use Rattle.records.specs.Events.{whole}
 use Rattle.records.specs.Parts.{parted}
 use Rattle.records.specs.declared.Touched.{Touched}
-use Rattle.embed.specs.Numbers.{asByte}
+use Rattle.c_word.specs.Numbers.{asByte}
 use Rattle.embed.specs.NumberLaws.{past-a-byte}
-use Rattle.embed.specs.Word.{Tells, Parted}
+use Rattle.c_word.specs.Word.{Tells}
+use Rattle.embed.specs.Told.{Parted}
 use borrow.Author.Needs.{needs}
 use Rattle.embed.proofs.play_parts.Statement.{statement}
 use Rattle.embed.proofs.play_parts.Tie as tie

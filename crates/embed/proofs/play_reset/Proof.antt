@@ -1,7 +1,7 @@
 use borrow.Author.Needs.{needs}
 use mathlib.Core.Path.{subst, ap}
 use Rattle.bench.specs.declared.Outcome.{Outcome}
-use Rattle.embed.specs.Word.{Told}
+use Rattle.embed.specs.Told.{Told}
 use Rattle.embed.proofs.play_reset.Statement.{statement}
 use Rattle.embed.proofs.play_reset.Tie as tie
 

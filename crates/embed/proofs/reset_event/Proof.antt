@@ -42,7 +42,7 @@ use Rattle.bench.specs.Steps.{met}
 use Rattle.bench.specs.declared.Bench.{Bench}
 use Rattle.bench.proofs.Bench as B
 use Rattle.bench.proofs.Bench.Laws as B′
-use Rattle.embed.specs.Word.{Told}
+use Rattle.embed.specs.Told.{Told}
 use Rattle.embed.specs.declared.Played.{Played}
 use Rattle.embed.proofs.Leaving.{stores, leaves}
 use Rattle.embed.proofs.Played as P

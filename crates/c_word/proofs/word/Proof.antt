@@ -1,9 +1,9 @@
 use mathlib.Core.Path.{sym}
 use Rattle.base.proofs.Cases.{no-letter}
-use Rattle.embed.specs.WordLaws.{put-together-plain, put-together-letter}
+use Rattle.c_word.specs.WordLaws.{put-together-plain, put-together-letter}
 use borrow.Author.Needs.{needs}
-use Rattle.embed.proofs.word.Statement.{statement}
-use Rattle.embed.proofs.word.Tie as tie
+use Rattle.c_word.proofs.word.Statement.{statement}
+use Rattle.c_word.proofs.word.Tie as tie
 
 pick-byte-requires : tie.Need-pick-byte-requires
 pick-byte-requires c κs = search needs

@@ -7,10 +7,6 @@ use lib.Dec.{eqb}
 use Rattle.base.specs.Bits.{bit, digit}
 use Rattle.base.specs.Answers.{refusalOf, valueOf, figuresOf}
 use Rattle.base.specs.declared.Answer.{Answer}
-use Rattle.controller.specs.Turns.{outputOf}
-use Rattle.records.specs.declared.Touched.{Touched}
-use Rattle.bench.specs.declared.Outcome.{Outcome}
-use Rattle.embed.specs.declared.PartsPlayed.{PartsPlayed}
 
 -- "refusal number (0 for none), answer in three hex capitals, output after the event", as one number;
 -- ticket 6: "The RBR answer gains these figures": "its marks and how many remain behind it", above the rest
@@ -59,13 +55,3 @@ pub record Reads (w : ℕ) (a : Answer) (high : Bool) : Type 0 where
 -- a word is the one of this answer and this output, and both can be read back from it
 abbrev pub Tells : ℕ → Answer → Bool → Type 0
 Tells w a high = (w ≡ wordOf a high) × Reads w a high
-
--- the same of what a record came to
-abbrev pub Told : ℕ → Outcome → Type 0
-Told w o = Tells w (o .answer) (o .output)
-
--- what came back is what a record made of its seat and the controller, and the word tells its answer and the output after it
-pub record Parted (r : PartsPlayed) (t : Touched) : Type 0 where
-  pub seat : r .seat ≡ t .seat
-  pub controller : r .controller ≡ t .controller
-  pub told : Tells (r .word) (t .answer) (outputOf (t .controller))

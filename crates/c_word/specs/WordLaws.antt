@@ -13,7 +13,7 @@ use Rattle.base.specs.AnswerLaws.{no-figures}
 use Rattle.base.specs.declared.Answer.{Answer}
 use Rattle.base.specs.declared.Figures.{Figures}
 use Rattle.base.specs.declared.Answer.the-variants.{Letter, Vector, Spurious, Refused}
-use Rattle.embed.specs.Word.{wordOf, answerIn, marksIn, behindIn, vectorIn, spuriousIn, Reads, Tells}
+use Rattle.c_word.specs.Word.{wordOf, answerIn, marksIn, behindIn, vectorIn, spuriousIn, Reads, Tells}
 
 -- an answer of 16 bits, and a refusal, marks and a number behind of 8: each has room in a word
 pub record Fits (a : Answer) : Type 0 where
