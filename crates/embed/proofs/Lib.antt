@@ -1,6 +1,5 @@
 -- What the walks share.
 mod Handing
-mod InMemory
 mod InPlace
 mod Leaving
 mod Looking
@@ -8,5 +7,3 @@ mod Places
 mod Restoring
 mod Storing
 pub mod Slips
-pub mod DivisorLaws
-pub mod LentLaws

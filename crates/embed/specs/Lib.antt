@@ -5,9 +5,7 @@ pub mod Outputs
 pub mod Tallies
 pub mod Settings
 pub mod Images
-pub mod Zeroed
 pub mod NumberLaws
 pub mod OutputsLaws
 pub mod SettingLaws
 pub mod VersionLaws
-pub mod ZeroedLaws

@@ -49,7 +49,7 @@ listed-below (suc (suc zero)) = refl
 listed-below (suc (suc (suc clock))) = refl
 
 -- a divisor from 65535 on is none of any rate
-past-divisor : (clock divisor rate : ℕ) → 65535 ≤ divisor → divisorOf rate clock ≡ Divisor divisor → ⊥
+pub past-divisor : (clock divisor rate : ℕ) → 65535 ≤ divisor → divisorOf rate clock ≡ Divisor divisor → ⊥
 past-divisor clock divisor rate past listed =
     let at = answered rate clock divisor listed in
     let small = each-below 65535 (divisorsOf clock) (listed-below clock) (omega arith) (at .row) in
@@ -75,7 +75,7 @@ rate-past divisor clock =
 
 -- ---- the LCR byte
 
-shape-below : (s : Shape) → Sized s → lcrOf s < 255
+pub shape-below : (s : Shape) → Sized s → lcrOf s < 255
 unfolding good
 shape-below s sized =
     let small : lcrOf s < 64 = ltb-true _ _ (both-hold (ltb (lcrOf s) 64) _ (lcr-good s sized) .0) in

@@ -31,11 +31,11 @@ use Rattle.seat.specs.Seats as seat
 use Rattle.records.specs.Events.{seatCount}
 use Rattle.bench.specs.declared.Bench.{Bench}
 use Rattle.bench.specs.Seats.{powerUp}
-use Rattle.embed.specs.Zeroed.{allHold, nought, eachOf}
-use Rattle.embed.specs.Zeroed.{characterTests, queueTests, settingsTests, receiverTests, transmitterTests, modemTests, channelTests}
-use Rattle.embed.specs.Zeroed.{linesTests, setupTests, operationTests, controllerTests, talliesTests, seatTests, benchTests}
-use Rattle.embed.specs.Zeroed.{zeroCharacter, zeroQueue, zeroSettings, zeroReceiver, zeroTransmitter, zeroModem, zeroChannel, zeroLines}
-use Rattle.embed.specs.Zeroed.{zeroSetup, zeroOperation, zeroController, zeroTallies, zeroSeat, zeroed}
+use Rattle.embed_laws.specs.Zeroed.{allHold, nought, eachOf}
+use Rattle.embed_laws.specs.Zeroed.{characterTests, queueTests, settingsTests, receiverTests, transmitterTests, modemTests, channelTests}
+use Rattle.embed_laws.specs.Zeroed.{linesTests, setupTests, operationTests, controllerTests, talliesTests, seatTests, benchTests}
+use Rattle.embed_laws.specs.Zeroed.{zeroCharacter, zeroQueue, zeroSettings, zeroReceiver, zeroTransmitter, zeroModem, zeroChannel, zeroLines}
+use Rattle.embed_laws.specs.Zeroed.{zeroSetup, zeroOperation, zeroController, zeroTallies, zeroSeat, zeroed}
 
 pub power-up-zeroed : zeroed powerUp ≡ true
 power-up-zeroed = refl

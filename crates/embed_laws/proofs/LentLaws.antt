@@ -65,18 +65,18 @@ use Rattle.bench.specs.MeetLaws.{outcome-dealt}
 use Rattle.bench.specs.Steps.{shown, dealt, outcome}
 use Rattle.bench.specs.OutcomeLaws.{outcome-output, outcome-refused}
 use Rattle.c_word.specs.Word.{answerIn, refusalIn, outputIn, marksIn, behindIn, Tells}
 use Rattle.embed.specs.Told.{Told}
 use Rattle.c_word.specs.WordLaws.{letter-back}
 use Rattle.embed.specs.Outputs.{outputs, outputsAt}
 use Rattle.embed.specs.OutputsLaws.{outputs-told, outputs-refused}
-use Rattle.embed.specs.Zeroed.{zeroed}
-use Rattle.embed.specs.ZeroedLaws.{power-up-zeroed}
+use Rattle.embed_laws.specs.Zeroed.{zeroed}
+use Rattle.embed_laws.specs.ZeroedLaws.{power-up-zeroed}
 use Rattle.embed.proofs.hailstoat_power_up as power-up
 use Rattle.embed.proofs.hailstoat_event as event
 use Rattle.embed.proofs.hailstoat_place as place
 use Rattle.embed.proofs.hailstoat_output as output
 use Rattle.embed.proofs.hailstoat_modem_outputs as modem
 use Rattle.embed.proofs.hailstoat_tallies as tallies
 
 -- a read of RBR, that is of register 0 with LCR bit 7 clear, is answered with the character that is taken
 rbr-answered : (b : Bench) (k s n v : ℕ) → k ≡ 0 → s < seatCount → n ≡ 0 → bit 7 (seat b s .channel .settings .lcr) ≡ false
