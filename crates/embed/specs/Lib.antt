@@ -1,10 +1,9 @@
 pub mod Bytes
 pub mod Version
-pub mod Told
+pub mod Parts
 pub mod Outputs
 pub mod Tallies
 pub mod Settings
-pub mod Images
 pub mod NumberLaws
 pub mod OutputsLaws
 pub mod SettingLaws

@@ -28,7 +28,8 @@ ghost use Rattle.bench.specs.Parts.{partly};
 ghost use Rattle.bench.specs.Steps.{met, outcome};
 ghost use Rattle.bench.specs.Tallies.{talliesOf};
 ghost use Rattle.c_word.specs.Word.{Tells};
-ghost use Rattle.embed.specs.Told.{Told, Parted};
+ghost use Rattle.c_bench.specs.Told.{Told};
+ghost use Rattle.embed.specs.Parts.{Parted};
 ghost use Rattle.embed.specs.Outputs.{outputs, outputsOf, outputsAt};
 ghost use Rattle.embed.specs.Tallies.{Counts};
 ghost use Rattle.embed.specs.Version.{version};
@@ -41,12 +42,6 @@ const SEATS: u32 = records::SEATS as u32;
 const VERSION: u32 = 30100;
 
 const BENCH_BYTES: usize = 812;
-
-// A bench after a master reset, and the word that tells of it.
-pub struct Played {
-    pub bench: Bench,
-    pub word: u64,
-}
 
 // A seat and the controller after a record, and the word that tells of it.
 pub struct PartsPlayed {
@@ -61,21 +56,7 @@ pub struct Counted {
     pub word: u64,
 }
 
-// The one record that touches every seat.
-fn play_reset(b: Bench) -> Played
-    ensures { λ r. ⌜ (r .bench ≡ met b MasterReset .bench) × Told (r .word) (met b MasterReset) ⌝ }
-{
-    let o = b.reset();
-    let next = o.bench;
-    let answer = o.answer;
-    let told = c_word::word(answer, o.output);
-    Played {
-        bench: next,
-        word: told,
-    }
-}
-
-// Any other record, on the two parts that it can touch.
+// Any record but a master reset, on the two parts that it can touch.
 fn play_parts(
     seat: Seat,
     controller: Controller,
@@ -196,7 +177,7 @@ pub extern "C" fn hailstoat_power_up(bench: &mut Bench)
 fn reset_event(bench: &mut Bench) -> u64
     ensures { λ r. ⌜ (now (bench .exit) ≡ met (now (bench .entry)) MasterReset .bench) × Told r (met (now (bench .entry)) MasterReset) ⌝ }
 {
-    let p = play_reset(*bench);
+    let p = c_bench::reset(*bench);
     *bench = p.bench;
     p.word
 }

@@ -29,8 +29,8 @@ use Rattle.image.specs.Items.{restores, itemOutcome}
 use Rattle.image.specs.Refusals.{refusal, restored}
 use Rattle.image.specs.ThereAndBack.{Outside}
 use Rattle.image.proofs.Statements.{statements}
-use Rattle.embed.specs.Told.{Told}
-use Rattle.embed.specs.Images.{SavesTold}
+use Rattle.c_bench.specs.Told.{Told}
+use Rattle.c_bench.specs.Told.{SavesTold}
 use Rattle.embed.proofs.hailstoat_save as save
 use Rattle.embed.proofs.hailstoat_restore as restore
 

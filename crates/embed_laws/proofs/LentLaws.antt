@@ -65,7 +65,7 @@ use Rattle.bench.specs.MeetLaws.{outcome-dealt}
 use Rattle.bench.specs.Steps.{shown, dealt, outcome}
 use Rattle.bench.specs.OutcomeLaws.{outcome-output, outcome-refused}
 use Rattle.c_word.specs.Word.{answerIn, refusalIn, outputIn, marksIn, behindIn, Tells}
-use Rattle.embed.specs.Told.{Told}
+use Rattle.c_bench.specs.Told.{Told}
 use Rattle.c_word.specs.WordLaws.{letter-back}
 use Rattle.embed.specs.Outputs.{outputs, outputsAt}
 use Rattle.embed.specs.OutputsLaws.{outputs-told, outputs-refused}

@@ -10,7 +10,7 @@ use Rattle.records.specs.declared.Touched.{Touched}
 use Rattle.c_word.specs.Numbers.{asByte}
 use Rattle.embed.specs.NumberLaws.{past-a-byte}
 use Rattle.c_word.specs.Word.{Tells}
-use Rattle.embed.specs.Told.{Parted}
+use Rattle.embed.specs.Parts.{Parted}
 use borrow.Author.Needs.{needs}
 use Rattle.embed.proofs.play_parts.Statement.{statement}
 use Rattle.embed.proofs.play_parts.Tie as tie

@@ -52,7 +52,7 @@ use Rattle.bench.specs.declared.Bench.{Bench}
 use Rattle.bench.proofs.Bench as B
 use Rattle.bench.proofs.Bench.Laws as B′
 use Rattle.embed.specs.Bytes.{seatBytes, seatsBytes}
-use Rattle.embed.specs.Told.{Parted}
+use Rattle.embed.specs.Parts.{Parted}
 use Rattle.embed.specs.declared.PartsPlayed.{PartsPlayed}
 use Rattle.embed.proofs.InPlace.{seat-place, seat-val, rest-val, seats-lie, controller-lies, cell-out, cell-in, Kept, reaches, comes-back}
 use Rattle.embed.proofs.Storing.{bare, found, copied, finds, copies, stores, leaves}

@@ -1,4 +1,4 @@
--- `hailstoat_restore`, walked by hand. The loan of the bench is opened and the bench copied out; what `play_restore` returns is stored in its place, and
+-- `hailstoat_restore`, walked by hand. The loan of the bench is opened and the bench copied out; what `c_bench::restore` returns is stored in its place, and
 -- the loan is closed there. The buffer is handed on, and kept.
 use mathlib.Core.Path.{_≡_, refl, ap}
 use Prim.Native.Nat.{ℕ, _<_, _^_}
@@ -45,18 +45,18 @@ use Rattle.bench.specs.declared.Bench.{Bench}
 use Rattle.bench.specs.declared.Outcome.{Outcome}
 use Rattle.bench.proofs.Bench as B
 use Rattle.bench.proofs.Bench.Laws as B′
-use Rattle.embed.specs.Told.{Told}
-use Rattle.embed.specs.declared.Played.{Played}
+use Rattle.c_bench.specs.Told.{Told}
+use Rattle.c_bench.specs.declared.Played.{Played}
 use Rattle.embed.proofs.Looking.{bench-val, KnownBench}
 use Rattle.embed.proofs.Places.{envAt, typeAt, past}
 use Rattle.embed.proofs.Restoring.{locals, stores, leaves}
 use Rattle.embed.proofs.Storing.{bare, holds}
-use Rattle.embed.proofs.Played as P
-use Rattle.embed.proofs.Played.Laws as P′
-use Rattle.embed.proofs.images.play_restore as play
-use Rattle.embed.proofs.images.play_restore.Symbol as play-def
-use Rattle.embed.proofs.images.play_restore.Symbol.{name as #embed·play}
-use Rattle.embed.proofs.images.play_restore.Met as play-thm
+use Rattle.c_bench.proofs.Played as P
+use Rattle.c_bench.proofs.Played.Laws as P′
+use Rattle.c_bench.proofs.restore as play
+use Rattle.c_bench.proofs.restore.Symbol as play-def
+use Rattle.c_bench.proofs.restore.Symbol.{name as #c-bench·restore}
+use Rattle.c_bench.proofs.restore.Met as play-thm
 use Rattle.embed.proofs.images.hailstoat_restore.Key.{name as #embed·self}
 use Rattle.embed.proofs.images.hailstoat_restore as f
 use Rattle.embed.proofs.images.hailstoat_restore.Statement as stated
@@ -72,7 +72,7 @@ buffer = typeAt 2 (code.function .locals)
 abbrev stayed : Stays (f.ended .signature .params) (f.ended .kept)
 stayed = (stay-ref (0 ∷ []) tt (plain (λ _. B.the-row)), (stay-none-slice (1 ∷ []) tt (plain (λ _. u8)) yes, (stay-none (λ _. usize) yes, tt)))
 
--- what is known of the fields of what `play_restore` returns
+-- what is known of the fields of what `c_bench::restore` returns
 is-bench : (r : Played) (v : Val) → Is P.the-row r (v ∷ []) → KnownBench (r .bench)
 is-bench r v is = LL.owed P.the-type P′.the-laws r (v ∷ []) is .0
 
@@ -141,8 +141,8 @@ module _ {M : Type 1} (𝓤 : URA M) (H : Heap 𝓤) (A : Atoms 𝓤) (W : Given
       qed W (Token ∷ Buffer ∷ []) ∵ nothing ! $ owned ! usize (Is usize) (uint-makes 𝓤 H A W w64) n _ (refl, fn) $ fjoin ! $ move ! (2 ∷ 0 ∷ []) $ fjoin ! $
       owned ! B.the-row (Is B.the-row) ((LL.makes B.the-type B′.the-plain) 𝓤 H A) h (bench-val h ∷ []) was $ fjoin ! $ move ! (1 ∷ 0 ∷ []) $ join ! $ frame ! $ done !
 
-  module _ (Cs : Calls 𝓤 H) (Λ : Loops 𝓤 H) (fm : FmC 𝓤 H (W .laws) Cs) (known : Triple 𝓤 (Cs #embed·play) (Play 𝓤 H A at-mem run)) where
-    -- what `play_restore` returned is put in its local; its bench is stored where the old one was, the loan is closed there, and the word returned
+  module _ (Cs : Calls 𝓤 H) (Λ : Loops 𝓤 H) (fm : FmC 𝓤 H (W .laws) Cs) (known : Triple 𝓤 (Cs #c-bench·restore) (Play 𝓤 H A at-mem run)) where
+    -- what `c_bench::restore` returned is put in its local; its bench is stored where the old one was, the loan is closed there, and the word returned
     ends : (l₀ l₁ l₂ l₃ l₄ l₅ : ℕ) (w : Val) (r : Played) → Is P.the-row r (w ∷ []) → Ensured r
         → Seq Go W
         (‵ (fat fullShare (rawTy B′.mir) b o (bench-val h)) ∷ ‵ (fobor κ q (Body (mem B.the-row) b o γ)) ∷ ‵ (fobs γ (B.the-row .coded .code h)) ∷ ‵ (fauth γ (B.the-row .coded .code h)) ∷ Token ∷ Buffer
@@ -183,7 +183,7 @@ module _ {M : Type 1} (𝓤 : URA M) (H : Heap 𝓤) (A : Atoms 𝓤) (W : Given
         keep ! (1 ∷ 2 ∷ 3 ∷ 4 ∷ 0 ∷ 5 ∷ 6 ∷ 7 ∷ 8 ∷ 9 ∷ 10 ∷ 11 ∷ 12 ∷ 13 ∷ 14 ∷ 15 ∷ 16 ∷ 17 ∷ []) $ ends l₀ l₁ l₂ l₃ l₄ l₅ w r is eq))))))))))))
 
 module _ {M : Type 1} (𝓤 : URA M) (H : Heap 𝓤) (A : Atoms 𝓤) (W : Given 𝓤 H A) (at-mem : Memory → SProp 𝓤) (run : Routine → Fun 𝓤) where
-  walks : (Cs : Calls 𝓤 H) (Λ : Loops 𝓤 H) → FmC 𝓤 H (W .laws) Cs → Triple 𝓤 (Cs #embed·play) (Play 𝓤 H A at-mem run) → Walks 𝓤 H A f.ended stayed (WpFn 𝓤 H Cs Λ code.function) (f.clauses 𝓤 H A at-mem run)
+  walks : (Cs : Calls 𝓤 H) (Λ : Loops 𝓤 H) → FmC 𝓤 H (W .laws) Cs → Triple 𝓤 (Cs #c-bench·restore) (Play 𝓤 H A at-mem run) → Walks 𝓤 H A f.ended stayed (WpFn 𝓤 H Cs Λ code.function) (f.clauses 𝓤 H A at-mem run)
   walks Cs Λ fm known = walked 𝓤 H A f.ended stayed (f.clauses 𝓤 H A at-mem run) (WpFn 𝓤 H Cs Λ code.function)
       (λ κs. (ptr-vals, (slice-vals, (uint-vals w64, tt)))) (λ κs. (mut-tells (named 0) (κs .0) B.the-row, (shr-slice-tells (named 1) (κs .1 .0) u8, (uint-tells w64, tt))))
       (λ κs qs bounds a _ are. via 𝓤 _ (fst∗ 𝓤 _ (emp 𝓤)) (walk 𝓤 H A W at-mem run (κs .0) (κs .1 .0) (qs .0) (qs .1 .0)
@@ -192,7 +192,7 @@ module _ {M : Type 1} (𝓤 : URA M) (H : Heap 𝓤) (A : Atoms 𝓤) (W : Given
   goes : AllGo 𝓤 H A W 2 (f.signature .params) (f.ended .kept) stayed
   goes = (goes-ref 𝓤 H A W 2 0 tt (plain (λ _. B.the-row)), (goes-none-slice 𝓤 H A W 2 (1 ∷ []) tt (plain (λ _. u8)) yes, (goes-none 𝓤 H A W 2 (λ _. usize) yes (λ κs x f. refl), tt)))
 
-meets : {M : Type 1} (𝓤 : URA M) (H : Heap 𝓤) (A : Atoms 𝓤) → Given 𝓤 H A → (at-mem : Memory → SProp 𝓤) (run : Routine → Fun 𝓤) (𝓣 : Tables 𝓤 H) → Triple 𝓤 (𝓣 .C #embed·play) (Play 𝓤 H A at-mem run)
+meets : {M : Type 1} (𝓤 : URA M) (H : Heap 𝓤) (A : Atoms 𝓤) → Given 𝓤 H A → (at-mem : Memory → SProp 𝓤) (run : Routine → Fun 𝓤) (𝓣 : Tables 𝓤 H) → Triple 𝓤 (𝓣 .C #c-bench·restore) (Play 𝓤 H A at-mem run)
     → Meets 𝓤 H A f.signature (WpFn 𝓤 H (𝓣 .C) (𝓣 .Λ) code.function) (f.spec 𝓤 H A at-mem run)
 meets 𝓤 H A W at-mem run 𝓣 known = walk-meets 𝓤 H A f.ended stayed W (goes 𝓤 H A W at-mem run) (f.clauses 𝓤 H A at-mem run) (WpFn 𝓤 H (𝓣 .C) (𝓣 .Λ) code.function) (WpFn-mono 𝓤 H (W .laws) 𝓣 code.function) (walks 𝓤 H A W at-mem run (𝓣 .C) (𝓣 .Λ) (fmOf 𝓤 H (W .laws) 𝓣) known)
 
@@ -202,4 +202,4 @@ hailstoat-restore-spec 𝓤 H 𝓜 𝓖 𝓡 =
     entered 𝓤 H (tripleOf 𝓤 H (𝓖 .A) f.signature (f.spec 𝓤 H (𝓖 .A) (𝓜 .mem) (𝓡 .run)))
     (tables 𝓤 H 𝓜 𝓡 code.env .C) (tables 𝓤 H 𝓜 𝓡 code.env .Λ) #embed·self code.function (code.unfolded 𝓤 H 𝓜 𝓡)
     (meets 𝓤 H (𝓖 .A) (givenOf 𝓤 H 𝓜 𝓖) (𝓜 .mem) (𝓡 .run) (tablesOf 𝓤 H 𝓜 (tables 𝓤 H 𝓜 𝓡 code.env))
-    (cited 𝓤 H (Play 𝓤 H (𝓖 .A) (𝓜 .mem) (𝓡 .run)) 𝓜 𝓡 code.env #embed·play play-def.routine code.calls-embed·images·play-restore (play-thm.met 𝓤 H 𝓜 𝓖 𝓡)))
+    (cited 𝓤 H (Play 𝓤 H (𝓖 .A) (𝓜 .mem) (𝓡 .run)) 𝓜 𝓡 code.env #c-bench·restore play-def.routine code.calls-c-bench·restore (play-thm.met 𝓤 H 𝓜 𝓖 𝓡)))

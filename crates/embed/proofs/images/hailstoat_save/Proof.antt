@@ -1,4 +1,4 @@
--- `hailstoat_save`, walked by hand. The shared loan is looked into, the bench copied out and the loan shut; the buffer goes to `save_word` for good, whose
+-- `hailstoat_save`, walked by hand. The shared loan is looked into, the bench copied out and the loan shut; the buffer goes to `c_bench::save` for good, whose
 -- word is returned.
 use mathlib.Core.Path.{_≡_, refl}
 use Prim.Native.Nat.{ℕ, _<_, _^_}
@@ -40,12 +40,12 @@ use denote.Exit.{yes}
 use Rattle.bench.specs.declared.Bench.{Bench}
 use Rattle.bench.proofs.Bench as B
 use Rattle.bench.proofs.Bench.Laws as B′
-use Rattle.embed.specs.Images.{SavesTold}
+use Rattle.c_bench.specs.Told.{SavesTold}
 use Rattle.embed.proofs.Looking.{bench-val, KnownBench, looks-at-bench, looks-away-bench}
-use Rattle.embed.proofs.images.save_word as asked
-use Rattle.embed.proofs.images.save_word.Symbol as asked-def
-use Rattle.embed.proofs.images.save_word.Symbol.{name as #embed·asked}
-use Rattle.embed.proofs.images.save_word.Met as asked-thm
+use Rattle.c_bench.proofs.save as asked
+use Rattle.c_bench.proofs.save.Symbol as asked-def
+use Rattle.c_bench.proofs.save.Symbol.{name as #embed·asked}
+use Rattle.c_bench.proofs.save.Met as asked-thm
 use Rattle.embed.proofs.images.hailstoat_save.Key.{name as #embed·self}
 use Rattle.embed.proofs.images.hailstoat_save as f
 use Rattle.embed.proofs.images.hailstoat_save.Statement as stated
@@ -133,7 +133,7 @@ module _ {M : Type 1} (𝓤 : URA M) (H : Heap 𝓤) (A : Atoms 𝓤) (W : Given
         move ! (2 ∷ 3 ∷ []) $ use2 W (raw (Asked 𝓤 H A at-mem run .pre to-asked)) (goes-asked was) $
         calls-at ! fm (Asked 𝓤 H A at-mem run) known to-asked (and-then ! (load ! (from ! (stop !)) (look ! 8 refl)) (and-then ! (load ! (from ! (stop !)) (look ! 4 refl)) (and-then ! (load ! (from ! (stop !)) (look ! 10 refl)) (no-more !)))) (λ w.
         use1 W (later (some (λ (r : ℕ). ((‵ (flft κ′ q′) ⊛ ‵ ftrue) ⊛ ‵ (u64 .own r (w ∷ []))) ⊛ raw (ensured 𝓤 H A asked.ended (asked.clauses 𝓤 H A at-mem run) (κ′, tt) args tt r)))) (id⊢ 𝓤 _) $ await ! tt $ pick ! (λ r.
-        -- what `save_word` ensures, at some last list
+        -- what `c_bench::save` ensures, at some last list
         split ! $ move ! (1 ∷ []) $ use1 W (some (λ (zs : Unit {0} × (List ℕ × (Unit {0} × Unit {0}))). ‵ (lasts asked.ended (κ′, tt) args zs) ⊛ raw (fact 𝓤 (Ensured r (zs .1 .0))))) (id⊢ 𝓤 _) $ pick ! (λ zs.
         split ! $ move ! (1 ∷ []) $ heard ! (Ensured r (zs .1 .0)) (λ eq. fsplit ! $ drop ! $ fsplit ! $ fsplit ! $ move ! (1 ∷ []) $ feqL ! (λ long.
         -- [the last list; …; the other token and the word; the token; the fractured borrow; res; the locals]
@@ -164,4 +164,4 @@ hailstoat-save-spec 𝓤 H 𝓜 𝓖 𝓡 =
     entered 𝓤 H (tripleOf 𝓤 H (𝓖 .A) f.signature (f.spec 𝓤 H (𝓖 .A) (𝓜 .mem) (𝓡 .run)))
     (tables 𝓤 H 𝓜 𝓡 code.env .C) (tables 𝓤 H 𝓜 𝓡 code.env .Λ) #embed·self code.function (code.unfolded 𝓤 H 𝓜 𝓡)
     (meets 𝓤 H (𝓖 .A) (givenOf 𝓤 H 𝓜 𝓖) (𝓜 .mem) (𝓡 .run) (tablesOf 𝓤 H 𝓜 (tables 𝓤 H 𝓜 𝓡 code.env))
-    (cited 𝓤 H (Asked 𝓤 H (𝓖 .A) (𝓜 .mem) (𝓡 .run)) 𝓜 𝓡 code.env #embed·asked asked-def.routine code.calls-embed·images·save-word (asked-thm.met 𝓤 H 𝓜 𝓖 𝓡)))
+    (cited 𝓤 H (Asked 𝓤 H (𝓖 .A) (𝓜 .mem) (𝓡 .run)) 𝓜 𝓡 code.env #embed·asked asked-def.routine code.calls-c-bench·save (asked-thm.met 𝓤 H 𝓜 𝓖 𝓡)))

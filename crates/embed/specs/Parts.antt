@@ -1,15 +1,9 @@
--- What a call over a lent bench came to, as the word tells it.
-use Prim.Native.Nat.{ℕ}
+-- What a record made of the parts that it can touch, as the word tells it.
 use mathlib.Core.Path.{_≡_}
 use Rattle.controller.specs.Turns.{outputOf}
 use Rattle.records.specs.declared.Touched.{Touched}
-use Rattle.bench.specs.declared.Outcome.{Outcome}
 use Rattle.c_word.specs.Word.{Tells}
 use Rattle.embed.specs.declared.PartsPlayed.{PartsPlayed}
-
--- the word tells the answer, and the output after it
-abbrev pub Told : ℕ → Outcome → Type 0
-Told w o = Tells w (o .answer) (o .output)
 
 -- what came back is what a record made of its seat and the controller, and the word tells its answer and the output after it
 pub record Parted (r : PartsPlayed) (t : Touched) : Type 0 where

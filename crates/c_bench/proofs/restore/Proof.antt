@@ -5,10 +5,10 @@ use Rattle.controller.specs.Turns.{outputOf}
 use Rattle.bench.specs.Steps.{shown}
 use Rattle.image.specs.declared.Restored.{Restored}
 use Rattle.c_word.specs.Word.{Tells}
-use Rattle.embed.specs.Told.{Told}
+use Rattle.c_bench.specs.Told.{Told}
 use borrow.Author.Needs.{needs}
-use Rattle.embed.proofs.images.play_restore.Statement.{statement}
-use Rattle.embed.proofs.images.play_restore.Tie as tie
+use Rattle.c_bench.proofs.restore.Statement.{statement}
+use Rattle.c_bench.proofs.restore.Tie as tie
 
 restore-requires : tie.Need-restore-requires
 restore-requires c κs = search needs
@@ -27,5 +27,5 @@ came w o u high is shows told =
 returns : tie.Need-returns
 returns c = came (c .word .result) (c .before .before .before .before .restore .result) _ (c .before .output .result) (c .before .before .before .before .restore .ensures) (c .before .output .ensures) (c .word .ensures)
 
-pub play-restore-spec : {M : Type 1} → statement M
-play-restore-spec = tie.close (tie.spec restore-requires output-requires word-requires returns)
+pub restore-spec : {M : Type 1} → statement M
+restore-spec = tie.close (tie.spec restore-requires output-requires word-requires returns)
