@@ -1,14 +1,26 @@
-// What C does with a whole bench, by value: a master reset, a save and a restore, each with the word that tells of it.
+// What C does to a bench, by value, each with the word that tells of it: a record, on the parts that it can touch, a save, and a restore.
 use bench::Bench;
+use controller::Controller;
+use seat::Seat;
 ghost use mathlib.Core.Path.{_≡_};
+ghost use Rattle.records.specs.Events.{whole};
+ghost use Rattle.records.specs.Parts.{parted};
 ghost use Rattle.records.specs.declared.Event.the-variants.{MasterReset};
 ghost use Rattle.bench.specs.Steps.{met};
 ghost use Rattle.image.specs.Items.{restores, itemOutcome};
 ghost use Rattle.c_bench.specs.Told.{Plays, SavesTold};
+ghost use Rattle.c_bench.specs.Parts.{Parted};
 
 // A bench after what was done to it, and the word that tells of it.
 pub struct Played {
     pub bench: Bench,
+    pub word: u64,
+}
+
+// A seat and the controller after a record, and the word that tells of it.
+pub struct PartsPlayed {
+    pub seat: Seat,
+    pub controller: Controller,
     pub word: u64,
 }
 
@@ -22,6 +34,36 @@ pub fn reset(b: Bench) -> Played
     let told = c_word::word(answer, o.output);
     Played {
         bench: next,
+        word: told,
+    }
+}
+
+// Any record but a master reset, on the two parts that it can touch.
+pub fn parts(
+    seat: Seat,
+    controller: Controller,
+    kind: u32,
+    n: u32,
+    number: u32,
+    value: u8,
+) -> PartsPlayed
+    ensures { λ r. ⌜ Parted r (parted seat controller (whole kind n number value)) ⌝ }
+{
+    let t = records::step_parts(
+        seat,
+        controller,
+        c_word::as_byte(kind),
+        c_word::as_byte(n),
+        c_word::as_byte(number),
+        value,
+    );
+    let next = t.seat;
+    let moved = t.controller;
+    let answer = t.answer;
+    let told = c_word::word(answer, moved.output());
+    PartsPlayed {
+        seat: next,
+        controller: moved,
         word: told,
     }
 }

@@ -1,6 +1,5 @@
 pub mod Bytes
 pub mod Version
-pub mod Parts
 pub mod Outputs
 pub mod Tallies
 pub mod Settings

@@ -21,7 +21,6 @@ ghost use Rattle.rates.specs.Rates.{divisorOf};
 ghost use Rattle.controller.specs.Steps.{placed};
 ghost use Rattle.controller.specs.Turns.{outputOf};
 ghost use Rattle.records.specs.Events.{whole};
-ghost use Rattle.records.specs.Parts.{parted};
 ghost use Rattle.records.specs.declared.Event.the-variants.{MasterReset};
 ghost use Rattle.bench.specs.Seats.{powerUp};
 ghost use Rattle.bench.specs.Parts.{partly};
@@ -29,7 +28,6 @@ ghost use Rattle.bench.specs.Steps.{met, outcome};
 ghost use Rattle.bench.specs.Tallies.{talliesOf};
 ghost use Rattle.c_word.specs.Word.{Tells};
 ghost use Rattle.c_bench.specs.Told.{Told};
-ghost use Rattle.embed.specs.Parts.{Parted};
 ghost use Rattle.embed.specs.Outputs.{outputs, outputsOf, outputsAt};
 ghost use Rattle.embed.specs.Tallies.{Counts};
 ghost use Rattle.embed.specs.Version.{version};
@@ -43,47 +41,10 @@ const VERSION: u32 = 30100;
 
 const BENCH_BYTES: usize = 812;
 
-// A seat and the controller after a record, and the word that tells of it.
-pub struct PartsPlayed {
-    pub seat: Seat,
-    pub controller: Controller,
-    pub word: u64,
-}
-
 // The five tallies of a seat, which are 0 where the seat is not there, and the word that tells which.
 pub struct Counted {
     pub five: Five,
     pub word: u64,
-}
-
-// Any record but a master reset, on the two parts that it can touch.
-fn play_parts(
-    seat: Seat,
-    controller: Controller,
-    kind: u32,
-    n: u32,
-    number: u32,
-    value: u8,
-) -> PartsPlayed
-    ensures { λ r. ⌜ Parted r (parted seat controller (whole kind n number value)) ⌝ }
-{
-    let t = records::step_parts(
-        seat,
-        controller,
-        c_word::as_byte(kind),
-        c_word::as_byte(n),
-        c_word::as_byte(number),
-        value,
-    );
-    let next = t.seat;
-    let moved = t.controller;
-    let answer = t.answer;
-    let told = c_word::word(answer, moved.output());
-    PartsPlayed {
-        seat: next,
-        controller: moved,
-        word: told,
-    }
 }
 
 fn place_word(controller: Controller, line: u32) -> u64
@@ -190,7 +151,7 @@ fn seat_event(bench: &mut Bench, kind: u32, seat: u32, number: u32, value: u8) -
 {
     let at = seat as usize % records::SEATS;
     let held = &mut bench.seats[at];
-    let p = play_parts(*held, bench.controller, kind, seat, number, value);
+    let p = c_bench::parts(*held, bench.controller, kind, seat, number, value);
     *held = p.seat;
     bench.controller = p.controller;
     p.word

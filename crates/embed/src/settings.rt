@@ -27,7 +27,12 @@ pub extern "C" fn hailstoat_read_setting(line: &[u8], clock: u32, lcr: &mut u8) 
 
 // The line of a divisor and an LCR byte, put at the start of the buffer; the answer is its length. In a refusal the buffer stays.
 #[no_mangle]
-pub extern "C" fn hailstoat_write_setting(divisor: u32, lcr: u32, clock: u32, buffer: &mut [u8]) -> u64
+pub extern "C" fn hailstoat_write_setting(
+    divisor: u32,
+    lcr: u32,
+    clock: u32,
+    buffer: &mut [u8],
+) -> u64
     ensures { λ r. ⌜ WritesTold clock divisor lcr (now (buffer .entry)) (now (buffer .exit)) r ⌝ }
 {
     let written = setting_lines::write(

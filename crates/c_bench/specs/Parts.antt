@@ -3,7 +3,7 @@ use mathlib.Core.Path.{_≡_}
 use Rattle.controller.specs.Turns.{outputOf}
 use Rattle.records.specs.declared.Touched.{Touched}
 use Rattle.c_word.specs.Word.{Tells}
-use Rattle.embed.specs.declared.PartsPlayed.{PartsPlayed}
+use Rattle.c_bench.specs.declared.PartsPlayed.{PartsPlayed}
 
 -- what came back is what a record made of its seat and the controller, and the word tells its answer and the output after it
 pub record Parted (r : PartsPlayed) (t : Touched) : Type 0 where

@@ -8,12 +8,12 @@ use Rattle.records.specs.Events.{whole}
 use Rattle.records.specs.Parts.{parted}
 use Rattle.records.specs.declared.Touched.{Touched}
 use Rattle.c_word.specs.Numbers.{asByte}
-use Rattle.embed.specs.NumberLaws.{past-a-byte}
+use Rattle.c_bench.specs.NumberLaws.{past-a-byte}
 use Rattle.c_word.specs.Word.{Tells}
-use Rattle.embed.specs.Parts.{Parted}
+use Rattle.c_bench.specs.Parts.{Parted}
 use borrow.Author.Needs.{needs}
-use Rattle.embed.proofs.play_parts.Statement.{statement}
-use Rattle.embed.proofs.play_parts.Tie as tie
+use Rattle.c_bench.proofs.parts.Statement.{statement}
+use Rattle.c_bench.proofs.parts.Tie as tie
 
 as-byte-requires : tie.Need-as-byte-requires
 as-byte-requires c κs = search needs
@@ -50,5 +50,5 @@ returns c =
     ∙ as-bytes _ _ _ _ _ _ _ _ _ (c .before .before .before .before .before .before .before .as-byte .ensures) (c .before .before .before .before .before .before .as-byte2 .ensures) (c .before .before .before .before .before .as-byte3 .ensures))
     (c .before .output .ensures) (c .word .ensures)
 
-pub play-parts-spec : {M : Type 1} → statement M
-play-parts-spec = tie.close (tie.spec as-byte-requires as-byte-requires-2 as-byte-requires-3 step-parts-requires output-requires word-requires returns)
+pub parts-spec : {M : Type 1} → statement M
+parts-spec = tie.close (tie.spec as-byte-requires as-byte-requires-2 as-byte-requires-3 step-parts-requires output-requires word-requires returns)
