@@ -1,3 +1,4 @@
 pub mod Told
 pub mod Parts
 pub mod NumberLaws
+pub mod OneLaws

@@ -4,6 +4,7 @@ pub mod Outputs
 pub mod Tallies
 pub mod Settings
 pub mod NumberLaws
+pub mod OneLaws
 pub mod OutputsLaws
 pub mod SettingLaws
 pub mod VersionLaws
