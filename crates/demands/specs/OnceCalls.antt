@@ -1,6 +1,7 @@
 -- A line for every public call, room by room: its contract leaves no second outcome. The line's name is the call's, and tools/before/05-once
 -- fails where a call has no line. Programs, which nothing calls, have none.
 use Rattle.base.proofs as base
+use Rattle.c_word.proofs as c_word
 use Rattle.queue.proofs as queue
 use Rattle.rates.proofs as rates
 use Rattle.setting_lines.proofs as setting_lines
@@ -25,6 +26,7 @@ use Rattle.image.proofs as image
 use Rattle.listing.proofs as listing
 use Rattle.lesson.proofs as lesson
 use Rattle.streams.proofs as streams
+use Rattle.c_bench.proofs as c_bench
 use Rattle.embed.proofs as embed
 use Rattle.demands.specs.Once.{Free, Once}
 
@@ -38,6 +40,13 @@ pub record BaseOnce (M : Type 1) : Type 2 where
   pub base·pick-flag : Once M base.pick_flag.ended base.pick_flag.clauses base.pick_flag.spec
   pub base·nibble : Once M base.nibble.ended base.nibble.clauses base.nibble.spec
   pub base·byte-of : Once M base.byte_of.ended base.byte_of.clauses base.byte_of.spec
+
+-- ---- c_word: C's numbers and its word
+
+pub record CWordOnce (M : Type 1) : Type 2 where
+  pub c-word·as-byte : Once M c_word.as_byte.ended c_word.as_byte.clauses c_word.as_byte.spec
+  pub c-word·as-divisor : Once M c_word.as_divisor.ended c_word.as_divisor.clauses c_word.as_divisor.spec
+  pub c-word·word : Once M c_word.word.ended c_word.word.clauses c_word.word.spec
 
 -- ---- queue: a queue
 
@@ -274,7 +283,15 @@ pub record StreamsOnce (M : Type 1) : Type 2 where
   pub streams·script-rows : Free M streams.script_rows.ended streams.script_rows.clauses streams.script_rows.spec
   pub streams·Stream·next : Free M streams.Stream.next.ended streams.Stream.next.clauses streams.Stream.next.spec
 
--- ---- embed: the C interface, with the bench that is lent back
+-- ---- c_bench: what C does to a bench, by value
+
+pub record CBenchOnce (M : Type 1) : Type 2 where
+  pub c-bench·reset : Once M c_bench.reset.ended c_bench.reset.clauses c_bench.reset.spec
+  pub c-bench·parts : Once M c_bench.parts.ended c_bench.parts.clauses c_bench.parts.spec
+  pub c-bench·save : Once M c_bench.save.ended c_bench.save.clauses c_bench.save.spec
+  pub c-bench·restore : Once M c_bench.restore.ended c_bench.restore.clauses c_bench.restore.spec
+
+-- ---- embed: the C interface, with all that is lent back
 
 pub record EmbedOnce (M : Type 1) : Type 2 where
   pub embed·hailstoat-version : Once M embed.hailstoat_version.ended embed.hailstoat_version.clauses embed.hailstoat_version.spec
@@ -286,3 +303,7 @@ pub record EmbedOnce (M : Type 1) : Type 2 where
   pub embed·hailstoat-output : Once M embed.hailstoat_output.ended embed.hailstoat_output.clauses embed.hailstoat_output.spec
   pub embed·hailstoat-modem-outputs : Once M embed.hailstoat_modem_outputs.ended embed.hailstoat_modem_outputs.clauses embed.hailstoat_modem_outputs.spec
   pub embed·hailstoat-tallies : Once M embed.hailstoat_tallies.ended embed.hailstoat_tallies.clauses embed.hailstoat_tallies.spec
+  pub embed·hailstoat-read-setting : Once M embed.hailstoat_read_setting.ended embed.hailstoat_read_setting.clauses embed.hailstoat_read_setting.spec
+  pub embed·hailstoat-write-setting : Once M embed.hailstoat_write_setting.ended embed.hailstoat_write_setting.clauses embed.hailstoat_write_setting.spec
+  pub embed·hailstoat-save : Once M embed.hailstoat_save.ended embed.hailstoat_save.clauses embed.hailstoat_save.spec
+  pub embed·hailstoat-restore : Once M embed.hailstoat_restore.ended embed.hailstoat_restore.clauses embed.hailstoat_restore.spec
