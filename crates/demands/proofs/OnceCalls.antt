@@ -208,6 +208,7 @@ controller-once M =
       controller·Controller·power-up = value _ refl (λ κ a v w. refl);
       controller·Controller·settle = value _ refl (λ κ a v w. refl);
       controller·Controller·output = value _ refl (λ κ a v w. refl);
+      controller·Controller·requests = value _ refl (λ κ a v w. refl);
       controller·Controller·read = value _ refl (λ κ a v w. refl);
       controller·Controller·write = value _ refl (λ κ a v w. refl);
       controller·Controller·acknowledge = value _ refl (λ κ a v w. refl);
@@ -262,6 +263,8 @@ lesson-once M =
           let same : r ≡ s = p .told ∙ sym (q .told) in
           let bytes = p .bytes ∙ ap (λ (l : Lesson). handedOut l (now (a .0)) (now (a .1 .0))) same ∙ sym (q .bytes) in
           (same, λ i. (tt, (bytes i, tt))));
+      lesson·behind = told _ refl (λ κ a r s v w p q. (p .0 ∙ sym (q .0), refl));
+      lesson·comment-at = told _ refl (λ κ a r s v w p q. (p .0 ∙ sym (q .0), refl));
     }
 
 pub streams-once : (M : Type 1) → StreamsOnce M

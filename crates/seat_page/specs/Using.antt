@@ -1,4 +1,4 @@
--- Which seats a state tells of. docs/TELLING.md, "`--show`: the state": "A seat is in use unless it is as at power-up: one of IER, FCR, LCR, MCR,
+-- Which seats a state tells of. docs/TELLING.md, "`--show`: the state": "A seat is in use where one of IER, FCR, LCR, MCR,
 -- SCRATCH, DLL and DLM is not 0, or a modem level or a change bit is set, or something is in the transmit queue or the shift register, or the
 -- holding-empty flag is set, or a character has arrived."
 use Prim.Native.Nat.{ℕ}
