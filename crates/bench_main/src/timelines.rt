@@ -69,8 +69,8 @@ pub(crate) fn begin(place: usize, used: u8, bench: Bench) -> i32 {
     make(&name[..end], used, bench)
 }
 
-// A timeline that cannot be written on is removed.
-fn remove(file: i32, tell: bool) {
+// A timeline that is not whole is removed.
+fn remove(file: i32) {
     let mut word = words::long_word();
     let mut name = io::buffer();
     let words = words::read();
@@ -79,12 +79,8 @@ fn remove(file: i32, tell: bool) {
         return;
     }
     let end = saves::put_name(&word[..length], &mut name);
-    let new = &name[..end];
-    if tell {
-        told::failed(new);
-    }
     libc::close(file);
-    os::unlink(new);
+    os::unlink(&name[..end]);
 }
 
 // What a record changed, and the file to go on with.
@@ -99,7 +95,8 @@ pub(crate) fn step(telling: Telling, number: u64, before: Sight, bench: Bench) -
     ) {
         return file;
     }
-    remove(file, true);
+    told::no_timeline();
+    remove(file);
     NONE
 }
 
@@ -107,7 +104,7 @@ pub(crate) fn abandon(file: i32) {
     if file < 0 {
         return;
     }
-    remove(file, false);
+    remove(file);
 }
 
 fn is_ended(file: i32, number: u64) -> bool
@@ -138,7 +135,8 @@ pub(crate) fn finish(file: i32, number: u64)
         return;
     }
     if !is_ended(file, number) {
-        remove(file, true);
+        told::no_timeline();
+        remove(file);
         return;
     }
     libc::close(file);

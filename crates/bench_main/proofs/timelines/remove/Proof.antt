@@ -38,17 +38,14 @@ slice-aggregate-put-name-2 c = search needs
 put-name-requires : tie.Need-put-name-requires
 put-name-requires c κs = search needs
 
+close-requires : tie.Need-close-requires
+close-requires c κs = search needs
+
 array-share-prefix-name : tie.Need-array-share-prefix-name
 array-share-prefix-name c = search needs
 
-slice-aggregate-new : tie.Need-slice-aggregate-new
-slice-aggregate-new c = sym (length-take-le _ _ (omega (arith, c .before .before .put-name .ensures, c .before .before .put-name .kept)))
-
-failed-requires : tie.Need-failed-requires
-failed-requires c κs = search needs
-
-close-requires : tie.Need-close-requires
-close-requires c κs = search needs
+slice-aggregate-unlink : tie.Need-slice-aggregate-unlink
+slice-aggregate-unlink c = sym (length-take-le _ _ (omega (arith, c .before .before .before .put-name .ensures, c .before .before .before .put-name .kept)))
 
 unlink-requires : tie.Need-unlink-requires
 unlink-requires c κs = search needs
@@ -71,9 +68,8 @@ remove-spec =
     slice-aggregate-put-name
     slice-aggregate-put-name-2
     put-name-requires
-    array-share-prefix-name
-    slice-aggregate-new
-    failed-requires
     close-requires
+    array-share-prefix-name
+    slice-aggregate-unlink
     unlink-requires
     returns-2)
