@@ -1,6 +1,5 @@
 -- All pieces of a record have room on its page.
 use Prim.Native.Nat.{ℕ, _+_, _*_, _≤_, _<_}
-use mathlib.Core.Bool.{Bool, _&&_, not}
 use mathlib.Core.List.{List, [], _∷_, _++_}
 use mathlib.Core.Path.{_≡_, refl, ap, _∙_}
 use native.Mathlib.Omega.{arith}
@@ -12,14 +11,13 @@ use Rattle.text.specs.Quoted.{quoted}
 use Rattle.page.specs.Pieces.{pieceMost}
 use Rattle.page.specs.Pages.{pageMost, width, noPage, putByte, put, headed, indent, separation, fits, placed, joined, joinedAll}
 use Rattle.page.specs.declared.Page.{Page}
-use Rattle.channel.specs.declared.Channel.{Channel}
-use Rattle.controller.specs.declared.Controller.{Controller}
-use Rattle.records.specs.Events.{Record, whole, short, usesSeat, seatAbove}
+use Rattle.records.specs.Events.{Record, whole, short}
 use Rattle.bench.specs.declared.Bench.{Bench}
 use Rattle.bench.specs.Steps.{outcome}
-use Rattle.account.specs.Moved.{queuesMoved, troublesMoved, flagsMoved, changesMoved, channelMoved, linesTurned, controllerMoved}
-use Rattle.account.specs.Told.{channelAt, seatMoved, pieces}
-use Rattle.account.specs.Pieces.{Sized, AllFit}
+use Rattle.moves.specs.Moved.{seatMoved, controllerMoved}
+use Rattle.moves.specs.MovedLaws.{seat-pieces, controller-pieces}
+use Rattle.account.specs.Told.{channelAt, pieces}
+use Rattle.account.specs.Sized.{Sized}
 use Rattle.account.specs.Statements.{headOf}
 use Rattle.account.proofs.Fit.{pieces-fit, head-width}
 
@@ -62,19 +60,6 @@ unfolding headed noPage
 head-count head = omega (arith, put-count noPage head)
 
 -- ---- how many pieces there are at most
-
-channel-pieces : (c c′ : Channel) → length (channelMoved c c′) ≡ 14
-unfolding channelMoved queuesMoved troublesMoved flagsMoved changesMoved
-channel-pieces c c′ = refl
-
-controller-pieces : (k k′ : Controller) → length (controllerMoved k k′) ≡ 19
-unfolding controllerMoved linesTurned
-controller-pieces k k′ = refl
-
-seat-pieces : (c c′ : Channel) (kind n : ℕ) → length (seatMoved c c′ kind n) ≤ 14
-unfolding seatMoved
-seat-pieces c c′ kind n =
-    pick-either (λ (l : List (List ℕ)). length l ≤ 14) (usesSeat kind && not (seatAbove n)) (channelMoved c c′) [] (omega (arith, channel-pieces c c′)) (omega arith)
 
 pub few-pieces : (b : Bench) (r : Record) → length (pieces b r) ≤ 35
 few-pieces b (whole kind n number value) =

@@ -20,8 +20,8 @@ use Rattle.channel.specs.Moments as moments
 use Rattle.channel.specs.Status.{lsr, msr}
 use Rattle.bench.proofs.Slips as bench
 use Rattle.account.specs.Head.{blanks, headWords}
-use Rattle.account.specs.Moved.{counted, turned, queuesMoved, troublesMoved, flagsMoved, changesMoved, loopbackMoved, channelMoved, lineWords, lineTurned, linesTurned, firstMoved, readyMoved, outputMoved, controllerMoved}
-use Rattle.account.specs.Told.{divisorAt, seatMoved, told}
+use Rattle.moves.specs.Moved.{counted, turned, queuesMoved, troublesMoved, flagsMoved, changesMoved, loopbackMoved, channelMoved, seatMoved, lineWords, lineTurned, linesTurned, firstMoved, readyMoved, outputMoved, controllerMoved}
+use Rattle.account.specs.Told.{divisorAt, told}
 use Rattle.account.specs.Examples.{WorkedExample, Ingredients, Commented}
 use Prim.Native.Nat.{ℕ}
 

@@ -15,7 +15,8 @@ use Rattle.bench.specs.Steps.{outcome}
 use Rattle.deeds.specs.Done.{recordDone}
 use Rattle.account.specs.Head.{unended, headWords}
 use Rattle.account.specs.Told.{divisorOf, came, pieces, told}
-use Rattle.account.specs.Pieces.{Sized, AllFit}
+use Rattle.moves.specs.Fit.{AllFit}
+use Rattle.account.specs.Sized.{Sized}
 use Rattle.account.specs.Examples.{WorkedExample, Ingredients, Commented}
 
 -- a record's head, and the head of its page
