@@ -10,7 +10,7 @@
    the controller". The page is where they are made, one after the other. */
 void state_tell(struct page *page, const struct bench *bench);
 
-/* "A seat is in use unless it is as at power-up: .." */
+/* "A seat is in use where .." */
 bool state_in_use(const struct channel *seat);
 
 #endif

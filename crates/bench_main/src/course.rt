@@ -130,9 +130,11 @@ pub(crate) fn finish(course: Course)
     let telling = course.telling;
     saves::make(course.bench, Now::End(number), number);
     timelines::finish(telling.file, number);
-    if telling.last & !states::show(course.bench) {
-        told::not_written();
-        return;
+    if telling.last {
+        if !states::show(course.bench) {
+            told::not_written();
+            return;
+        }
     }
     tallies::tell(course.bench);
 }

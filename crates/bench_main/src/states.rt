@@ -10,7 +10,7 @@ pub(crate) fn in_use(bench: Bench, named: u8) -> u8 {
     let mut used = named;
     for n in 0..SEATS {
         let seat = bench.seats[n];
-        if state::is_in_use(seat) {
+        if seat_page::is_in_use(seat) {
             used = timeline::named(used, Event::READ_REGISTER, n as u8);
         }
     }
@@ -21,11 +21,11 @@ pub(crate) fn in_use(bench: Bench, named: u8) -> u8 {
 pub(crate) fn show(bench: Bench) -> bool {
     for n in 0..SEATS {
         let seat = bench.seats[n];
-        if state::is_in_use(seat) {
-            if !write(STDOUT_FILENO, state::seat(seat, n as u8)) {
+        if seat_page::is_in_use(seat) {
+            if !write(STDOUT_FILENO, seat_page::seat(seat, n as u8)) {
                 return false;
             }
         }
     }
-    write(STDOUT_FILENO, state::controller(bench.controller))
+    write(STDOUT_FILENO, controller_page::controller(bench.controller))
 }

@@ -104,10 +104,12 @@ fn follow(start: Course, before: Sight) -> Course
 {
     let mut course = start;
     let mut telling = start.telling;
-    if telling.each & !states::show(course.bench) {
-        told::not_written();
-        course.failed = true;
-        return course;
+    if telling.each {
+        if !states::show(course.bench) {
+            told::not_written();
+            course.failed = true;
+            return course;
+        }
     }
     let file = timelines::step(telling, course.number, before, course.bench);
     telling.file = file;

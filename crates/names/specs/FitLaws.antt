@@ -15,12 +15,12 @@ use Rattle.text.specs.Quoted.{quoted}
 use Rattle.text.specs.Line.{numeral, letterA, decimal, capital}
 use Rattle.text.specs.DecimalLaws.{decimal-length}
 use Rattle.text.specs.FormLaws.{Digits, decimal-digits}
-use Rattle.page.specs.Columns.{OneLine}
+use Rattle.page.specs.Columns.{OneLine, AllOneLine}
 use Rattle.page.specs.FitLaws.{noFeed, one-line}
 use Rattle.page.specs.Pieces.{hex, letter}
 use Rattle.names.specs.Names.{Row}
 use Rattle.names.specs.Words.{wordsBy, wordsFrom}
-use Rattle.names.specs.Fits.{Fits}
+use Rattle.names.specs.Fits.{Fits, AllFit}
 
 -- ---- by what they are made of
 
@@ -115,3 +115,13 @@ fits-names k (name ∷ names) byte clear =
     (fits-more (fits-behind (quoted " ") refl (fits-quoted (quoted name) (both .0))) (omega arith))
     (fits-none (suc (length (quoted name)))))
     (fits-names (suc k) names byte (both .1))
+
+-- ---- pieces
+
+pub all-fit-append : (most : ℕ) (a b : List (List ℕ)) → AllFit most a → AllFit most b → AllFit most (a ++ b)
+all-fit-append most [] b f g = g
+all-fit-append most (words ∷ a) b f g = (f .0, all-fit-append most a b (f .1) g)
+
+pub all-one-line : (most : ℕ) (a : List (List ℕ)) → AllFit most a → AllOneLine a
+all-one-line most [] f = tt
+all-one-line most (words ∷ a) f = (f .0 .one, all-one-line most a (f .1))

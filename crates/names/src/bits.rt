@@ -11,7 +11,8 @@ ghost use Rattle.names.specs.Words.{bitsSaid, lsrSaid, msrSaid, marksNam
 
 const ALL_LEVELS: u8 = 15;
 
-pub(crate) fn word(piece: Piece, set: bool, words: &[u8]) -> Piece
+// Words that are said where something is so.
+pub fn word(piece: Piece, set: bool, words: &[u8]) -> Piece
     ensures { λ r. ⌜ r ≡ with piece (pick set (now (words .entry)) []) ⌝ }
 {
     if set {

@@ -9,6 +9,7 @@ pub use bits::lsr;
 pub use bits::marks;
 pub use bits::marks_named;
 pub use bits::msr;
+pub use bits::word;
 pub use registers::register;
 pub use sets::lines;
 pub use words::iir;

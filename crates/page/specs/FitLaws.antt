@@ -192,3 +192,13 @@ module _ (p : Page) (s : Stands p) where
 pub fits-terminal : FitsTerminal
 fits-terminal head pieces comment one short all =
     ended-keeps _ (commented-stands _ comment (all-stand _ pieces (head-stands head one short) all))
+
+uncommented : (p : Page) → commented p [] ≡ p
+unfolding commented pick
+uncommented p = refl
+
+-- so does one without a comment
+pub pieces-fit-terminal : (head : List ℕ) (pieces : List (List ℕ)) → OneLine head → length head ≤ width → AllOneLine pieces
+    → keeps 0 (shown (ended (joinedAll (headed head) pieces))) ≡ true
+pieces-fit-terminal head pieces one short all =
+    ap (λ (p : Page). keeps 0 (shown (ended p))) (sym (uncommented (joinedAll (headed head) pieces))) ∙ fits-terminal head pieces [] one short all

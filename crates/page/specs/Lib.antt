@@ -9,5 +9,7 @@ pub mod PieceLaws
 pub mod PageLaws
 pub mod ColumnLaws
 pub mod FitLaws
+pub mod Says
 pub mod Examples
 pub mod Statements
+pub mod CountLaws

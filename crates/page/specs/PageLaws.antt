@@ -12,7 +12,7 @@ use Rattle.page.specs.ThroughLaws.{through-append}
 use Rattle.page.specs.KeptLaws.{Keeps, full-through, kept-through}
 use Rattle.page.specs.Pieces.{pieceMost, piece, said}
 use Rattle.page.specs.PieceLaws.{said-piece}
-use Rattle.page.specs.Pages.{pageMost, noPage, columnAfter, putByte, put, shown, placed, joined}
+use Rattle.page.specs.Pages.{pageMost, noPage, columnAfter, putByte, put, shown, placed, joined, joinedAll}
 use Rattle.page.specs.declared.Page.{Page}
 
 pub put-append : (p : Page) (first then : List ℕ) → put p (first ++ then) ≡ put (put p first) then
@@ -59,3 +59,8 @@ unfolding joined
 joined-piece p words =
     let few : length (take pieceMost words) ≤ pieceMost = rw length-take (omega arith) in
     ap (placed p) (ap (take pieceMost) (said-piece words) ∙ take-all pieceMost (take pieceMost words) few)
+
+-- some pieces and then others are all of them
+pub joined-all : (p : Page) (first then : List (List ℕ)) → joinedAll p (first ++ then) ≡ joinedAll (joinedAll p first) then
+joined-all p [] then = refl
+joined-all p (words ∷ first) then = joined-all (joined p words) first then
