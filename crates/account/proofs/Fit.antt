@@ -14,17 +14,16 @@ use Rattle.page.specs.Columns.{OneLine}
 use Rattle.records.specs.Events.{Record, whole, short}
 use Rattle.bench.specs.declared.Bench.{Bench}
 use Rattle.bench.specs.Steps.{outcome}
-use Rattle.names.specs.Fits.{Fits}
-use Rattle.names.specs.FitLaws.{fits-more, fits-append, fits-behind, fits-decimal, capital-one}
+use Rattle.names.specs.Fits.{Fits, AllFit}
+use Rattle.names.specs.FitLaws.{fits-more, fits-append, fits-behind, fits-decimal, capital-one, all-fit-append}
 use Rattle.deeds.specs.DeedLaws.{done-fits, cut-fits, came-fits}
 use Rattle.moves.specs.Moved.{seatMoved}
-use Rattle.moves.specs.Fit.{AllFit}
-use Rattle.moves.specs.MovedLaws.{all-fit-append, seat-fits, controller-fits}
+use Rattle.moves.specs.MovedLaws.{seat-fits, controller-fits}
 use Rattle.account.specs.Head.{figuresShown, blanks, headWords}
 use Rattle.account.specs.HeadLaws.{front, head-front, head-short, blanks-length}
 use Rattle.account.specs.Told.{channelAt, pieces}
 use Rattle.account.specs.Sized.{Sized}
-use Rattle.account.specs.Statements.{headOf}
+use Rattle.account.specs.Kept.{headOf}
 
 pub pieces-fit : (b : Bench) (n : ℕ) (r : Record) → Sized b n r → AllFit 68 (pieces b r)
 pieces-fit b n (whole kind seat number value) s =

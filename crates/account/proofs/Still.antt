@@ -13,7 +13,7 @@ use Rattle.deeds.specs.Done.{recordDone}
 use Rattle.moves.specs.Moved.{seatMoved}
 use Rattle.moves.specs.StillLaws.{AllNone, none-append, none-joined, seat-still, controller-still}
 use Rattle.account.specs.Told.{channelAt, divisorOf, came, moved, told}
-use Rattle.account.specs.Statements.{headOf, RefusedMovesNothing}
+use Rattle.account.specs.Kept.{headOf, RefusedMovesNothing}
 
 moved-still : (b : Bench) (r : Record) → AllNone (moved b b r)
 moved-still b (whole kind n number value) = none-append (seatMoved (channelAt b n) (channelAt b n) kind n) _ (seat-still (channelAt b n) kind n) (controller-still (b .controller))

@@ -7,12 +7,12 @@ use Rattle.text.specs.Quoted.{quoted}
 use Rattle.text.specs.Line.{digitsWithin, decimal}
 use Rattle.moves.specs.Moved.{counted, turned}
 
--- `refused-moves-nothing`: what stays is not told
+-- `StaysUntold`
 what-stays-is-not-told : counted (quoted "queued ") 1 1 ≡ []
 unfolding pick counted
 what-stays-is-not-told = refl
 
--- `Ingredients`: what was so and is not any more is told as over
+-- `sent` and `lost` of `Examples`: what was so and is not any more
 break-is-cleared : turned true false (quoted "break set") (quoted "break cleared") ≡ quoted "break cleared"
 unfolding pick turned
 break-is-cleared = refl

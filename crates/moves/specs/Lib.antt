@@ -1,5 +1,7 @@
 pub mod Moved
-pub mod JoinedLaws
-pub mod Fit
 pub mod MovedLaws
 pub mod StillLaws
+pub mod Uncut
+pub mod Untold
+pub mod Examples
+pub mod Statements

@@ -11,7 +11,6 @@ use Rattle.base.specs.PickLaws.{pick-either}
 use Rattle.base.specs.Bits.{bit}
 use Rattle.text.specs.Quoted.{quoted}
 use Rattle.text.specs.Line.{decimal}
-use Rattle.page.specs.Columns.{AllOneLine}
 use Rattle.page.specs.FitLaws.{noFeed}
 use Rattle.receiver.specs.Receiver.{timeoutStands}
 use Rattle.registers.specs.Loopback.{looped}
@@ -19,18 +18,9 @@ use Rattle.channel.specs.declared.Channel.{Channel}
 use Rattle.channel.specs.Status.{lsr, msr}
 use Rattle.controller.specs.declared.Controller.{Controller}
 use Rattle.records.specs.Events.{usesSeat, seatAbove}
-use Rattle.names.specs.Fits.{Fits}
-use Rattle.names.specs.FitLaws.{fits-quoted, fits-none, fits-more, fits-append, fits-behind, fits-pick, fits-byte}
+use Rattle.names.specs.Fits.{Fits, AllFit}
+use Rattle.names.specs.FitLaws.{fits-quoted, fits-none, fits-more, fits-append, fits-behind, fits-pick, fits-byte, all-fit-append}
 use Rattle.moves.specs.Moved.{counted, turned, bitTurned, queuesMoved, troublesMoved, flagsMoved, changesMoved, loopbackMoved, channelMoved, seatMoved, lineWords, lineTurned, linesTurned, firstMoved, readyMoved, outputMoved, controllerMoved, firstLine}
-use Rattle.moves.specs.Fit.{AllFit}
-
-pub all-fit-append : (most : ℕ) (a b : List (List ℕ)) → AllFit most a → AllFit most b → AllFit most (a ++ b)
-all-fit-append most [] b f g = g
-all-fit-append most (words ∷ a) b f g = (f .0, all-fit-append most a b (f .1) g)
-
-pub all-one-line : (most : ℕ) (a : List (List ℕ)) → AllFit most a → AllOneLine a
-all-one-line most [] f = tt
-all-one-line most (words ∷ a) f = (f .0 .one, all-one-line most a (f .1))
 
 -- ---- what moved
 

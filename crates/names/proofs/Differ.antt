@@ -16,7 +16,7 @@ use Rattle.text.specs.Line.{capital}
 use Rattle.text.specs.FormLaws.{hexDenoted, capital-denotes}
 use Rattle.page.specs.Pieces.{hex}
 use Rattle.names.specs.Words.{laterWords, refusalWords, iirWords, lsrSaid, msrSaid}
-use Rattle.names.specs.Statements.{RefusalsDiffer, BytesDiffer}
+use Rattle.names.specs.Differ.{RefusalsDiffer, BytesDiffer}
 
 -- ---- two texts byte by byte
 

@@ -1,8 +1,7 @@
 use mathlib.Core.Path.{ap}
-use Rattle.page.specs.PageLaws.{joined-piece}
+use Rattle.page.specs.PageLaws.{joined-piece, joined-all}
 use Rattle.bench.specs.declared.Outcome.{Outcome}
 use Rattle.account.specs.Told.{told}
-use Rattle.moves.specs.JoinedLaws.{all-append}
 use borrow.Author.Needs.{needs}
 use Rattle.account.proofs.telling.record.Statement.{statement}
 use Rattle.account.proofs.telling.record.Tie as tie
@@ -51,7 +50,7 @@ end-requires c κs = search needs
 
 returns : tie.Need-returns
 unfolding told
-returns c = (ap (λ (o : Outcome). o .bench) (c .before .before .before .before .before .before .before .before .before .before .before .before .step .ensures), simp (c .end .ensures, c .before .comment .ensures, c .before .before .at-controller .ensures, c .before .before .before .at-seat .ensures, c .before .before .before .before .channel-at2 .ensures, c .before .before .before .before .before .join2 .ensures, c .before .before .before .before .before .before .join .ensures, c .before .before .before .before .before .before .before .came .ensures, c .before .before .before .before .before .before .before .before .done .ensures, c .before .before .before .before .before .before .before .before .before .is-empty .ensures, c .before .before .before .before .before .before .before .before .before .before .begun .ensures, c .before .before .before .before .before .before .before .before .before .before .before .before .step .ensures, c .before .before .before .before .before .before .before .before .before .before .before .before .before .divisor-at .ensures, c .before .before .before .before .before .before .before .before .before .before .before .before .before .before .channel-at .ensures, joined-piece, all-append))
+returns c = (ap (λ (o : Outcome). o .bench) (c .before .before .before .before .before .before .before .before .before .before .before .before .step .ensures), simp (c .end .ensures, c .before .comment .ensures, c .before .before .at-controller .ensures, c .before .before .before .at-seat .ensures, c .before .before .before .before .channel-at2 .ensures, c .before .before .before .before .before .join2 .ensures, c .before .before .before .before .before .before .join .ensures, c .before .before .before .before .before .before .before .came .ensures, c .before .before .before .before .before .before .before .before .done .ensures, c .before .before .before .before .before .before .before .before .before .is-empty .ensures, c .before .before .before .before .before .before .before .before .before .before .begun .ensures, c .before .before .before .before .before .before .before .before .before .before .before .before .step .ensures, c .before .before .before .before .before .before .before .before .before .before .before .before .before .divisor-at .ensures, c .before .before .before .before .before .before .before .before .before .before .before .before .before .before .channel-at .ensures, joined-piece, joined-all))
 
 pub record-spec : {M : Type 1} → statement M
 record-spec =

@@ -1,4 +1,4 @@
-use Rattle.moves.specs.JoinedLaws.{all-append}
+use Rattle.page.specs.PageLaws.{joined-all}
 use Rattle.moves.specs.Moved.{channelMoved}
 use borrow.Author.Needs.{needs}
 use Rattle.moves.proofs.places.channel_moved.Statement.{statement}
@@ -33,7 +33,7 @@ loopback-requires c κs = search needs
 
 returns : tie.Need-returns
 unfolding channelMoved
-returns c = simp (c .loopback .ensures, c .before .inputs .ensures, c .before .before .msr2 .ensures, c .before .before .before .msr .ensures, c .before .before .before .before .flags .ensures, c .before .before .before .before .before .troubles .ensures, c .before .before .before .before .before .before .lsr2 .ensures, c .before .before .before .before .before .before .before .lsr .ensures, c .before .before .before .before .before .before .before .before .queues .ensures, all-append)
+returns c = simp (c .loopback .ensures, c .before .inputs .ensures, c .before .before .msr2 .ensures, c .before .before .before .msr .ensures, c .before .before .before .before .flags .ensures, c .before .before .before .before .before .troubles .ensures, c .before .before .before .before .before .before .lsr2 .ensures, c .before .before .before .before .before .before .before .lsr .ensures, c .before .before .before .before .before .before .before .before .queues .ensures, joined-all)
 
 pub channel-moved-spec : {M : Type 1} → statement M
 channel-moved-spec =

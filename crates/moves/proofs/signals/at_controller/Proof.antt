@@ -1,4 +1,4 @@
-use Rattle.moves.specs.JoinedLaws.{all-append}
+use Rattle.page.specs.PageLaws.{joined-all}
 use Rattle.moves.specs.Moved.{controllerMoved}
 use borrow.Author.Needs.{needs}
 use Rattle.moves.proofs.signals.at_controller.Statement.{statement}
@@ -39,7 +39,7 @@ output-requires c κs = search needs
 
 returns : tie.Need-returns
 unfolding controllerMoved
-returns c = simp (c .output .ensures, c .before .first .ensures, ← c .before .before .line-at2 .ensures, ← c .before .before .before .line-at .ensures, c .before .before .before .before .turns2 .ensures, c .before .before .before .before .before .before .before .turns .ensures, c .before .before .before .before .before .before .before .before .before .before .ready .ensures, all-append)
+returns c = simp (c .output .ensures, c .before .first .ensures, ← c .before .before .line-at2 .ensures, ← c .before .before .before .line-at .ensures, c .before .before .before .before .turns2 .ensures, c .before .before .before .before .before .before .before .turns .ensures, c .before .before .before .before .before .before .before .before .before .before .ready .ensures, joined-all)
 
 pub at-controller-spec : {M : Type 1} → statement M
 at-controller-spec =
