@@ -19,6 +19,8 @@ BITS = (
 
 REGISTERS = ("registersRead", "registersWritten", "registersDivisor")
 
+REFUSED = ("refusalsFirst", "refusalsLater")
+
 
 # ---- the table
 
@@ -33,10 +35,10 @@ def words(root, name):
     return re.findall(r'"([^"]*)"', body(root, name))
 
 
-def rows(root, name):
-    """The words of a table's rows, by number; a number that is there twice has both."""
+def rows(root, *names):
+    """The words of the rows of some tables, by number; a number that is there twice has both."""
     found = {}
-    for number, told in re.findall(r'\brow (\w+) "([^"]*)"', body(root, name)):
+    for number, told in re.findall(r'\brow (\w+) "([^"]*)"', "".join(body(root, name) for name in names)):
         found.setdefault(int(number, 0), []).append(told)
     return {number: " and ".join(told) for number, told in found.items()}
 
@@ -45,7 +47,7 @@ def rows(root, name):
 
 def wrong_refusals(root):
     """A complaint where the refusals are told in other words than those of the table: all in the manual, and those of records in docs/TELLING.md."""
-    table = rows(root, "refusalTable")
+    table = rows(root, *REFUSED)
     told = {int(row["Refusal"]): row["Words"] for _, titles, row in rows_of(root, MANUAL) if titles[0] == "Refusal"}
     if told != table or not table:
         yield f"the refusals of {MANUAL} are {told}, and of {NAMES} {table}"

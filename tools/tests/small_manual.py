@@ -240,12 +240,14 @@ causeWords =
 abbrev pub noCause : String
 noCause = "no cause"
 
-abbrev pub refusalTable : List Row
-refusalTable =
+abbrev pub refusalsFirst : List Row
+refusalsFirst =
     row 1 "seat above 7"
     ∷ row 8 "not ready"
-    ∷ row 10 "not in the list"
     ∷ []
+
+abbrev pub refusalsLater : List Row
+refusalsLater = row 10 "not in the list" ∷ []
 
 abbrev pub lsrWords : List String
 lsrWords = "data" ∷ "holding-empty" ∷ []

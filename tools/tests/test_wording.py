@@ -30,8 +30,8 @@ class Wording(Room):
         self.assertEqual(rows(self.root, "causeWords"), {12: "time-out", 0: "a change"})
         self.assertEqual(words(self.root, "lsrWords"), ["data", "holding-empty"])
         self.assertEqual((rows(self.root, "gone"), words(self.root, "gone")), ({}, []))
-        self.write(NAMES, FILES[NAMES].replace("row 8", "row 1"))
-        self.assertEqual(rows(self.root, "refusalTable"), {1: "seat above 7 and not ready", 10: "not in the list"})
+        self.write(NAMES, FILES[NAMES].replace("row 10", "row 1"))
+        self.assertEqual(rows(self.root, "refusalsFirst", "refusalsLater"), {1: "seat above 7 and not in the list", 8: "not ready"})
 
     def test_no_table_at_all(self):
         Path(self.root, NAMES).unlink()

@@ -15,7 +15,7 @@ use Rattle.page.specs.Pages.{pageMost, width, noPage, putByte, put, shown, head
 use Rattle.page.specs.PageLaws.{shown-put}
 use Rattle.page.specs.Notes.{plain, wordLength, continuation, passed, noteByte, noted, commented}
 use Rattle.page.specs.declared.Page.{Page}
-use Rattle.account.proofs.Counts.{head-count}
+use Rattle.page.specs.CountLaws.{head-count}
 
 -- these bytes stand first
 pub record Begins (l : List ℕ) (p : Page) : Type 0 where

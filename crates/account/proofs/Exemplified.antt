@@ -7,7 +7,7 @@ use Rattle.text.specs.Line.{digitsWithin, decimal, capital, outputDigit, line}
 use Rattle.page.specs.Pieces.{hex, letter}
 use Rattle.page.specs.Pages.{noPage, columnAfter, putByte, put, shown, headed, separation, fits, placed, joined, ended}
 use Rattle.page.specs.Notes.{plain, wordLength, passed, noteByte, noted, commented}
-use Rattle.names.specs.Words.{refusalWords, nameRead, nameWritten, nameOf, nameAtDivisor, registerWords, causeSaid, iirWords, bitsSaid, lsrSaid, msrSaid, marksNamed, marksSaid, levelsSaid, linesIn, lineList, linesSaid}
+use Rattle.names.specs.Words.{laterWords, refusalWords, nameRead, nameWritten, nameOf, nameAtDivisor, registerWords, causeSaid, iirWords, bitsSaid, lsrSaid, msrSaid, marksNamed, marksSaid, levelsSaid, linesIn, lineList, linesSaid}
 use Rattle.deeds.specs.Done.{seatWords, readDone, valueWritten, writeDone, arrivalDone, levelsDone, timeDone, controllerReadDone, wordAt0, wordAt1, wordWritten, controllerWriteDone, seatDone, otherDone, wholeDone, cutDone}
 use Rattle.deeds.specs.Came.{refusedCame, behindSaid, figuresSaid, letterCame, plainCame, registerCame, portName, portCame, byteCame, sentCame, vectorCame, spuriousCame}
 use Rattle.queue.specs.Queue as queue
@@ -20,14 +20,14 @@ use Rattle.channel.specs.Moments as moments
 use Rattle.channel.specs.Status.{lsr, msr}
 use Rattle.bench.proofs.Slips as bench
 use Rattle.account.specs.Head.{blanks, headWords}
-use Rattle.account.specs.Moved.{counted, turned, queuesMoved, troublesMoved, flagsMoved, changesMoved, loopbackMoved, channelMoved, lineWords, lineTurned, linesTurned, firstMoved, readyMoved, outputMoved, controllerMoved}
-use Rattle.account.specs.Told.{divisorAt, seatMoved, told}
+use Rattle.moves.specs.Moved.{counted, turned, queuesMoved, troublesMoved, flagsMoved, changesMoved, loopbackMoved, channelMoved, seatMoved, lineWords, lineTurned, linesTurned, firstMoved, readyMoved, outputMoved, controllerMoved}
+use Rattle.account.specs.Told.{divisorAt, told}
 use Rattle.account.specs.Examples.{WorkedExample, Ingredients, Commented}
 use Prim.Native.Nat.{ℕ}
 
 -- it opens what a page is told with
 unfoldable of-words : ℕ
-unfolding digitsWithin decimal capital outputDigit line hex letter refusalWords nameRead nameWritten nameOf nameAtDivisor registerWords causeSaid iirWords
+unfolding digitsWithin decimal capital outputDigit line hex letter laterWords refusalWords nameRead nameWritten nameOf nameAtDivisor registerWords causeSaid iirWords
     bitsSaid lsrSaid msrSaid marksNamed marksSaid levelsSaid linesIn lineList linesSaid
 of-words = 0
 

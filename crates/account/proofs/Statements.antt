@@ -14,9 +14,11 @@ use Rattle.bench.specs.Steps.{outcome}
 use Rattle.account.specs.Head.{unended, blanks}
 use Rattle.account.specs.HeadLaws.{front, head-front, unended-line}
 use Rattle.account.specs.Told.{pieces, told}
-use Rattle.account.specs.Pieces.{Sized}
-use Rattle.account.specs.Statements.{headOf, KeepsWidth, Ends, EndsLine, ListingFirst, Statements}
-use Rattle.account.proofs.Fit.{all-one-line, pieces-fit, head-width, head-line}
+use Rattle.account.specs.Sized.{Sized}
+use Rattle.account.specs.Kept.{headOf, KeepsWidth, Ends, EndsLine, ListingFirst}
+use Rattle.account.specs.Statements.{Statements}
+use Rattle.names.specs.FitLaws.{all-one-line}
+use Rattle.account.proofs.Fit.{pieces-fit, head-width, head-line}
 use Rattle.account.proofs.Counts.{all-stand-there}
 use Rattle.account.proofs.Begins.{Begins, page-begins, shown-front}
 use Rattle.account.proofs.Still.{refused-moves-nothing}

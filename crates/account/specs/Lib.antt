@@ -1,7 +1,7 @@
 pub mod Head
 pub mod HeadLaws
-pub mod Moved
 pub mod Told
-pub mod Pieces
+pub mod Sized
+pub mod Kept
 pub mod Examples
 pub mod Statements

@@ -1,6 +1,6 @@
 -- One record told: a page with the listing's own line, what was done, what came of it, what moved, and the comment.
 use Prim.Native.Nat.{ℕ}
-use mathlib.Core.Bool.{Bool, false, _&&_, not}
+use mathlib.Core.Bool.{Bool, false}
 use mathlib.Core.List.{List, [], _∷_, _++_}
 use Rattle.base.specs.Pick.{pick}
 use Rattle.receiver.specs.Receiver.{noneQueued}
@@ -10,14 +10,14 @@ use Rattle.page.specs.Pages.{headed, joinedAll, ended}
 use Rattle.page.specs.Notes.{commented}
 use Rattle.page.specs.declared.Page.{Page}
 use Rattle.records.specs.Kinds as kinds
-use Rattle.records.specs.Events.{Record, whole, short, usesSeat, seatAbove}
+use Rattle.records.specs.Events.{Record, whole, short, seatAbove}
 use Rattle.bench.specs.declared.Bench.{Bench}
 use Rattle.bench.specs.Seats.{seat}
 use Rattle.bench.specs.Steps.{outcome}
 use Rattle.deeds.specs.Done.{recordDone}
 use Rattle.account.specs.Head.{headWords}
 use Rattle.deeds.specs.Came.{cameOf}
-use Rattle.account.specs.Moved.{channelMoved, controllerMoved}
+use Rattle.moves.specs.Moved.{seatMoved, controllerMoved}
 
 -- the channel of a seat
 abbrev pub channelAt : Bench → ℕ → Channel
@@ -36,10 +36,6 @@ abbrev pub came : Bench → Record → List ℕ
 came b (whole kind n number value) =
     cameOf kind number (divisorAt b n) (b .controller .operation .selected) (noneQueued (channelAt b n .receiver)) (outcome b (whole kind n number value) .answer)
 came b short = cameOf kinds.Acknowledge 0 false false false (outcome b short .answer)
-
--- "of the seat that the record names, for kinds 0 to 4 and a seat up to 7; of other records there are none of them"
-unfoldable pub seatMoved : Channel → Channel → ℕ → ℕ → List (List ℕ)
-seatMoved c c′ kind n = pick (usesSeat kind && not (seatAbove n)) (channelMoved c c′) []
 
 -- between two benches
 abbrev pub moved : Bench → Bench → Record → List (List ℕ)

@@ -1,8 +1,5 @@
 // One record told: its line of the listing, what was done, what came of it, what moved, and the lesson's comment.
-mod changes;
 mod heads;
-mod lines;
-mod seats;
 mod telling;
 
 use bench::Bench;

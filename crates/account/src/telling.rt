@@ -1,8 +1,6 @@
 // A record told, as it is done.
 use crate::Told;
 use crate::heads;
-use crate::lines;
-use crate::seats;
 use bench::Bench;
 use channel::Channel;
 use records::Event;
@@ -52,14 +50,14 @@ pub fn record(
     let empty = before.receiver.is_empty();
     let done = deeds::done(kind, seat, number, value, divisor, bench.controller);
     let came = deeds::came(kind, number, divisor, selected, empty, answer);
-    let moved = seats::moved(
+    let moved = moves::at_seat(
         head.join(done).join(came),
         before,
         channel_at(next, seat),
         kind,
         seat,
     );
-    let all = lines::moved(moved, bench.controller, next.controller);
+    let all = moves::at_controller(moved, bench.controller, next.controller);
     Told {
         bench: next,
         page: all.comment(comment).end(),
@@ -75,7 +73,7 @@ pub fn short(bench: Bench, n: u64) -> Told
     let answer = stepped.answer;
     let head = heads::begun(n, answer, stepped.output);
     let came = deeds::came(Event::ACKNOWLEDGE, 0, false, false, false, answer);
-    let all = lines::moved(
+    let all = moves::at_controller(
         head.join(deeds::cut()).join(came),
         bench.controller,
         next.controller,

@@ -4,7 +4,7 @@ use Rattle.base.specs.Pick.{pick}
 use Rattle.base.specs.Bits.{bit, digit}
 use Rattle.text.specs.Line.{digitsWithin, decimal, capital}
 use Rattle.page.specs.Pieces.{hex, letter}
-use Rattle.names.specs.Words.{refusalWords, nameRead, nameWritten, nameOf, nameAtDivisor, registerWords, causeSaid, iirWords, bitsSaid, lsrSaid, msrSaid, marksNamed, marksSaid, levelsSaid, linesIn, lineList, linesSaid}
+use Rattle.names.specs.Words.{laterWords, refusalWords, nameRead, nameWritten, nameOf, nameAtDivisor, registerWords, causeSaid, iirWords, bitsSaid, lsrSaid, msrSaid, marksNamed, marksSaid, levelsSaid, linesIn, lineList, linesSaid}
 use Rattle.deeds.specs.Done.{seatWords, readDone, valueWritten, writeDone, arrivalDone, levelsDone, timeDone, controllerReadDone, wordAt0, wordAt1, wordWritten, controllerWriteDone, seatDone, otherDone, wholeDone, cutDone}
 use Rattle.deeds.specs.Came.{refusedCame, behindSaid, figuresSaid, letterCame, plainCame, registerCame, portName, portCame, byteCame, sentCame, vectorCame, spuriousCame}
 use Rattle.deeds.specs.Examples.{DoneExamples, CameExamples}
@@ -42,7 +42,7 @@ done-exemplified = record {
 }
 
 pub came-exemplified : CameExamples
-unfolding pick bit digit digitsWithin decimal capital hex letter refusalWords nameRead nameWritten nameOf nameAtDivisor registerWords causeSaid iirWords bitsSaid lsrSaid msrSaid marksNamed marksSaid linesIn lineList linesSaid refusedCame behindSaid figuresSaid letterCame plainCame registerCame portName portCame byteCame sentCame vectorCame spuriousCame
+unfolding pick bit digit digitsWithin decimal capital hex letter laterWords refusalWords nameRead nameWritten nameOf nameAtDivisor registerWords causeSaid iirWords bitsSaid lsrSaid msrSaid marksNamed marksSaid linesIn lineList linesSaid refusedCame behindSaid figuresSaid letterCame plainCame registerCame portName portCame byteCame sentCame vectorCame spuriousCame
 came-exemplified = record {
   letter = refl;
   behind = refl;

@@ -42,6 +42,8 @@ account-once M =
       deeds·done = value _ refl (λ κ a v w. refl);
       deeds·cut = value _ refl (λ κ a v w. refl);
       deeds·came = value _ refl (λ κ a v w. refl);
+      moves·at-seat = value _ refl (λ κ a v w. refl);
+      moves·at-controller = value _ refl (λ κ a v w. refl);
       account·record = told _ refl (λ κ a r s v w p q. (λ i. record { bench = (p .0 ∙ sym (q .0)) i; page = (p .1 ∙ sym (q .1)) i }, refl));
       account·short = told _ refl (λ κ a r s v w p q. (λ i. record { bench = (p .0 ∙ sym (q .0)) i; page = (p .1 ∙ sym (q .1)) i }, refl));
     }

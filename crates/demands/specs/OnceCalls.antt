@@ -24,6 +24,7 @@ use Rattle.text.proofs as text
 use Rattle.page.proofs as page
 use Rattle.names.proofs as names
 use Rattle.deeds.proofs as deeds
+use Rattle.moves.proofs as moves
 use Rattle.account.proofs as account
 use Rattle.seat_page.proofs as seat_page
 use Rattle.controller_page.proofs as controller_page
@@ -279,12 +280,14 @@ pub record NamesOnce (M : Type 1) : Type 2 where
   pub names·refusal : Once M names.refusal.ended names.refusal.clauses names.refusal.spec
   pub names·iir : Once M names.iir.ended names.iir.clauses names.iir.spec
 
--- ---- deeds and account: a record in words, and its page
+-- ---- deeds, moves and account: a record in words, and its page
 
 pub record AccountOnce (M : Type 1) : Type 2 where
   pub deeds·done : Once M deeds.done.ended deeds.done.clauses deeds.done.spec
   pub deeds·cut : Once M deeds.cut.ended deeds.cut.clauses deeds.cut.spec
   pub deeds·came : Once M deeds.came.ended deeds.came.clauses deeds.came.spec
+  pub moves·at-seat : Once M moves.at_seat.ended moves.at_seat.clauses moves.at_seat.spec
+  pub moves·at-controller : Once M moves.at_controller.ended moves.at_controller.clauses moves.at_controller.spec
   pub account·record : Once M account.record.ended account.record.clauses account.record.spec
   pub account·short : Once M account.short.ended account.short.clauses account.short.spec
 

@@ -15,8 +15,8 @@ use Rattle.base.specs.EveryLaws.{every-at}
 use Rattle.text.specs.Line.{capital}
 use Rattle.text.specs.FormLaws.{hexDenoted, capital-denotes}
 use Rattle.page.specs.Pieces.{hex}
-use Rattle.names.specs.Words.{refusalWords, iirWords, lsrSaid, msrSaid}
-use Rattle.names.specs.Statements.{RefusalsDiffer, BytesDiffer}
+use Rattle.names.specs.Words.{laterWords, refusalWords, iirWords, lsrSaid, msrSaid}
+use Rattle.names.specs.Differ.{RefusalsDiffer, BytesDiffer}
 
 -- ---- two texts byte by byte
 
@@ -35,7 +35,7 @@ abbrev apart : ℕ → ℕ → Bool
 apart m n = eqb m n || not (same (refusalWords m) (refusalWords n))
 
 all-apart : T (every 20 (λ m. every 20 (λ n. apart m n)))
-unfolding refusalWords pick
+unfolding laterWords refusalWords pick
 all-apart = tt
 
 from-apart : (m n : ℕ) → T (apart m n) → refusalWords m ≡ refusalWords n → m ≡ n

@@ -4,11 +4,11 @@ use Rattle.base.specs.Pick.{pick}
 use Rattle.base.specs.Bits.{bit, digit}
 use Rattle.text.specs.Line.{digitsWithin, decimal, capital}
 use Rattle.page.specs.Pieces.{hex}
-use Rattle.names.specs.Words.{refusalWords, nameRead, nameWritten, nameOf, nameAtDivisor, registerWords, causeSaid, iirWords, bitsSaid, lsrSaid, msrSaid, marksNamed, marksSaid, levelsSaid, linesIn, lineList, linesSaid}
+use Rattle.names.specs.Words.{laterWords, refusalWords, nameRead, nameWritten, nameOf, nameAtDivisor, registerWords, causeSaid, iirWords, bitsSaid, lsrSaid, msrSaid, marksNamed, marksSaid, levelsSaid, linesIn, lineList, linesSaid}
 use Rattle.names.specs.Examples.{Examples}
 
 pub exemplified : Examples
-unfolding pick bit digit digitsWithin decimal capital hex refusalWords nameRead nameWritten nameOf nameAtDivisor registerWords causeSaid iirWords bitsSaid lsrSaid msrSaid marksNamed marksSaid levelsSaid linesIn lineList linesSaid
+unfolding pick bit digit digitsWithin decimal capital hex laterWords refusalWords nameRead nameWritten nameOf nameAtDivisor registerWords causeSaid iirWords bitsSaid lsrSaid msrSaid marksNamed marksSaid levelsSaid linesIn lineList linesSaid
 exemplified = record {
   refused-1 = refl;
   refused-6 = refl;

@@ -1,6 +1,7 @@
 -- All statements of this room hold.
 use Rattle.names.specs.WordLaws.{refusal-fits, register-fits, iir-fits, lsr-fits, msr-fits, marks-fit, levels-fit, lines-fit}
-use Rattle.names.specs.Statements.{NoneCut, Statements}
+use Rattle.names.specs.Uncut.{NoneCut}
+use Rattle.names.specs.Statements.{Statements}
 use Rattle.names.proofs.Exemplified.{exemplified}
 use Rattle.names.proofs.Differ.{refusals-differ, bytes-differ}
 

@@ -3,5 +3,7 @@ pub mod Words
 pub mod Fits
 pub mod FitLaws
 pub mod WordLaws
+pub mod Uncut
+pub mod Differ
 pub mod Examples
 pub mod Statements

@@ -48,9 +48,9 @@ causeWords =
 abbrev pub noCause : String
 noCause = "no cause"
 
--- 10 to 15 are of the divisor list, of settings lines and of saved benches, and no record is refused by them
-abbrev pub refusalTable : List Row
-refusalTable =
+-- the refusals of document 01
+abbrev pub refusalsFirst : List Row
+refusalsFirst =
     row 1 "seat or line above 7"
     ∷ row 2 "register above 7, port above 1"
     ∷ row 3 "kind above 8"
@@ -61,7 +61,12 @@ refusalTable =
     ∷ row 8 "controller not ready"
     ∷ row 9 "not served (cascaded controllers, 8080 mode, poll)"
     ∷ row 10 "rate or clock not in the divisor list"
-    ∷ row 11 "no settings line, or an LCR byte that none gives"
+    ∷ []
+
+-- and those of document 02. By 10 to 15 no record is refused: they are of the divisor list, of settings lines and of saved benches
+abbrev pub refusalsLater : List Row
+refusalsLater =
+    row 11 "no settings line, or an LCR byte that none gives"
     ∷ row 12 "lent buffer too short"
     ∷ row 13 "wrong mark"
     ∷ row 14 "unknown version"

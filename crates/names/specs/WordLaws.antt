@@ -5,14 +5,15 @@ use mathlib.Core.Path.{refl}
 use native.Mathlib.Omega.{arith}
 use lib.Dec.{ltb, eqb}
 use Rattle.text.specs.Quoted.{quoted}
-use Rattle.names.specs.Names.{registersRead, registersWritten, registersDivisor, causeWords, noCause, refusalTable, noRefusal, lsrWords, msrWords, markWords, levelWords, lineNumbers}
-use Rattle.names.specs.Words.{refusalWords, nameRead, nameWritten, nameOf, nameAtDivisor, registerWords, causeSaid, iirWords, bitsSaid, lsrSaid, msrSaid, marksNamed, marksSaid, levelsSaid, linesIn, lineList, linesSaid}
+use Rattle.names.specs.Names.{registersRead, registersWritten, registersDivisor, causeWords, noCause, refusalsFirst, refusalsLater, noRefusal, lsrWords, msrWords, markWords, levelWords, lineNumbers}
+use Rattle.names.specs.Words.{laterWords, refusalWords, nameRead, nameWritten, nameOf, nameAtDivisor, registerWords, causeSaid, iirWords, bitsSaid, lsrSaid, msrSaid, marksNamed, marksSaid, levelsSaid, linesIn, lineList, linesSaid}
 use Rattle.names.specs.Fits.{Fits}
 use Rattle.names.specs.FitLaws.{fits-quoted, fits-none, fits-more, fits-append, fits-behind, fits-pick, fits-byte, fits-hex, fits-by, fits-names}
 
 pub refusal-fits : (number : ℕ) → Fits 50 (refusalWords number)
-unfolding refusalWords
-refusal-fits number = fits-by 50 refusalTable number refl (fits-more (fits-quoted (quoted noRefusal) refl) (omega arith))
+unfolding refusalWords laterWords
+refusal-fits number =
+    fits-by 50 refusalsFirst number refl (fits-by 50 refusalsLater number refl (fits-more (fits-quoted (quoted noRefusal) refl) (omega arith)))
 
 read-fits : (number : ℕ) → Fits 12 (nameRead number)
 unfolding nameRead

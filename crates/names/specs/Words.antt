@@ -9,7 +9,7 @@ use Rattle.base.specs.Bits.{bit, digit}
 use Rattle.text.specs.Quoted.{quoted}
 use Rattle.text.specs.Line.{decimal}
 use Rattle.page.specs.Pieces.{hex}
-use Rattle.names.specs.Names.{Row, registersRead, registersWritten, registersDivisor, causeWords, noCause, refusalTable, noRefusal, lsrWords, msrWords, markWords, levelWords, lineNumbers}
+use Rattle.names.specs.Names.{Row, registersRead, registersWritten, registersDivisor, causeWords, noCause, refusalsFirst, refusalsLater, noRefusal, lsrWords, msrWords, markWords, levelWords, lineNumbers}
 
 -- ---- by a table
 
@@ -34,9 +34,12 @@ setFrom k (name ∷ (next ∷ names)) byte = digit (bit k byte) + setFrom (suc k
 
 -- ---- refusals
 
+unfoldable pub laterWords : ℕ → List ℕ
+laterWords number = wordsBy refusalsLater number (quoted noRefusal)
+
 -- "the words of the refusals"
 unfoldable pub refusalWords : ℕ → List ℕ
-refusalWords number = wordsBy refusalTable number (quoted noRefusal)
+refusalWords number = wordsBy refusalsFirst number (laterWords number)
 
 -- ---- registers
 

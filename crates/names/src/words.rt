@@ -2,7 +2,24 @@
 use page::Piece;
 ghost use mathlib.Core.Path.{_≡_};
 ghost use Rattle.page.specs.Pieces.{piece, with};
-ghost use Rattle.names.specs.Words.{refusalWords, causeSaid, iirWords};
+ghost use Rattle.names.specs.Words.{laterWords, refusalWords, causeSaid, iirWords};
+
+fn later_refusal(piece: Piece, number: u8) -> Piece
+    ensures { λ r. ⌜ r ≡ with piece (laterWords number) ⌝ }
+{
+    match number {
+        11 => piece.text(b"no settings line, or an LCR byte that none gives"),
+        12 => piece.text(b"lent buffer too short"),
+        13 => piece.text(b"wrong mark"),
+        14 => piece.text(b"unknown version"),
+        15 => piece.text(b"a saved bench that cannot be"),
+        16 => piece.text(b"data beyond the word length"),
+        17 => piece.text(b"parity mark with parity off"),
+        18 => piece.text(b"break with data not 0"),
+        19 => piece.text(b"reception that no tally can hold"),
+        _ => piece.text(b"no refusal"),
+    }
+}
 
 pub fn refusal(piece: Piece, number: u8) -> Piece
     ensures { λ r. ⌜ r ≡ with piece (refusalWords number) ⌝ }
@@ -18,16 +35,7 @@ pub fn refusal(piece: Piece, number: u8) -> Piece
         8 => piece.text(b"controller not ready"),
         9 => piece.text(b"not served (cascaded controllers, 8080 mode, poll)"),
         10 => piece.text(b"rate or clock not in the divisor list"),
-        11 => piece.text(b"no settings line, or an LCR byte that none gives"),
-        12 => piece.text(b"lent buffer too short"),
-        13 => piece.text(b"wrong mark"),
-        14 => piece.text(b"unknown version"),
-        15 => piece.text(b"a saved bench that cannot be"),
-        16 => piece.text(b"data beyond the word length"),
-        17 => piece.text(b"parity mark with parity off"),
-        18 => piece.text(b"break with data not 0"),
-        19 => piece.text(b"reception that no tally can hold"),
-        _ => piece.text(b"no refusal"),
+        _ => later_refusal(piece, number),
     }
 }
 

@@ -9,7 +9,7 @@ use Rattle.page.specs.Pages.{headed}
 use Rattle.page.specs.declared.Piece.{Piece}
 use Rattle.account.specs.Head.{headWords}
 use Rattle.account.specs.HeadLaws.{head-short}
-use Rattle.account.proofs.Joined.{head-piece}
+use Rattle.account.proofs.HeadPiece.{head-piece}
 use borrow.Author.Needs.{needs}
 use Rattle.account.proofs.heads.begun.Statement.{statement}
 use Rattle.account.proofs.heads.begun.Tie as tie

@@ -1,7 +1,7 @@
 use native.Mathlib.Omega.{arith}
 use Prim.Native.Nat.{_/_}
 use Rattle.text.specs.DecimalLaws.{length-small, length-large, front-length}
-use Rattle.account.proofs.Joined.{padded-by}
+use Rattle.account.proofs.HeadPiece.{padded-by}
 use borrow.Author.Needs.{needs}
 use Rattle.account.proofs.heads.blanks.Statement.{statement}
 use Rattle.account.proofs.heads.blanks.Tie as tie

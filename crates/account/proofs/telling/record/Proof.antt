@@ -1,8 +1,7 @@
 use mathlib.Core.Path.{ap}
-use Rattle.page.specs.PageLaws.{joined-piece}
+use Rattle.page.specs.PageLaws.{joined-piece, joined-all}
 use Rattle.bench.specs.declared.Outcome.{Outcome}
 use Rattle.account.specs.Told.{told}
-use Rattle.account.proofs.Joined.{all-append}
 use borrow.Author.Needs.{needs}
 use Rattle.account.proofs.telling.record.Statement.{statement}
 use Rattle.account.proofs.telling.record.Tie as tie
@@ -37,11 +36,11 @@ join-requires-2 c κs = search needs
 channel-at-requires-2 : tie.Need-channel-at-requires-2
 channel-at-requires-2 c κs = search needs
 
-moved-requires : tie.Need-moved-requires
-moved-requires c κs = search needs
+at-seat-requires : tie.Need-at-seat-requires
+at-seat-requires c κs = search needs
 
-moved-requires-2 : tie.Need-moved-requires-2
-moved-requires-2 c κs = search needs
+at-controller-requires : tie.Need-at-controller-requires
+at-controller-requires c κs = search needs
 
 comment-requires : tie.Need-comment-requires
 comment-requires c κs = search needs
@@ -51,7 +50,7 @@ end-requires c κs = search needs
 
 returns : tie.Need-returns
 unfolding told
-returns c = (ap (λ (o : Outcome). o .bench) (c .before .before .before .before .before .before .before .before .before .before .before .before .step .ensures), simp (c .end .ensures, c .before .comment .ensures, c .before .before .moved2 .ensures, c .before .before .before .moved .ensures, c .before .before .before .before .channel-at2 .ensures, c .before .before .before .before .before .join2 .ensures, c .before .before .before .before .before .before .join .ensures, c .before .before .before .before .before .before .before .came .ensures, c .before .before .before .before .before .before .before .before .done .ensures, c .before .before .before .before .before .before .before .before .before .is-empty .ensures, c .before .before .before .before .before .before .before .before .before .before .begun .ensures, c .before .before .before .before .before .before .before .before .before .before .before .before .step .ensures, c .before .before .before .before .before .before .before .before .before .before .before .before .before .divisor-at .ensures, c .before .before .before .before .before .before .before .before .before .before .before .before .before .before .channel-at .ensures, joined-piece, all-append))
+returns c = (ap (λ (o : Outcome). o .bench) (c .before .before .before .before .before .before .before .before .before .before .before .before .step .ensures), simp (c .end .ensures, c .before .comment .ensures, c .before .before .at-controller .ensures, c .before .before .before .at-seat .ensures, c .before .before .before .before .channel-at2 .ensures, c .before .before .before .before .before .join2 .ensures, c .before .before .before .before .before .before .join .ensures, c .before .before .before .before .before .before .before .came .ensures, c .before .before .before .before .before .before .before .before .done .ensures, c .before .before .before .before .before .before .before .before .before .is-empty .ensures, c .before .before .before .before .before .before .before .before .before .before .begun .ensures, c .before .before .before .before .before .before .before .before .before .before .before .before .step .ensures, c .before .before .before .before .before .before .before .before .before .before .before .before .before .divisor-at .ensures, c .before .before .before .before .before .before .before .before .before .before .before .before .before .before .channel-at .ensures, joined-piece, joined-all))
 
 pub record-spec : {M : Type 1} → statement M
 record-spec =
@@ -67,8 +66,8 @@ record-spec =
     join-requires
     join-requires-2
     channel-at-requires-2
-    moved-requires
-    moved-requires-2
+    at-seat-requires
+    at-controller-requires
     comment-requires
     end-requires
     returns)

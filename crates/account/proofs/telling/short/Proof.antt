@@ -27,15 +27,15 @@ join-requires c κs = search needs
 join-requires-2 : tie.Need-join-requires-2
 join-requires-2 c κs = search needs
 
-moved-requires : tie.Need-moved-requires
-moved-requires c κs = search needs
+at-controller-requires : tie.Need-at-controller-requires
+at-controller-requires c κs = search needs
 
 end-requires : tie.Need-end-requires
 end-requires c κs = search needs
 
 returns : tie.Need-returns
 unfolding told commented pick
-returns c = (ap (λ (o : Outcome). o .bench) (c .before .before .before .before .before .before .before .before .step-short .ensures), simp (c .end .ensures, c .before .moved .ensures, c .before .before .join2 .ensures, c .before .before .before .join .ensures, c .before .before .before .before .cut .ensures, c .before .before .before .before .before .came .ensures, c .before .before .before .before .before .before .begun .ensures, c .before .before .before .before .before .before .before .before .step-short .ensures, joined-piece))
+returns c = (ap (λ (o : Outcome). o .bench) (c .before .before .before .before .before .before .before .before .step-short .ensures), simp (c .end .ensures, c .before .at-controller .ensures, c .before .before .join2 .ensures, c .before .before .before .join .ensures, c .before .before .before .before .cut .ensures, c .before .before .before .before .before .came .ensures, c .before .before .before .before .before .before .begun .ensures, c .before .before .before .before .before .before .before .before .step-short .ensures, joined-piece))
 
 pub short-spec : {M : Type 1} → statement M
 short-spec =
@@ -47,6 +47,6 @@ short-spec =
     cut-requires
     join-requires
     join-requires-2
-    moved-requires
+    at-controller-requires
     end-requires
     returns)
