@@ -9,7 +9,7 @@ ANSWER = re.compile(r"ensures\s*\{\s*λ \w+\.\s*⌜\s*(\(?)\w+ ≡ (\S+)")
 
 # What is told stands in a piece: `r ≡ piece (NAME ..)`, or behind what was told before, `r ≡ with PIECE (NAME ..)`; or its pieces are joined to a
 # page: `r ≡ joined PAGE (NAME ..)`, and so joinedAll of several.
-TOLD = re.compile(r"ensures\s*\{\s*λ \w+\.\s*⌜\s*\w+ ≡ (?:piece|(?:with|joined|joinedAll) \w+) \(?([^\s()]+)")
+TOLD = re.compile(r"ensures\s*\{\s*λ \w+\.\s*⌜\s*\w+ ≡ (?:piece |with \w+ |(joined|joinedAll) \w+ )\(?([^\s()]+)")
 
 # The piece of no words.
 NOTHING = "noPiece"
@@ -19,12 +19,14 @@ SHUT = {"pick"}
 
 
 class Contract(NamedTuple):
-    """`r ≡ NAME ..`; paired where that is the first of several parts, `(r ≡ NAME ..) × ..`; told where NAME gives the words of pieces."""
+    """`r ≡ NAME ..`; paired where that is the first of several parts, `(r ≡ NAME ..) × ..`; told where NAME gives the words of a piece,
+    or those of pieces on a page, and then on_page."""
 
     module: Optional[str] = None
     name: Optional[str] = None
     paired: bool = False
     told: bool = False
+    on_page: bool = False
 
 
 def brought(source):
@@ -43,9 +45,9 @@ def functions(source):
     names = brought(source)
     for function in read.functions(source):
         said, told = ANSWER.search(function.head), TOLD.search(function.head)
-        given = told[1] if told else said and said[2]
+        given = told[2] if told else said and said[2]
         module, name = names.get(given, (None, None))
-        found[function.path] = Contract(module, name, bool(said and said[1]), bool(told))
+        found[function.path] = Contract(module, name, bool(said and said[1]), bool(told), bool(told and told[1]))
     return found
 
 

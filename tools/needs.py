@@ -140,7 +140,7 @@ def answer(need, walk, contract, calls):
     """The standard answer."""
     returns = need.startswith("returns")
     if returns and contract.told:
-        return told_answer(need, walk, calls)
+        return told_answer(need, walk, contract, calls)
     facts = facts_at(walk, need, calls._replace(told=frozenset())) if returns else Facts()
     told = facts.variants + facts.calls
     if contract.paired or not told + facts.tests:
@@ -149,7 +149,7 @@ def answer(need, walk, contract, calls):
     return Answer(f"simp ({', '.join([*told, *facts.tests, *choice])})", choice, tuple(sorted(facts.laws)))
 
 
-def told_answer(need, walk, calls):
+def told_answer(need, walk, contract, calls):
     """The answer of a function that tells something: what each call adds is put behind what was told before. Words in quotation
     marks with others behind them are one list of bytes, so there a piece is spelt out."""
     facts = facts_at(walk, need, calls)
@@ -158,8 +158,11 @@ def told_answer(need, walk, calls):
             facts.add_branch(fact, "ne")
     said = [name for name in facts.told if name != "empty"]
     several = len(said) > 1
-    joins = ("joined-piece",) if "join" in said else ()
-    pieces = ("with-append", "with-none") if (several or not said) and not joins else joins
+    if contract.on_page:
+        pieces = ("joined-piece",) if "join" in said else ("joined-all",) if several else ()
+    else:
+        pieces = ("with-append", "with-none") if several or not said else ()
     choice = tuple(sorted(facts.choice, reverse=True))
     words = [*facts.variants, *facts.calls, *facts.tests, *choice, *pieces]
-    return Answer(f"simp ({', '.join(words)})", choice, tuple(sorted(facts.laws)), pieces, several and "text" in said)
+    spelt = several and "text" in said and not contract.on_page
+    return Answer(f"simp ({', '.join(words)})", choice, tuple(sorted(facts.laws)), pieces, spelt)

@@ -47,7 +47,7 @@ def uses(crate, answers, opened):
         yield f"use {picks}.{{{', '.join(choice)}}}"
     if tests:
         yield f"use borrow.Author.Tests.{{{', '.join(tests)}}}"
-    for file, laws in (("PieceLaws", ("with-append", "with-none")), ("PageLaws", ("joined-piece",))):
+    for file, laws in (("PieceLaws", ("with-append", "with-none")), ("PageLaws", ("joined-piece", "joined-all"))):
         cited = [name for name in laws if any(name in one.pieces for one in answers)]
         if cited:
             yield f"use Rattle.page.specs.{file}.{{{', '.join(cited)}}}"

@@ -99,15 +99,16 @@ class Contracts(Room):
 
     def test_a_function_that_tells_a_piece(self):
         words = "ghost use Rattle.names.specs.Words.{iirWords, marksSaid};\nghost use Rattle.page.specs.Pieces.{noPiece, with, piece};\n"
-        for said, name, told in (
-            ("piece (iirWords byte)", "iirWords", True),
-            ("with self (marksSaid marks)", "marksSaid", True),
-            ("joined page (marksSaid marks)", "marksSaid", True),
-            ("with self words", None, True),
-            ("noPiece", "noPiece", False),
+        for said, name, told, on_page in (
+            ("piece (iirWords byte)", "iirWords", True, False),
+            ("with self (marksSaid marks)", "marksSaid", True, False),
+            ("joined page (marksSaid marks)", "marksSaid", True, True),
+            ("joinedAll page (marksSaid marks)", "marksSaid", True, True),
+            ("with self words", None, True, False),
+            ("noPiece", "noPiece", False, False),
         ):
             found = functions(f"{words}fn told(byte: u8) -> Piece\n    ensures {{ λ r. ⌜ r ≡ {said} ⌝ }}\n{{\n    0\n}}\n")["told"]
-            self.assertEqual((found.name, found.told, tells(found)), (name, told, True))
+            self.assertEqual((found.name, found.told, found.on_page, tells(found)), (name, told, on_page, True))
         self.assertFalse(tells(TAKEN))
 
     def test_what_is_unfoldable(self):
@@ -216,7 +217,11 @@ class Told(unittest.TestCase):
         self.assertEqual(found.words, "simp (c .empty .ensures, c .before .if1 .left, pick-false, with-append, with-none)")
 
     def test_a_piece_is_joined(self):
-        found = answer("returns", self.behind("named", "join"), self.TELLS, Calls(told=frozenset({"named", "join"})))
+        page = self.TELLS._replace(on_page=True)
+        found = answer("returns", self.behind("queues", "flags"), page, Calls(told=frozenset({"queues", "flags"})))
+        self.assertEqual((found.pieces, found.spelt), (("joined-all",), False))
+        self.assertEqual(answer("returns", self.behind("queues"), page, Calls(told=frozenset({"queues"}))).pieces, ())
+        found = answer("returns", self.behind("named", "join"), page, Calls(told=frozenset({"named", "join"})))
         self.assertEqual(found.words, "simp (c .join .ensures, c .before .named .ensures, c .before .before .if1 .left, pick-false, joined-piece)")
         self.assertEqual((found.pieces, found.spelt), (("joined-piece",), False))
 

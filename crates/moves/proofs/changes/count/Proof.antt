@@ -1,4 +1,4 @@
--- made by tools/answers for count of crates/moves/src/changes.rt, sum 4250ca272c2ce0c8: do not change it by hand, make it anew
+-- made by tools/answers for count of crates/moves/src/changes.rt, sum abb0810326347f08: do not change it by hand, make it anew
 use Rattle.page.specs.PageLaws.{joined-piece}
 use Rattle.moves.specs.Moved.{counted}
 use borrow.Author.Needs.{needs}

@@ -1,4 +1,4 @@
--- made by tools/answers for counted of crates/moves/src/changes.rt, sum 6bffc9784e1fc171: do not change it by hand, make it anew
+-- made by tools/answers for counted of crates/moves/src/changes.rt, sum 01382db50f98378d: do not change it by hand, make it anew
 use Rattle.base.specs.PickLaws.{pick-true, pick-false}
 use borrow.Author.Tests.{eq-eqb, ne-eqb}
 use Rattle.page.specs.PieceLaws.{with-append, with-none}

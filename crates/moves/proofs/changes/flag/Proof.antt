@@ -1,4 +1,4 @@
--- made by tools/answers for flag of crates/moves/src/changes.rt, sum 021b108d11fb5646: do not change it by hand, make it anew
+-- made by tools/answers for flag of crates/moves/src/changes.rt, sum 41358adedee4125e: do not change it by hand, make it anew
 use Rattle.page.specs.PageLaws.{joined-piece}
 use Rattle.moves.specs.Moved.{turned}
 use borrow.Author.Needs.{needs}

@@ -1,4 +1,4 @@
--- made by tools/answers for flagged of crates/moves/src/changes.rt, sum 52bfeb19409f884b: do not change it by hand, make it anew
+-- made by tools/answers for flagged of crates/moves/src/changes.rt, sum 4470f56e2478a9c6: do not change it by hand, make it anew
 use Rattle.base.specs.PickLaws.{pick-true, pick-false}
 use Rattle.page.specs.PieceLaws.{with-append, with-none}
 use Rattle.moves.specs.Moved.{turned}

@@ -1,3 +1,4 @@
+-- made by tools/answers for channel_moved of crates/moves/src/places.rt, sum 404c13bc391dc942: do not change it by hand, make it anew
 use Rattle.page.specs.PageLaws.{joined-all}
 use Rattle.moves.specs.Moved.{channelMoved}
 use borrow.Author.Needs.{needs}

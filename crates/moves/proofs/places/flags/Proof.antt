@@ -1,5 +1,5 @@
--- made by tools/answers for flags of crates/moves/src/places.rt, sum b3f5c2f54be05f8e: do not change it by hand, make it anew
-use Rattle.page.specs.PieceLaws.{with-append, with-none}
+-- made by tools/answers for flags of crates/moves/src/places.rt, sum 3ad0613782b4a761: do not change it by hand, make it anew
+use Rattle.page.specs.PageLaws.{joined-all}
 use Rattle.moves.specs.Moved.{flagsMoved}
 use borrow.Author.Needs.{needs}
 use Rattle.moves.proofs.places.flags.Statement.{statement}
@@ -31,7 +31,7 @@ flag-requires-2 c κs = search needs
 
 returns : tie.Need-returns
 unfolding flagsMoved
-returns c = simp (c .flag2 .ensures, c .before .before .before .flag .ensures, ← c .before .before .before .before .before .before .timed-out2 .ensures, ← c .before .before .before .before .before .before .before .timed-out .ensures, with-append, with-none)
+returns c = simp (c .flag2 .ensures, c .before .before .before .flag .ensures, ← c .before .before .before .before .before .before .timed-out2 .ensures, ← c .before .before .before .before .before .before .before .timed-out .ensures, joined-all)
 
 pub flags-spec : {M : Type 1} → statement M
 flags-spec =

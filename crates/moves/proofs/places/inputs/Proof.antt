@@ -1,5 +1,5 @@
--- made by tools/answers for inputs of crates/moves/src/places.rt, sum 05e5b6ff63348339: do not change it by hand, make it anew
-use Rattle.page.specs.PieceLaws.{with-append, with-none}
+-- made by tools/answers for inputs of crates/moves/src/places.rt, sum 93fcb6000a1a3b95: do not change it by hand, make it anew
+use Rattle.page.specs.PageLaws.{joined-all}
 use Rattle.moves.specs.Moved.{changesMoved}
 use borrow.Author.Needs.{needs}
 use Rattle.moves.proofs.places.inputs.Statement.{statement}
@@ -43,7 +43,7 @@ turn-requires-4 c κs = search needs
 
 returns : tie.Need-returns
 unfolding changesMoved
-returns c = simp (c .turn4 .ensures, c .before .before .before .turn3 .ensures, c .before .before .before .before .before .before .turn2 .ensures, c .before .before .before .before .before .before .before .before .before .turn .ensures, with-append, with-none)
+returns c = simp (c .turn4 .ensures, c .before .before .before .turn3 .ensures, c .before .before .before .before .before .before .turn2 .ensures, c .before .before .before .before .before .before .before .before .before .turn .ensures, joined-all)
 
 pub inputs-spec : {M : Type 1} → statement M
 inputs-spec =

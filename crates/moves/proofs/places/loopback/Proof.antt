@@ -1,4 +1,4 @@
--- made by tools/answers for loopback of crates/moves/src/places.rt, sum 12a3c29508c4e12d: do not change it by hand, make it anew
+-- made by tools/answers for loopback of crates/moves/src/places.rt, sum 2f72f08ef5f54ae2: do not change it by hand, make it anew
 use Rattle.moves.specs.Moved.{loopbackMoved}
 use borrow.Author.Needs.{needs}
 use Rattle.moves.proofs.places.loopback.Statement.{statement}

@@ -1,4 +1,4 @@
--- made by tools/answers for lsr of crates/moves/src/places.rt, sum cb99231de4ab2353: do not change it by hand, make it anew
+-- made by tools/answers for lsr of crates/moves/src/places.rt, sum 367ca8522af23c1f: do not change it by hand, make it anew
 use Rattle.channel.specs.Status.{lsr}
 use borrow.Author.Needs.{needs}
 use Rattle.moves.proofs.places.lsr.Statement.{statement}

@@ -1,4 +1,4 @@
--- made by tools/answers for msr of crates/moves/src/places.rt, sum 0e7b26800f4b8f5b: do not change it by hand, make it anew
+-- made by tools/answers for msr of crates/moves/src/places.rt, sum 7a65ca4f507a9d7e: do not change it by hand, make it anew
 use Rattle.channel.specs.Status.{msr}
 use borrow.Author.Needs.{needs}
 use Rattle.moves.proofs.places.msr.Statement.{statement}

@@ -1,5 +1,5 @@
--- made by tools/answers for queues of crates/moves/src/places.rt, sum 9d64f52d69d9ecf3: do not change it by hand, make it anew
-use Rattle.page.specs.PieceLaws.{with-append, with-none}
+-- made by tools/answers for queues of crates/moves/src/places.rt, sum d87f27411985b2b2: do not change it by hand, make it anew
+use Rattle.page.specs.PageLaws.{joined-all}
 use Rattle.moves.specs.Moved.{queuesMoved}
 use borrow.Author.Needs.{needs}
 use Rattle.moves.proofs.places.queues.Statement.{statement}
@@ -28,7 +28,7 @@ flag-requires c κs = search needs
 
 returns : tie.Need-returns
 unfolding queuesMoved
-returns c = simp (c .flag .ensures, c .before .before .before .count2 .ensures, c .before .before .before .before .before .count .ensures, with-append, with-none)
+returns c = simp (c .flag .ensures, c .before .before .before .count2 .ensures, c .before .before .before .before .before .count .ensures, joined-all)
 
 pub queues-spec : {M : Type 1} → statement M
 queues-spec =

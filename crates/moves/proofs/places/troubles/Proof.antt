@@ -1,5 +1,5 @@
--- made by tools/answers for troubles of crates/moves/src/places.rt, sum c5326bafe8e8727e: do not change it by hand, make it anew
-use Rattle.page.specs.PieceLaws.{with-append, with-none}
+-- made by tools/answers for troubles of crates/moves/src/places.rt, sum 0cdbeadcb29b741a: do not change it by hand, make it anew
+use Rattle.page.specs.PageLaws.{joined-all}
 use Rattle.moves.specs.Moved.{troublesMoved}
 use borrow.Author.Needs.{needs}
 use Rattle.moves.proofs.places.troubles.Statement.{statement}
@@ -43,7 +43,7 @@ turn-requires-4 c κs = search needs
 
 returns : tie.Need-returns
 unfolding troublesMoved
-returns c = simp (c .turn4 .ensures, c .before .before .before .turn3 .ensures, c .before .before .before .before .before .before .turn2 .ensures, c .before .before .before .before .before .before .before .before .before .turn .ensures, with-append, with-none)
+returns c = simp (c .turn4 .ensures, c .before .before .before .turn3 .ensures, c .before .before .before .before .before .before .turn2 .ensures, c .before .before .before .before .before .before .before .before .before .turn .ensures, joined-all)
 
 pub troubles-spec : {M : Type 1} → statement M
 troubles-spec =

@@ -1,3 +1,4 @@
+-- made by tools/answers for at_controller of crates/moves/src/signals.rt, sum 632c28caf8a6439b: do not change it by hand, make it anew
 use Rattle.page.specs.PageLaws.{joined-all}
 use Rattle.moves.specs.Moved.{controllerMoved}
 use borrow.Author.Needs.{needs}

@@ -1,4 +1,4 @@
--- made by tools/answers for first of crates/moves/src/signals.rt, sum 7424019a12c43eaf: do not change it by hand, make it anew
+-- made by tools/answers for first of crates/moves/src/signals.rt, sum 1f3f5c6327876444: do not change it by hand, make it anew
 use Rattle.page.specs.PageLaws.{joined-piece}
 use Rattle.moves.specs.Moved.{firstMoved}
 use borrow.Author.Needs.{needs}

@@ -1,4 +1,4 @@
--- made by tools/answers for first_piece of crates/moves/src/signals.rt, sum eb72036243b66bac: do not change it by hand, make it anew
+-- made by tools/answers for first_piece of crates/moves/src/signals.rt, sum faedf4a0aa409bba: do not change it by hand, make it anew
 use Rattle.base.specs.PickLaws.{pick-true, pick-false}
 use borrow.Author.Tests.{eq-eqb, ne-eqb}
 use Rattle.page.specs.PieceLaws.{with-append, with-none}

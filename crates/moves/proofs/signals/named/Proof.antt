@@ -1,4 +1,4 @@
--- made by tools/answers for named of crates/moves/src/signals.rt, sum 5f8c8e0e75031990: do not change it by hand, make it anew
+-- made by tools/answers for named of crates/moves/src/signals.rt, sum 4fd076d97b1873d8: do not change it by hand, make it anew
 use Rattle.page.specs.PieceLaws.{with-append, with-none}
 use Rattle.page.specs.Pieces.{with}
 use Rattle.moves.specs.Moved.{lineWords}

@@ -1,5 +1,5 @@
--- made by tools/answers for output of crates/moves/src/signals.rt, sum 029bb7f7031e4fc2: do not change it by hand, make it anew
-use Rattle.page.specs.PieceLaws.{with-append, with-none}
+-- made by tools/answers for output of crates/moves/src/signals.rt, sum cad8efbfcb689e71: do not change it by hand, make it anew
+use Rattle.page.specs.PageLaws.{joined-all}
 use Rattle.moves.specs.Moved.{outputMoved}
 use borrow.Author.Needs.{needs}
 use Rattle.moves.proofs.signals.output.Statement.{statement}
@@ -22,7 +22,7 @@ flag-requires c κs = search needs
 
 returns : tie.Need-returns
 unfolding outputMoved
-returns c = simp (c .flag .ensures, c .before .before .before .output2 .ensures, c .before .before .before .before .output .ensures, with-append, with-none)
+returns c = simp (c .flag .ensures, c .before .before .before .output2 .ensures, c .before .before .before .before .output .ensures, joined-all)
 
 pub output-spec : {M : Type 1} → statement M
 output-spec =

@@ -1,4 +1,4 @@
--- made by tools/answers for ready of crates/moves/src/signals.rt, sum 66c5d339468ebcee: do not change it by hand, make it anew
+-- made by tools/answers for ready of crates/moves/src/signals.rt, sum 74a7518f1adccc3b: do not change it by hand, make it anew
 use Rattle.moves.specs.Moved.{readyMoved}
 use borrow.Author.Needs.{needs}
 use Rattle.moves.proofs.signals.ready.Statement.{statement}

@@ -1,4 +1,4 @@
--- made by tools/answers for turn of crates/moves/src/signals.rt, sum 2b6376434e067145: do not change it by hand, make it anew
+-- made by tools/answers for turn of crates/moves/src/signals.rt, sum c78562b28e921671: do not change it by hand, make it anew
 use Rattle.page.specs.PageLaws.{joined-piece}
 use Rattle.moves.specs.Moved.{lineTurned}
 use borrow.Author.Needs.{needs}

@@ -1,5 +1,5 @@
--- made by tools/answers for turns of crates/moves/src/signals.rt, sum e5e7255b471738c9: do not change it by hand, make it anew
-use Rattle.page.specs.PieceLaws.{with-append, with-none}
+-- made by tools/answers for turns of crates/moves/src/signals.rt, sum 46aa911b7837e981: do not change it by hand, make it anew
+use Rattle.page.specs.PageLaws.{joined-all}
 use Rattle.moves.specs.Moved.{linesTurned}
 use borrow.Author.Needs.{needs}
 use Rattle.moves.proofs.signals.turns.Statement.{statement}
@@ -31,7 +31,7 @@ turn-requires-8 c κs = search needs
 
 returns : tie.Need-returns
 unfolding linesTurned
-returns c = simp (c .turn8 .ensures, c .before .turn7 .ensures, c .before .before .turn6 .ensures, c .before .before .before .turn5 .ensures, c .before .before .before .before .turn4 .ensures, c .before .before .before .before .before .turn3 .ensures, c .before .before .before .before .before .before .turn2 .ensures, c .before .before .before .before .before .before .before .turn .ensures, with-append, with-none)
+returns c = simp (c .turn8 .ensures, c .before .turn7 .ensures, c .before .before .turn6 .ensures, c .before .before .before .turn5 .ensures, c .before .before .before .before .turn4 .ensures, c .before .before .before .before .before .turn3 .ensures, c .before .before .before .before .before .before .turn2 .ensures, c .before .before .before .before .before .before .before .turn .ensures, joined-all)
 
 pub turns-spec : {M : Type 1} → statement M
 turns-spec =
