@@ -1,4 +1,6 @@
 // The timeline of a lesson, for a wave viewer: a value change dump. The bench behind each record is seen, and what has changed is told.
+use records::SEATS;
+
 mod heads;
 mod sights;
 mod steps;
@@ -30,5 +32,5 @@ pub struct Sight {
     pub requests: u8,
     pub service: u8,
     pub mask: u8,
-    pub seats: [Look; 8],
+    pub seats: [Look; SEATS],
 }

@@ -23,19 +23,17 @@ fn look(seat: Seat) -> Look
     }
 }
 
-fn looks(s: [Seat; SEATS]) -> [Look; 8]
+fn looks(s: [Seat; SEATS]) -> [Look; SEATS]
     ensures { λ r. ⌜ r ≡ listed 8 (λ n. lookOf (getD s n noSeat)) ⌝ }
 {
-    [
-        look(s[0]),
-        look(s[1]),
-        look(s[2]),
-        look(s[3]),
-        look(s[4]),
-        look(s[5]),
-        look(s[6]),
-        look(s[7]),
-    ]
+    let mut all = [Look { lsr: 0, queued: 0 }; SEATS];
+    let mut n: usize = 0;
+    while n < SEATS {
+        let one = s[n];
+        all[n] = look(one);
+        n = n + 1;
+    }
+    all
 }
 
 impl Sight {

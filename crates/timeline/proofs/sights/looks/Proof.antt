@@ -1,77 +1,83 @@
--- made by tools/answers for looks of crates/timeline/src/sights.rt, sum 2aedab2a740e1add: do not change it by hand, make it anew
+use Prim.Native.Nat.{ℕ, _+_, _-_, _≤_}
+use mathlib.Core.List.{List}
+use mathlib.Core.Path.{_≡_, refl, ap, _∙_}
+use native.Mathlib.Omega.{arith}
+use lib.ListN.{getD, set, replicate}
+use lib.Seq.{sets}
 use borrow.Author.Needs.{needs}
+use Rattle.base.specs.ListLaws.{listed}
+use Rattle.base.specs.StoreLaws.{listed-stored}
+use Rattle.seat.specs.declared.Seat.{Seat}
+use Rattle.seat.specs.Seats.{noSeat}
+use Rattle.timeline.specs.Sights.{noLook, lookOf}
+use Rattle.timeline.specs.declared.Look.{Look}
 use Rattle.timeline.proofs.sights.looks.Statement.{statement}
 use Rattle.timeline.proofs.sights.looks.Tie as tie
 
-array-copy-out-look : tie.Need-array-copy-out-look
-array-copy-out-look c = search needs
+-- so many are filled, and the others are as they were
+abbrev filled : List Seat → ℕ → List Look
+filled s n = sets (replicate 8 noLook) 0 (listed n (λ k. lookOf (getD s k noSeat)))
 
-look-requires : tie.Need-look-requires
+abbrev Inv-loop : tie.InvT-loop
+Inv-loop s all₀ n₀ all n = (n ≤ 8) × (all ≡ filled s n)
+
+abbrev μ-loop : tie.MeasureT-loop
+μ-loop s all₀ n₀ all n = 8 - n
+
+loop-holds : tie.Need-loop-holds Inv-loop μ-loop
+loop-holds c = (omega arith, refl)
+
+mul-one : tie.Need-mul-one Inv-loop μ-loop
+mul-one c = search needs
+
+array-copy-out-one : tie.Need-array-copy-out-one Inv-loop μ-loop
+array-copy-out-one c = search needs
+
+look-requires : tie.Need-look-requires Inv-loop μ-loop
 look-requires c κs = search needs
 
-array-copy-out-look-2 : tie.Need-array-copy-out-look-2
-array-copy-out-look-2 c = search needs
+mul-all : tie.Need-mul-all Inv-loop μ-loop
+mul-all c = search needs
 
-look-requires-2 : tie.Need-look-requires-2
-look-requires-2 c κs = search needs
+array-set-from-all : tie.Need-array-set-from-all Inv-loop μ-loop
+array-set-from-all c = search needs
 
-array-copy-out-look-3 : tie.Need-array-copy-out-look-3
-array-copy-out-look-3 c = search needs
+add-n : tie.Need-add-n Inv-loop μ-loop
+add-n c = search needs
 
-look-requires-3 : tie.Need-look-requires-3
-look-requires-3 c κs = search needs
+loop-less : tie.Need-loop-less Inv-loop μ-loop
+loop-less c = omega arith
 
-array-copy-out-look-4 : tie.Need-array-copy-out-look-4
-array-copy-out-look-4 c = search needs
+loop-again : tie.Need-loop-again Inv-loop μ-loop
+loop-again c =
+    let b = c .before .before .before in
+    let s : List Seat = b .before .args .t1 in
+    let n : ℕ = b .loop .n in (
+      omega arith,
+      ap (set (b .loop .all) n) (c .look .ensures)
+          ∙ ap (λ (l : List Look). set l n (lookOf (getD s n noSeat))) (b .loop .inv .1)
+          ∙ listed-stored n (λ k. lookOf (getD s k noSeat)) (replicate 8 noLook),
+    )
 
-look-requires-4 : tie.Need-look-requires-4
-look-requires-4 c κs = search needs
-
-array-copy-out-look-5 : tie.Need-array-copy-out-look-5
-array-copy-out-look-5 c = search needs
-
-look-requires-5 : tie.Need-look-requires-5
-look-requires-5 c κs = search needs
-
-array-copy-out-look-6 : tie.Need-array-copy-out-look-6
-array-copy-out-look-6 c = search needs
-
-look-requires-6 : tie.Need-look-requires-6
-look-requires-6 c κs = search needs
-
-array-copy-out-look-7 : tie.Need-array-copy-out-look-7
-array-copy-out-look-7 c = search needs
-
-look-requires-7 : tie.Need-look-requires-7
-look-requires-7 c κs = search needs
-
-array-copy-out-look-8 : tie.Need-array-copy-out-look-8
-array-copy-out-look-8 c = search needs
-
-look-requires-8 : tie.Need-look-requires-8
-look-requires-8 c κs = search needs
-
-returns : tie.Need-returns
-returns c = simp (← c .look8 .ensures, ← c .before .before .look7 .ensures, ← c .before .before .before .before .look6 .ensures, ← c .before .before .before .before .before .before .look5 .ensures, ← c .before .before .before .before .before .before .before .before .look4 .ensures, ← c .before .before .before .before .before .before .before .before .before .before .look3 .ensures, ← c .before .before .before .before .before .before .before .before .before .before .before .before .look2 .ensures, ← c .before .before .before .before .before .before .before .before .before .before .before .before .before .before .look .ensures)
+returns : tie.Need-returns Inv-loop μ-loop
+returns c =
+    let b = c .before in
+    let every : b .loop .n ≡ 8 = omega arith in
+    b .loop .inv .1 ∙ ap (filled (b .before .args .t1)) every
 
 pub looks-spec : {M : Type 1} → statement M
 looks-spec =
     tie.close
     (tie.spec
-    array-copy-out-look
+    Inv-loop
+    μ-loop
+    loop-holds
+    mul-one
+    array-copy-out-one
     look-requires
-    array-copy-out-look-2
-    look-requires-2
-    array-copy-out-look-3
-    look-requires-3
-    array-copy-out-look-4
-    look-requires-4
-    array-copy-out-look-5
-    look-requires-5
-    array-copy-out-look-6
-    look-requires-6
-    array-copy-out-look-7
-    look-requires-7
-    array-copy-out-look-8
-    look-requires-8
+    mul-all
+    array-set-from-all
+    add-n
+    loop-less
+    loop-again
     returns)
