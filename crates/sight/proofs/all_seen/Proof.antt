@@ -9,10 +9,10 @@ use Rattle.base.specs.ListLaws.{listed}
 use Rattle.base.specs.StoreLaws.{listed-stored}
 use Rattle.seat.specs.declared.Seat.{Seat}
 use Rattle.seat.specs.Seats.{noSeat}
-use Rattle.timeline.specs.Sights.{noLook, lookOf}
-use Rattle.timeline.specs.declared.Look.{Look}
-use Rattle.timeline.proofs.sights.looks.Statement.{statement}
-use Rattle.timeline.proofs.sights.looks.Tie as tie
+use Rattle.sight.specs.Sights.{noLook, lookOf}
+use Rattle.sight.specs.declared.Look.{Look}
+use Rattle.sight.proofs.all_seen.Statement.{statement}
+use Rattle.sight.proofs.all_seen.Tie as tie
 
 -- so many are filled, and the others are as they were
 abbrev filled : List Seat → ℕ → List Look
@@ -33,8 +33,8 @@ mul-one c = search needs
 array-copy-out-one : tie.Need-array-copy-out-one Inv-loop μ-loop
 array-copy-out-one c = search needs
 
-look-requires : tie.Need-look-requires Inv-loop μ-loop
-look-requires c κs = search needs
+seen-requires : tie.Need-seen-requires Inv-loop μ-loop
+seen-requires c κs = search needs
 
 mul-all : tie.Need-mul-all Inv-loop μ-loop
 mul-all c = search needs
@@ -54,7 +54,7 @@ loop-again c =
     let s : List Seat = b .before .args .t1 in
     let n : ℕ = b .loop .n in (
       omega arith,
-      ap (set (b .loop .all) n) (c .look .ensures)
+      ap (set (b .loop .all) n) (c .seen .ensures)
           ∙ ap (λ (l : List Look). set l n (lookOf (getD s n noSeat))) (b .loop .inv .1)
           ∙ listed-stored n (λ k. lookOf (getD s k noSeat)) (replicate 8 noLook),
     )
@@ -65,8 +65,8 @@ returns c =
     let every : b .loop .n ≡ 8 = omega arith in
     b .loop .inv .1 ∙ ap (filled (b .before .args .t1)) every
 
-pub looks-spec : {M : Type 1} → statement M
-looks-spec =
+pub all-seen-spec : {M : Type 1} → statement M
+all-seen-spec =
     tie.close
     (tie.spec
     Inv-loop
@@ -74,7 +74,7 @@ looks-spec =
     loop-holds
     mul-one
     array-copy-out-one
-    look-requires
+    seen-requires
     mul-all
     array-set-from-all
     add-n
