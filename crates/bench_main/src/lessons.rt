@@ -28,7 +28,7 @@ fn records() -> [u8; 1048576]
 fn named(records: &[u8]) -> u8 {
     let mut used: u8 = 0;
     for k in 0..records.len() / 4 {
-        used = timeline::named(used, records[4 * k], records[4 * k + 1]);
+        used = sight::named(used, records[4 * k], records[4 * k + 1]);
     }
     used
 }

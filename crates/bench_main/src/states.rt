@@ -11,7 +11,7 @@ pub(crate) fn in_use(bench: Bench, named: u8) -> u8 {
     for n in 0..SEATS {
         let seat = bench.seats[n];
         if seat_page::is_in_use(seat) {
-            used = timeline::named(used, Event::READ_REGISTER, n as u8);
+            used = sight::named(used, Event::READ_REGISTER, n as u8);
         }
     }
     used

@@ -9,7 +9,7 @@ use account::Told;
 use bench::Bench;
 use libc::STDOUT_FILENO;
 use page::Page;
-use timeline::Sight;
+use sight::Sight;
 ghost use mathlib.Core.Path.{_≡_};
 ghost use Prim.Native.Nat.{_+_, _≤_, _<_};
 ghost use lib.ListN.{length};

@@ -7,7 +7,7 @@ use crate::words;
 use bench::Bench;
 use options::TIMELINE;
 use records::SEATS;
-use timeline::Sight;
+use sight::Sight;
 ghost use Prim.Native.Nat.{_≤_};
 ghost use lib.ListN.{length};
 

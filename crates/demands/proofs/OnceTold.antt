@@ -59,12 +59,12 @@ state-once M =
 pub timeline-once : (M : Type 1) → TimelineOnce M
 timeline-once M =
     record {
-      timeline·Sight·of = value _ refl (λ κ a v w. refl);
+      sight·Sight·of = value _ refl (λ κ a v w. refl);
       timeline·head = value _ refl (λ κ a v w. refl);
       timeline·seat-head = value _ refl (λ κ a v w. refl);
       timeline·head-end = value _ refl (λ κ a v w. refl);
       timeline·first = value _ refl (λ κ a v w. refl);
       timeline·step = value _ refl (λ κ a v w. refl);
       timeline·last = value _ refl (λ κ a v w. refl);
-      timeline·named = value _ refl (λ κ a v w. refl);
+      sight·named = value _ refl (λ κ a v w. refl);
     }

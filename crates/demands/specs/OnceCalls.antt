@@ -28,6 +28,7 @@ use Rattle.moves.proofs as moves
 use Rattle.account.proofs as account
 use Rattle.seat_page.proofs as seat_page
 use Rattle.controller_page.proofs as controller_page
+use Rattle.sight.proofs as sight
 use Rattle.timeline.proofs as timeline
 use Rattle.image.proofs as image
 use Rattle.listing.proofs as listing
@@ -298,17 +299,17 @@ pub record StateOnce (M : Type 1) : Type 2 where
   pub seat-page·seat : Once M seat_page.seat.ended seat_page.seat.clauses seat_page.seat.spec
   pub controller-page·controller : Once M controller_page.controller.ended controller_page.controller.clauses controller_page.controller.spec
 
--- ---- timeline: what is seen of a bench, for a wave viewer
+-- ---- sight and timeline: what is seen of a bench, for a wave viewer
 
 pub record TimelineOnce (M : Type 1) : Type 2 where
-  pub timeline·Sight·of : Once M timeline.Sight.of.ended timeline.Sight.of.clauses timeline.Sight.of.spec
+  pub sight·Sight·of : Once M sight.Sight.of.ended sight.Sight.of.clauses sight.Sight.of.spec
   pub timeline·head : Once M timeline.head.ended timeline.head.clauses timeline.head.spec
   pub timeline·seat-head : Once M timeline.seat_head.ended timeline.seat_head.clauses timeline.seat_head.spec
   pub timeline·head-end : Once M timeline.head_end.ended timeline.head_end.clauses timeline.head_end.spec
   pub timeline·first : Once M timeline.first.ended timeline.first.clauses timeline.first.spec
   pub timeline·step : Once M timeline.step.ended timeline.step.clauses timeline.step.spec
   pub timeline·last : Once M timeline.last.ended timeline.last.clauses timeline.last.spec
-  pub timeline·named : Once M timeline.named.ended timeline.named.clauses timeline.named.spec
+  pub sight·named : Once M sight.named.ended sight.named.clauses sight.named.spec
 
 -- ---- image: the whole bench as an image, with the buffer that is lent back
 

@@ -6,10 +6,10 @@ use mathlib.Core.Path.{_≡_, refl, sym, ap, ap₂, _∙_}
 use native.Mathlib.Omega.{arith}
 use Rattle.base.specs.Bits.{bit}
 use Rattle.text.specs.Quoted.{quoted}
-use Rattle.timeline.specs.Sights.{lookAt}
+use Rattle.sight.specs.Sights.{lookAt}
 use Rattle.timeline.specs.Variables.{downFrom, bitName, bitWord, ofNumber, ofSeat}
 use Rattle.timeline.specs.Dump.{declaration, declarations, bitDeclarations, change, bitChanges, told}
-use Rattle.timeline.specs.declared.Sight.{Sight}
+use Rattle.sight.specs.declared.Sight.{Sight}
 use Rattle.timeline.proofs.Scopes.{declared-append, told-append}
 
 highest : {A : Type 0} (k : ℕ) (f : ℕ → List A) → 0 < k → downFrom k f ≡ f (k - 1) ++ downFrom (k - 1) f

@@ -14,10 +14,10 @@ use Rattle.base.specs.PickLaws.{pick-either, pick-cases}
 use Rattle.text.specs.Line.{decimal}
 use Rattle.text.specs.DecimalLaws.{length-small, decimal-length}
 use Rattle.text.specs.Quoted.{quoted}
-use Rattle.timeline.specs.Sights.{lookAt}
+use Rattle.sight.specs.Sights.{lookAt}
 use Rattle.timeline.specs.Variables.{Variable, downFrom, outputVariable, ofNumber, ofSeat, lineVariables, seatVariables, scopeVariables}
 use Rattle.timeline.specs.Dump.{lineFeed, valueLine, change, told, time}
-use Rattle.timeline.specs.declared.Sight.{Sight}
+use Rattle.sight.specs.declared.Sight.{Sight}
 
 pub time-length : (n : ℕ) → n < 10 ^ 20 → length (time n) ≤ 22
 unfolding time

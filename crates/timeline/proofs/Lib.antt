@@ -7,6 +7,5 @@ pub mod Names
 pub mod Watching
 pub mod Pages
 pub mod Exemplified
-pub mod Seeing
 pub mod Slips
 pub mod Statements

@@ -11,11 +11,11 @@ use Rattle.text.specs.DecimalLaws.{length-small, decimal-length}
 use Rattle.text.specs.Quoted.{quoted}
 use Rattle.page.specs.Pages.{pageMost, noPage, put, shown}
 use Rattle.page.specs.PageLaws.{shown-put}
-use Rattle.timeline.specs.Sights.{lookAt}
+use Rattle.sight.specs.Sights.{lookAt}
 use Rattle.timeline.specs.Variables.{Variable, each, downFrom, outputVariable, ofNumber, ofSeat, lineVariables, scopeCount, scopeVariables, variables}
 use Rattle.timeline.specs.Dump.{declaration, declarations, scope, scoped, lineHead, headWords, seatHead, headEnd, change, told, time, firstWords, stepWords}
 use Rattle.timeline.specs.Told.{Stands, NothingCut}
-use Rattle.timeline.specs.declared.Sight.{Sight}
+use Rattle.sight.specs.declared.Sight.{Sight}
 use Rattle.timeline.proofs.Lengths.{time-length, change-length, scopeMost, told-length}
 use Rattle.timeline.proofs.Scopes.{told-append}
 

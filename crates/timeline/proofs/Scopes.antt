@@ -8,7 +8,7 @@ use Rattle.base.specs.Bits.{bit}
 use Rattle.base.specs.PickLaws.{pick-true, pick-false}
 use Rattle.timeline.specs.Variables.{Variable, each, ofSeat, seatVariables}
 use Rattle.timeline.specs.Dump.{declarations, told}
-use Rattle.timeline.specs.declared.Sight.{Sight}
+use Rattle.sight.specs.declared.Sight.{Sight}
 
 module _ (used n : ℕ) {test : Bool} (tested : test ≡ bit n used) where
   pub in-use : test ≡ true → seatVariables used n ≡ ofSeat n

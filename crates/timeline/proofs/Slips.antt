@@ -5,7 +5,7 @@ use Rattle.base.specs.Pick.{pick}
 use Rattle.base.specs.Bits.{bit, digit}
 use Rattle.text.specs.Line.{digitsWithin, decimal}
 use Rattle.text.specs.Quoted.{quoted}
-use Rattle.timeline.specs.Sights.{lookAt}
+use Rattle.sight.specs.Sights.{lookAt}
 use Rattle.timeline.specs.Variables.{each, downFrom, lineVariables, ofSeat, seatVariables, scopeVariables, variables}
 use Rattle.timeline.specs.Dump.{valueLine, change, told, time, stepWords}
 use Rattle.timeline.specs.Meaning.{nameIn, valueIn, key, valueBehind, viewed, shownBehind}

@@ -3,7 +3,6 @@ use Rattle.timeline.specs.Statements.{Statements}
 use Rattle.timeline.proofs.Watching.{shown-last, nothing-changed}
 use Rattle.timeline.proofs.Names.{names-apart}
 use Rattle.timeline.proofs.Pages.{nothing-cut}
-use Rattle.timeline.proofs.Seeing.{seen-as-read, seats-named}
 use Rattle.timeline.proofs.Exemplified.{exemplified}
 
 pub statements : Statements
@@ -13,7 +12,5 @@ statements =
       names-apart = names-apart;
       nothing-changed = nothing-changed;
       nothing-cut = nothing-cut;
-      seen-as-read = seen-as-read;
-      seats-named = seats-named;
       examples = exemplified;
     }

@@ -13,7 +13,7 @@ use Rattle.timeline.specs.Variables.{Variable, variables}
 use Rattle.timeline.specs.Dump.{valueLine, change, told, time, firstWords, stepWords}
 use Rattle.timeline.specs.Meaning.{Viewer, key, shownBehind}
 use Rattle.timeline.specs.Told.{steps, lastSight, dump, allOf, otherThan, allApart, ShownLast, NothingChanged}
-use Rattle.timeline.specs.declared.Sight.{Sight}
+use Rattle.sight.specs.declared.Sight.{Sight}
 use Rattle.timeline.proofs.Reading.{unended, Reads, read-none, read-on, read-same, read-own, read-other, read-time}
 use Rattle.timeline.proofs.Names.{plain, names-plain, names-apart}
 

@@ -8,7 +8,7 @@ use Rattle.base.specs.Bits.{bit, digit}
 use Rattle.text.specs.Line.{newline, decimal}
 use Rattle.text.specs.Quoted.{quoted}
 use Rattle.timeline.specs.Variables.{Variable, each, downFrom, numbered, bitName, bitWord, outputVariable, lineVariables, ofSeat, variables}
-use Rattle.timeline.specs.declared.Sight.{Sight}
+use Rattle.sight.specs.declared.Sight.{Sight}
 
 abbrev pub lineFeed : List ℕ
 lineFeed = newline ∷ []

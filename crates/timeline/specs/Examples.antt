@@ -6,12 +6,9 @@ use mathlib.Core.List.{List, [], _∷_, _++_}
 use mathlib.Core.Path.{_≡_}
 use lib.ListN.{replicate, set}
 use Rattle.text.specs.Quoted.{quoted}
-use Rattle.bench.specs.Seats.{powerUp}
-use Rattle.timeline.specs.Sights.{sightOf}
 use Rattle.timeline.specs.Dump.{lineFeed, wholeHead, firstWords, stepWords, time}
-use Rattle.timeline.specs.InUse.{withNamed}
-use Rattle.timeline.specs.declared.Look.{Look}
-use Rattle.timeline.specs.declared.Sight.{Sight}
+use Rattle.sight.specs.declared.Look.{Look}
+use Rattle.sight.specs.declared.Sight.{Sight}
 
 -- lines, each with its end
 abbrev pub text : List String → List ℕ
@@ -49,8 +46,6 @@ masked =
 -- ---- what is told
 
 pub record Examples : Type 0 where
-  pub power-up : sightOf powerUp ≡ atPowerUp
-  pub used : withNamed 0 1 2 ≡ 0x04
   pub head :
       wholeHead 0x04
       ≡ text

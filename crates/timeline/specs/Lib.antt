@@ -1,9 +1,6 @@
-pub mod Sights
 pub mod Variables
 pub mod Dump
-pub mod InUse
 pub mod Meaning
 pub mod Told
-pub mod Seen
 pub mod Examples
 pub mod Statements

@@ -1,6 +1,5 @@
 -- The statements of this room. The proofs give the record whole.
 use Rattle.timeline.specs.Told.{ShownLast, NamesApart, NothingChanged, NothingCut}
-use Rattle.timeline.specs.Seen.{SeenAsRead, SeatsNamed}
 use Rattle.timeline.specs.Examples.{Examples}
 
 pub record Statements : Type 0 where
@@ -8,6 +7,4 @@ pub record Statements : Type 0 where
   pub names-apart : NamesApart
   pub nothing-changed : NothingChanged
   pub nothing-cut : NothingCut
-  pub seen-as-read : SeenAsRead
-  pub seats-named : SeatsNamed
   pub examples : Examples

@@ -10,7 +10,7 @@ use Rattle.page.specs.Pages.{noPage, put, shown}
 use Rattle.timeline.specs.Variables.{Variable, variables}
 use Rattle.timeline.specs.Dump.{headWords, seatHead, headEnd, time, firstWords, stepWords}
 use Rattle.timeline.specs.Meaning.{key, shownBehind}
-use Rattle.timeline.specs.declared.Sight.{Sight}
+use Rattle.sight.specs.declared.Sight.{Sight}
 
 -- ---- what is shown last
 

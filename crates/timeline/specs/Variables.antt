@@ -7,8 +7,8 @@ use Rattle.base.specs.Pick.{pick}
 use Rattle.base.specs.Bits.{bit}
 use Rattle.text.specs.Line.{decimal}
 use Rattle.text.specs.Quoted.{quoted}
-use Rattle.timeline.specs.Sights.{lookAt}
-use Rattle.timeline.specs.declared.Sight.{Sight}
+use Rattle.sight.specs.Sights.{lookAt}
+use Rattle.sight.specs.declared.Sight.{Sight}
 
 -- a variable: the short name by which the lines tell it, the word by which it is declared, and whether it is set in a sight
 pub record Variable : Type 0 where

@@ -1,10 +1,10 @@
 // The steps of a timeline: the time, and the lines of what has changed since the step before.
 use crate::LINES;
 use crate::SCOPES;
-use crate::Sight;
 use crate::values;
 use page::Page;
 use page::Piece;
+use sight::Sight;
 ghost use mathlib.Core.Path.{_≡_};
 ghost use Rattle.page.specs.Pieces.{piece};
 ghost use Rattle.page.specs.Pages.{noPage, put};

@@ -10,8 +10,8 @@ use Rattle.seat.specs.Seats.{queued}
 use Rattle.records.specs.Events.{seatCount}
 use Rattle.bench.specs.declared.Bench.{Bench}
 use Rattle.bench.specs.Seats.{chair, seat}
-use Rattle.timeline.specs.declared.Look.{Look}
-use Rattle.timeline.specs.declared.Sight.{Sight}
+use Rattle.sight.specs.declared.Look.{Look}
+use Rattle.sight.specs.declared.Sight.{Sight}
 
 -- of a seat: its LSR, and how many its receive queue holds
 unfoldable pub lookOf : Seat → Look

@@ -1,9 +1,9 @@
--- made by tools/answers for named of crates/timeline/src/sights.rt, sum 298965c1d12be29b: do not change it by hand, make it anew
+-- made by tools/answers for named of crates/sight/src/lib.rt, sum f9d6ec0c1db05052: do not change it by hand, make it anew
 use Rattle.base.specs.PickLaws.{pick-true, pick-false}
-use Rattle.timeline.specs.InUse.{withNamed}
+use Rattle.sight.specs.InUse.{withNamed}
 use borrow.Author.Needs.{needs}
-use Rattle.timeline.proofs.sights.named.Statement.{statement}
-use Rattle.timeline.proofs.sights.named.Tie as tie
+use Rattle.sight.proofs.named.Statement.{statement}
+use Rattle.sight.proofs.named.Tie as tie
 
 only-requires : tie.Need-only-requires
 only-requires c κs = search needs

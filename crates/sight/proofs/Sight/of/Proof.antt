@@ -1,8 +1,8 @@
 use Rattle.bench.specs.Seats.{seat}
-use Rattle.timeline.specs.Sights.{sightOf}
+use Rattle.sight.specs.Sights.{sightOf}
 use borrow.Author.Needs.{needs}
-use Rattle.timeline.proofs.Sight.of.Statement.{statement}
-use Rattle.timeline.proofs.Sight.of.Tie as tie
+use Rattle.sight.proofs.Sight.of.Statement.{statement}
+use Rattle.sight.proofs.Sight.of.Tie as tie
 
 output-requires : tie.Need-output-requires
 output-requires c κs = search needs
@@ -10,8 +10,8 @@ output-requires c κs = search needs
 requests-requires : tie.Need-requests-requires
 requests-requires c κs = search needs
 
-looks-requires : tie.Need-looks-requires
-looks-requires c κs = search needs
+all-seen-requires : tie.Need-all-seen-requires
+all-seen-requires c κs = search needs
 
 returns : tie.Need-returns
 unfolding sightOf seat
@@ -21,8 +21,8 @@ returns c = λ i. record {
   requests = c .before .requests .ensures i;
   service = c .before .before .before .before .before .args .bench .controller .operation .service;
   mask = c .before .before .before .before .before .args .bench .controller .operation .mask;
-  seats = c .looks .ensures i;
+  seats = c .all-seen .ensures i;
 }
 
 pub of-spec : {M : Type 1} → statement M
-of-spec = tie.close (tie.spec output-requires requests-requires looks-requires returns)
+of-spec = tie.close (tie.spec output-requires requests-requires all-seen-requires returns)

@@ -3,6 +3,7 @@ use Prim.Native.Nat.{ℕ, _<_}
 use mathlib.Core.Bool.{Bool, true, false, _&&_, _||_}
 use mathlib.Core.Path.{_≡_}
 use lib.Dec.{ltb, eqb}
+use lib.ListN.{replicate}
 use Rattle.base.specs.Bits.{bit, bits}
 use Rattle.base.specs.ListLaws.{listed}
 use Rattle.base.specs.declared.Answer.{Answer}
@@ -12,12 +13,12 @@ use Rattle.channel.specs.Steps.{stepped}
 use Rattle.seat.specs.Seats.{five, line}
 use Rattle.controller.specs.Words as controller
 use Rattle.bench.specs.declared.Bench.{Bench}
-use Rattle.bench.specs.Seats.{seat}
+use Rattle.bench.specs.Seats.{powerUp, seat}
 use Rattle.bench.specs.Steps as bench
 use Rattle.bench.specs.Valid.{valid}
 use Rattle.bench.specs.Wired.{Wired}
-use Rattle.timeline.specs.Sights.{sightOf, lookAt}
-use Rattle.timeline.specs.InUse.{withNamed}
+use Rattle.sight.specs.Sights.{sightOf, lookAt}
+use Rattle.sight.specs.InUse.{withNamed}
 
 pub record AsRead (b : Bench) : Type 0 where
   -- of each seat: the LSR that a read answers with, and the tally of the characters still queued
@@ -41,3 +42,9 @@ SeenAsRead = (b : Bench) → AsRead b
 abbrev pub SeatsNamed : Type 0
 SeatsNamed =
     (used kind seat n : ℕ) → bit n (withNamed used kind seat) ≡ (bit n used || ltb kind 5 && ltb seat 8 && eqb n seat)
+
+-- at power-up nothing is received and nothing to send, and the controller is at rest
+abbrev pub PowerUpSeen : Type 0
+PowerUpSeen =
+    sightOf powerUp
+    ≡ record { output = false; levels = 0; requests = 0; service = 0; mask = 0; seats = replicate 8 (record { lsr = 0x60; queued = 0 }) }

@@ -9,6 +9,7 @@ use native.Mathlib.Omega.{arith}
 use lib.Dec.{ltb, leb, eqb}
 use lib.ListN.{getD, length}
 use borrow.Author.Tests.{lt-leb, le-leb, ltb-true, ltb-false}
+use Rattle.base.specs.Pick.{pick}
 use Rattle.base.specs.PickLaws.{pick-true, pick-false, pick-cases, either-way, both-hold, never}
 use Rattle.base.specs.Bits.{bit, digit, bits}
 use Rattle.base.specs.BitLaws.{bit-bits, bits-small, bit-or, bit-power, digit-bit}
@@ -21,11 +22,14 @@ use Rattle.channel_laws.specs.ReadLaws.{read-lsr}
 use Rattle.channel.specs.declared.Channel.{Channel}
 use Rattle.channel.specs.Status.{lsr}
 use Rattle.channel.specs.declared.Stepped.{Stepped}
+use Rattle.receiver.specs.Receiver.{noneQueued, shownMarks, someMarked}
+use Rattle.transmitter.specs.Transmitter.{noneWaiting, allSent}
 use Rattle.status.specs.Status.{lsrOf}
 use Rattle.seat.specs.declared.Seat.{Seat}
 use Rattle.seat.specs.Seats.{noSeat, line, queued}
 use Rattle.seat.specs.Sound.{sound}
 use Rattle.seat.specs.SoundLaws.{sound-parts}
+use Rattle.controller.specs.Turns.{requests, outputOf}
 use Rattle.controller.specs.Words as controller
 use Rattle.records.specs.Events.{seatCount}
 use Rattle.rank.specs.Sets.{only, join}
@@ -34,10 +38,10 @@ use Rattle.bench.specs.Seats.{chair, seat, lines}
 use Rattle.bench.specs.ValidLaws.{at-seat}
 use Rattle.bench.specs.ValidLaws as bench
 use Rattle.bench.specs.Wired.{Wired}
-use Rattle.timeline.specs.Sights.{noLook, lookOf, sightOf, lookAt}
-use Rattle.timeline.specs.InUse.{withNamed}
-use Rattle.timeline.specs.Seen.{SeenAsRead, SeatsNamed}
-use Rattle.timeline.specs.declared.Look.{Look}
+use Rattle.sight.specs.Sights.{noLook, lookOf, sightOf, lookAt}
+use Rattle.sight.specs.InUse.{withNamed}
+use Rattle.sight.specs.Seen.{SeenAsRead, SeatsNamed, PowerUpSeen}
+use Rattle.sight.specs.declared.Look.{Look}
 
 -- ---- a seat
 
@@ -132,3 +136,9 @@ seats-named used kind seat n =
     let own : seat % 8 ≡ seat = omega arith in
     rw (two .0, two .1, bit-or n used (only seat), bit-power n (seat % 8), own))
     (nothing-more (bit n used) (ltb kind 5) (ltb seat 8) (eqb n seat)))
+
+-- ---- power-up
+
+pub power-up-seen : PowerUpSeen
+unfolding pick bit digit bits noneQueued shownMarks someMarked noneWaiting allSent lsrOf lsr requests outputOf seat lookOf sightOf
+power-up-seen = refl

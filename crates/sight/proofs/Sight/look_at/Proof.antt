@@ -1,8 +1,8 @@
--- made by tools/answers for Sight::look_at of crates/timeline/src/sights.rt, sum 94e23231435d68fa: do not change it by hand, make it anew
-use Rattle.timeline.specs.Sights.{lookAt}
+-- made by tools/answers for Sight::look_at of crates/sight/src/lib.rt, sum 4c227a1682be4d08: do not change it by hand, make it anew
+use Rattle.sight.specs.Sights.{lookAt}
 use borrow.Author.Needs.{needs}
-use Rattle.timeline.proofs.Sight.look_at.Statement.{statement}
-use Rattle.timeline.proofs.Sight.look_at.Tie as tie
+use Rattle.sight.proofs.Sight.look_at.Statement.{statement}
+use Rattle.sight.proofs.Sight.look_at.Tie as tie
 
 chair-requires : tie.Need-chair-requires
 chair-requires c κs = search needs

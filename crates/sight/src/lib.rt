@@ -1,6 +1,4 @@
-// What is seen of a bench, and which seats are looked at.
-use crate::Look;
-use crate::Sight;
+// What a timeline shows of a bench, and of which seats.
 use bench::Bench;
 use records::Event;
 use records::SEATS;
@@ -9,10 +7,26 @@ ghost use mathlib.Core.Path.{_≡_};
 ghost use lib.ListN.{getD};
 ghost use Rattle.base.specs.ListLaws.{listed};
 ghost use Rattle.seat.specs.Seats.{noSeat};
-ghost use Rattle.timeline.specs.Sights.{lookOf, sightOf, lookAt};
-ghost use Rattle.timeline.specs.InUse.{withNamed};
+ghost use Rattle.sight.specs.Sights.{lookOf, sightOf, lookAt};
+ghost use Rattle.sight.specs.InUse.{withNamed};
 
-fn look(seat: Seat) -> Look
+// What is seen of a seat.
+pub struct Look {
+    pub lsr: u8,
+    pub queued: u8,
+}
+
+// What is seen of a bench. A set of lines is a byte: line n is its bit n.
+pub struct Sight {
+    pub output: bool,
+    pub levels: u8,
+    pub requests: u8,
+    pub service: u8,
+    pub mask: u8,
+    pub seats: [Look; SEATS],
+}
+
+fn seen(seat: Seat) -> Look
     ensures { λ r. ⌜ r ≡ lookOf seat ⌝ }
 {
     let channel = seat.channel;
@@ -23,19 +37,17 @@ fn look(seat: Seat) -> Look
     }
 }
 
-fn looks(s: [Seat; SEATS]) -> [Look; 8]
+fn all_seen(s: [Seat; SEATS]) -> [Look; SEATS]
     ensures { λ r. ⌜ r ≡ listed 8 (λ n. lookOf (getD s n noSeat)) ⌝ }
 {
-    [
-        look(s[0]),
-        look(s[1]),
-        look(s[2]),
-        look(s[3]),
-        look(s[4]),
-        look(s[5]),
-        look(s[6]),
-        look(s[7]),
-    ]
+    let mut all = [Look { lsr: 0, queued: 0 }; SEATS];
+    let mut n: usize = 0;
+    while n < SEATS {
+        let one = s[n];
+        all[n] = seen(one);
+        n = n + 1;
+    }
+    all
 }
 
 impl Sight {
@@ -50,11 +62,12 @@ impl Sight {
             requests: controller.requests(),
             service: controller.operation.service,
             mask: controller.operation.mask,
-            seats: looks(seats),
+            seats: all_seen(seats),
         }
     }
 
-    pub(crate) fn look_at(self, n: u8) -> Look
+    // A number that is no seat's counts round.
+    pub fn look_at(self, n: u8) -> Look
         ensures { λ r. ⌜ r ≡ lookAt self n ⌝ }
     {
         self.seats[bench::chair(n)]

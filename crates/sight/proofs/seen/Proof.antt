@@ -1,8 +1,8 @@
 use Rattle.channel.specs.Status.{lsr}
-use Rattle.timeline.specs.Sights.{lookOf}
+use Rattle.sight.specs.Sights.{lookOf}
 use borrow.Author.Needs.{needs}
-use Rattle.timeline.proofs.sights.look.Statement.{statement}
-use Rattle.timeline.proofs.sights.look.Tie as tie
+use Rattle.sight.proofs.seen.Statement.{statement}
+use Rattle.sight.proofs.seen.Tie as tie
 
 is-fifo-requires : tie.Need-is-fifo-requires
 is-fifo-requires c κs = search needs
@@ -14,5 +14,5 @@ returns : tie.Need-returns
 unfolding lookOf lsr
 returns c = simp (← c .lsr .ensures, ← c .before .is-fifo .ensures)
 
-pub look-spec : {M : Type 1} → statement M
-look-spec = tie.close (tie.spec is-fifo-requires lsr-requires returns)
+pub seen-spec : {M : Type 1} → statement M
+seen-spec = tie.close (tie.spec is-fifo-requires lsr-requires returns)
