@@ -66,5 +66,6 @@ timeline-once M =
       timeline·first = value _ refl (λ κ a v w. refl);
       timeline·step = value _ refl (λ κ a v w. refl);
       timeline·last = value _ refl (λ κ a v w. refl);
+      sight·Sight·look-at = value _ refl (λ κ a v w. refl);
       sight·named = value _ refl (λ κ a v w. refl);
     }

@@ -309,6 +309,7 @@ pub record TimelineOnce (M : Type 1) : Type 2 where
   pub timeline·first : Once M timeline.first.ended timeline.first.clauses timeline.first.spec
   pub timeline·step : Once M timeline.step.ended timeline.step.clauses timeline.step.spec
   pub timeline·last : Once M timeline.last.ended timeline.last.clauses timeline.last.spec
+  pub sight·Sight·look-at : Once M sight.Sight.look_at.ended sight.Sight.look_at.clauses sight.Sight.look_at.spec
   pub sight·named : Once M sight.named.ended sight.named.clauses sight.named.spec
 
 -- ---- image: the whole bench as an image, with the buffer that is lent back
