@@ -4,16 +4,20 @@
 
    The caller holds the bench and lends it for the time of a call; the library
    keeps nothing, so different benches may be used in different threads at the
-   same time. Every call is proved to give exactly the answer and the bench that
-   document 01 asks, on every bench and for every number: kind, seat, number,
-   line, rate and clock are 32 bits wide and tested as they are, so that seat 258
-   is refused and not taken for seat 2. Only the value of an event is a byte, as
-   on a port. Answers are written in hexadecimal below, as in document 01.
+   same time. Every call is proved to give exactly the answer, the bench and the
+   lent bytes that documents 01 and 02 ask, on every bench and for every number:
+   kind, seat, number, line, rate, clock, divisor and LCR byte are 32 bits wide
+   and tested as they are, so that seat 258 is refused and not taken for seat 2.
+   Only the value of an event is a byte, as on a port. Answers are written in
+   hexadecimal below, as in document 01.
 
    What C cannot be promised, since no contract reaches so far:
    - a null pointer, one to fewer than HAILSTOAT_BYTES bytes, or one to no
      multiple of HAILSTOAT_ALIGNMENT, is not refused: the call goes where the
      pointer goes;
+   - the same of a line or a buffer that has fewer bytes than its length says,
+     and of a null pointer to one, though its length be 0;
+   - what a call is lent to write to lies apart from all else that it is lent;
    - a yes-or-no byte holds 0 or 1. In a bench that other code has written, a
      byte above 1 in a bool is no value at all, and no call is bound by it;
    - two calls on one bench at the same time. */
@@ -31,12 +35,16 @@ extern "C" {
 
 /* 10000 times the major number, 100 times the minor, and the patch. The major
    number changes where a program must be changed, or compiled again. */
-#define HAILSTOAT_VERSION 30000
+#define HAILSTOAT_VERSION 30100
 
 #define HAILSTOAT_SEATS 8
 #define HAILSTOAT_SLOTS 16
 #define HAILSTOAT_BYTES 812
 #define HAILSTOAT_ALIGNMENT 4
+
+/* What a saved bench takes, and at most a settings line. */
+#define HAILSTOAT_IMAGE_BYTES 704
+#define HAILSTOAT_LINE_BYTES 13
 
 /* ---- the bench
 
@@ -225,12 +233,13 @@ enum hailstoat_refusal {
                                 or a port 1 write before any accepted ICW1 */
     HAILSTOAT_NOT_SERVED = 9, /* ICW1 with bit 0 or bit 1 clear; ICW4 with bit 0 clear;
                                  OCW3 with bit 2 set */
-    HAILSTOAT_NOT_LISTED = 10, /* of hailstoat_divisor alone */
-    HAILSTOAT_NO_SETTING = 11, /* of settings lines, which no function here reads or writes */
-    HAILSTOAT_NO_ROOM = 12, /* of settings lines too, and of saved benches */
-    HAILSTOAT_WRONG_MARK = 13, /* of saved benches, which no function here reads or writes */
-    HAILSTOAT_UNKNOWN_VERSION = 14, /* of saved benches too */
-    HAILSTOAT_NO_SUCH_BENCH = 15, /* of saved benches too */
+    HAILSTOAT_NOT_LISTED = 10, /* of hailstoat_divisor, and of settings lines behind 11 */
+    HAILSTOAT_NO_SETTING = 11, /* of settings lines */
+    HAILSTOAT_NO_ROOM = 12, /* of a settings line that is written, behind 10; of a save;
+                               and of a restore from fewer bytes than a saved bench has */
+    HAILSTOAT_WRONG_MARK = 13, /* of a restore, and so are the next two */
+    HAILSTOAT_UNKNOWN_VERSION = 14,
+    HAILSTOAT_NO_SUCH_BENCH = 15,
     HAILSTOAT_BEYOND_WORD = 16, /* data with more bits than LCR bits 0 and 1 say */
     HAILSTOAT_PARITY_UNASKED = 17, /* a parity mark while LCR bit 3 is clear */
     HAILSTOAT_BREAK_WITH_DATA = 18, /* a break mark with data not 0 */
@@ -248,7 +257,7 @@ static inline const char *hailstoat_refusal_words(unsigned refusal)
     case HAILSTOAT_KIND_ABOVE: return "kind above 8";
     case HAILSTOAT_SHORT: return "record cut off at the end";
     case HAILSTOAT_NO_DIVISOR: return "arrival or character time while the divisor is 0";
-    case HAILSTOAT_MARKS_ABOVE: return "arrival: marks above 7";
+    case HAILSTOAT_MARKS_ABOVE: return "marks above 7";
     case HAILSTOAT_LEVELS_ABOVE: return "modem levels above 15";
     case HAILSTOAT_NOT_READY: return "controller not ready";
     case HAILSTOAT_NOT_SERVED: return "not served (cascaded controllers, 8080 mode, poll)";
@@ -258,15 +267,15 @@ static inline const char *hailstoat_refusal_words(unsigned refusal)
     case HAILSTOAT_WRONG_MARK: return "wrong mark";
     case HAILSTOAT_UNKNOWN_VERSION: return "unknown version";
     case HAILSTOAT_NO_SUCH_BENCH: return "a saved bench that cannot be";
-    case HAILSTOAT_BEYOND_WORD: return "arrival: data beyond the word length";
-    case HAILSTOAT_PARITY_UNASKED: return "arrival: parity mark with parity off";
-    case HAILSTOAT_BREAK_WITH_DATA: return "arrival: break with data not 0";
+    case HAILSTOAT_BEYOND_WORD: return "data beyond the word length";
+    case HAILSTOAT_PARITY_UNASKED: return "parity mark with parity off";
+    case HAILSTOAT_BREAK_WITH_DATA: return "break with data not 0";
     case HAILSTOAT_TALLY_FULL: return "reception that no tally can hold";
     default: return "no refusal that this header knows";
     }
 }
 
-/* Other answers than a byte, a vector, a place or a divisor. */
+/* Other answers than a byte, a vector, a place, a divisor or a length. */
 #define HAILSTOAT_IDLE 0x100 /* of a character time: nothing was sent */
 #define HAILSTOAT_BREAK 0x200 /* of a character time: a break was sent */
 #define HAILSTOAT_REFUSED 0xFFF
@@ -454,6 +463,54 @@ enum hailstoat_clock {
 /* The divisor list: the divisor for a rate in tenths of a baud at a clock. A rate
    or clock not in the list gives refusal 10. The word's output is 0. */
 uint64_t hailstoat_divisor(uint32_t rate, uint32_t clock);
+
+/* ---- settings lines, as control sheets have them: 9600,E,7,2
+
+   The rate in baud, the parity N, O, E, M or S, 5 to 8 bits and the stop, 1 or 2,
+   at five bits 1 or 1.5; nothing else, so no blank, no line end and no 0 behind
+   it: the length tells where a line ends. Seven bits, even parity and two stop
+   bits are the LCR byte 1E. */
+
+/* A line read at a clock. The answer is the divisor, as hailstoat_divisor gives it,
+   and the LCR byte is stored in *lcr. Any other line gives refusal 11; behind it, a
+   rate or clock not in the divisor list gives refusal 10. Then *lcr is 0. The word's
+   output is 0. */
+uint64_t hailstoat_read_setting(const uint8_t *line, size_t length, uint32_t clock, uint8_t *lcr);
+
+/* The line of a divisor and an LCR byte at a clock, put at the start of the buffer.
+   The answer is its length; the bytes behind it stay. An LCR byte that no line gives
+   gives refusal 11; behind it, a divisor or clock not in the divisor list refusal 10,
+   and a buffer too short for the line refusal 12. Then the whole buffer stays. The
+   word's output is 0. */
+uint64_t hailstoat_write_setting(uint32_t divisor, uint32_t lcr, uint32_t clock, uint8_t *buffer,
+                                 size_t length);
+
+/* ---- a bench saved, and restored
+
+   A saved bench is HAILSTOAT_IMAGE_BYTES bytes of the house's own format, version 2,
+   with a byte for each number and each yes or no, tallies low byte first. It has
+   no bytes without a value and does not depend on the compiler, so it may be kept in
+   a file, sent, and compared with memcmp. The place is where it begins in the buffer,
+   counted from the buffer's first byte. */
+
+/* The whole bench into the buffer, at a place. The answer is 000; all other bytes
+   stay. Fewer than HAILSTOAT_IMAGE_BYTES bytes from the place on give refusal 12, and
+   nothing is written. The bench stays, and the word's output is 0: no event has
+   passed. */
+uint64_t hailstoat_save(const struct hailstoat_bench *bench, uint8_t *buffer, size_t length,
+                        size_t place);
+
+/* The bench becomes the one that is saved at a place of the buffer, and answers every
+   later event as the saved one would; nothing is left of what it was. The answer is
+   000. Version 1, of 544 bytes, is read too: of each seat as many have arrived then
+   as are queued. Refused, in this order: fewer than 5 bytes from the place on, 12; no
+   BEN at the place, 13; another version, 14; fewer bytes than the version has, 12;
+   what no bench can be, 15. Then the bench stays. As after an event, the word's output
+   is that of the bench as the call leaves it. */
+uint64_t hailstoat_restore(struct hailstoat_bench *bench, const uint8_t *buffer, size_t length,
+                           size_t place);
+
+/* ---- the library */
 
 /* The version of the library, to compare with HAILSTOAT_VERSION at the start. */
 uint32_t hailstoat_version(void);

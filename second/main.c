@@ -16,6 +16,7 @@
 #include "sheets.h"
 #include "spoons.h"
 #include "starts.h"
+#include "tellings.h"
 #include "trials.h"
 
 #define RESULT_USAGE 2
@@ -57,12 +58,13 @@ static bool parse_choice(int count, char **words, unsigned total, unsigned *choi
     return true;
 }
 
+/* A start is a number, and what docs/TELLING.md shows is asked for by a word. */
 static int run_show(int count, char **words)
 {
     unsigned start = 0;
-    if (count > 1 || !parse_choice(count, words, STARTS, &start))
-        return RESULT_USAGE;
-    return listing_show(starts[start]());
+    if (count <= 1 && parse_choice(count, words, STARTS, &start))
+        return listing_show(starts[start]());
+    return tellings_show(count, words);
 }
 
 /* Of the words, `most` at most. */
@@ -121,7 +123,11 @@ static int run_settings_lines(int count, char **words)
 
 static const struct command commands[] = {
     {"listing", " [--restore FILE] [--save-at N|start|end FILE].. [--tallies]", NULL, run_listing},
-    {"show", " [START]", NULL, run_show},
+    {"show", " [START | each|end [--from IMAGE] [LESSON]]", NULL, run_show},
+    {"explain", TELLINGS_WORDS, NULL, tellings_explain},
+    {"explain-show", " each|end" TELLINGS_WORDS, NULL, tellings_explain_show},
+    {"vcd", TELLINGS_WORDS, NULL, tellings_timeline},
+    {"telling-coverage", TELLINGS_WORDS, NULL, tellings_coverage},
     {"rates", "", rates_run, NULL},
     {"spoons", "", spoons_run, NULL},
     {"trials", " [[images|pairs] SEED COUNT [SET [START]]]", trials_run_all, run_trials},

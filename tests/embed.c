@@ -10,6 +10,8 @@
 #include "full.h"
 #include "layout.h"
 #include "names.h"
+#include "setting_calls.h"
+#include "stops.h"
 #include "stream.h"
 #include "threads.h"
 #include "wide.h"
@@ -51,17 +53,22 @@ static void power_up(void)
 static void streams(void)
 {
     unsigned long refused = 0;
+    struct stops all = {0};
     for (size_t i = 0; i < SEEDS; i += 1) {
         char what[32];
         snprintf(what, sizeof what, "seed %lu", (unsigned long)seeds[i]);
-        struct hailstoat_bench lent = {0};
-        struct bench second = bench_at_power_up();
+        struct pair pair = {.second = bench_at_power_up()};
         struct stream stream = stream_begin(seeds[i], 0);
-        for (unsigned long at = 0; at < EVENTS_EACH; at += 1)
-            refused += one_event(&lent, &second, what, at, stream_next(&stream)) != REFUSAL_NONE;
+        struct stops stops = stops_begin(seeds[i]);
+        for (unsigned long at = 0; at < EVENTS_EACH; at += 1) {
+            refused += one_event(&pair.lent, &pair.second, what, at, stream_next(&stream)) != REFUSAL_NONE;
+            stop_sometimes(&stops, &pair, what, at);
+        }
+        stops_add(&all, &stops);
     }
     printf("events: %lu, of which %lu refused; answers, letters, outputs, places, modem outputs, tallies and fields as the second program's\n",
            SEEDS * EVENTS_EACH, refused);
+    stops_told(&all);
 }
 
 static void edges(void)
@@ -110,5 +117,6 @@ int main(int count, char **words)
     two_threads();
     edges();
     divisors(words[1]);
+    setting_lines();
     return fflush(stdout) != 0;
 }

@@ -15,6 +15,7 @@
 #define SEAT_BYTES 100
 #define UNUSED_AT 98 /* in a seat: the two bytes that are no field's */
 #define UNUSED 2
+#define UNTOUCHED 0xA5
 
 static void sizes(void)
 {
@@ -23,6 +24,20 @@ static void sizes(void)
     is("the size of a seat", sizeof(struct hailstoat_seat), SEAT_BYTES);
     is("the size of the five tallies", sizeof(struct hailstoat_five), 20);
     is("the alignment of the five tallies", alignof(struct hailstoat_five), 4);
+}
+
+/* No more bytes than these are written, and no fewer will do. */
+static void bytes_of_an_image(void)
+{
+    uint8_t buffer[HAILSTOAT_IMAGE_BYTES + 1];
+    struct hailstoat_bench bench = {0};
+    memset(buffer, UNTOUCHED, sizeof buffer);
+    is("a save with a byte too few", hailstoat_word_refusal(hailstoat_save(&bench, buffer, HAILSTOAT_IMAGE_BYTES - 1, 0)), HAILSTOAT_NO_ROOM);
+    is("the first byte then", buffer[0], UNTOUCHED);
+    is("a save with just enough", hailstoat_word_refusal(hailstoat_save(&bench, buffer, HAILSTOAT_IMAGE_BYTES, 0)), HAILSTOAT_ACCEPTED);
+    is("the first byte then", buffer[0], 'B');
+    is("the last byte of the image", buffer[HAILSTOAT_IMAGE_BYTES - 1], 0);
+    is("the byte behind it", buffer[HAILSTOAT_IMAGE_BYTES], UNTOUCHED);
 }
 
 static void places(void)
@@ -71,6 +86,7 @@ void layout(void)
     sizes();
     places();
     places_of_tallies();
+    bytes_of_an_image();
     bytes_of_no_field();
     printf("layout: sizes, alignment and places as the header says; bytes of no field mean nothing in %lu events\n", EVENTS);
 }

@@ -7,16 +7,26 @@ import source as read
 
 ANSWER = re.compile(r"ensures\s*\{\s*λ \w+\.\s*⌜\s*(\(?)\w+ ≡ (\S+)")
 
+# What is told stands in a piece: `r ≡ piece (NAME ..)`, or behind what was told before, `r ≡ with PIECE (NAME ..)`; or its pieces are joined to a
+# page: `r ≡ joined PAGE (NAME ..)`, and so joinedAll of several.
+TOLD = re.compile(r"ensures\s*\{\s*λ \w+\.\s*⌜\s*\w+ ≡ (?:piece |with \w+ |(joined|joinedAll) \w+ )\(?([^\s()]+)")
+
+# The piece of no words.
+NOTHING = "noPiece"
+
 # A choice by a test stays shut: the laws of a choice settle it.
 SHUT = {"pick"}
 
 
 class Contract(NamedTuple):
-    """`r ≡ NAME ..`; paired where that is the first of several parts, `(r ≡ NAME ..) × ..`."""
+    """`r ≡ NAME ..`; paired where that is the first of several parts, `(r ≡ NAME ..) × ..`; told where NAME gives the words of a piece,
+    or those of pieces on a page, and then on_page."""
 
     module: Optional[str] = None
     name: Optional[str] = None
     paired: bool = False
+    told: bool = False
+    on_page: bool = False
 
 
 def brought(source):
@@ -34,9 +44,10 @@ def functions(source):
     source, found = read.without_comments(source), {}
     names = brought(source)
     for function in read.functions(source):
-        said = ANSWER.search(function.head)
-        module, name = names.get(said[2], (None, None)) if said else (None, None)
-        found[function.path] = Contract(module, name, bool(said and said[1]))
+        said, told = ANSWER.search(function.head), TOLD.search(function.head)
+        given = told[2] if told else said and said[2]
+        module, name = names.get(given, (None, None))
+        found[function.path] = Contract(module, name, bool(said and said[1]), bool(told), bool(told and told[1]))
     return found
 
 
@@ -47,3 +58,8 @@ def is_unfoldable(root, contract):
     if not file or not file.is_file() or contract.name in SHUT:
         return False
     return bool(re.search(rf"(?m)^unfoldable (?:pub )?{re.escape(contract.name)} :", file.read_text("utf-8")))
+
+
+def tells(contract):
+    """Whether a call of the function adds to what is told, be it nothing."""
+    return contract.told or contract.name == NOTHING

@@ -34,10 +34,19 @@ class Walk(NamedTuple):
     needs: dict
 
 
+class Calls(NamedTuple):
+    """The callees, by their names, of which an answer has to know more than that they have contracts."""
+
+    paired: frozenset = frozenset()  # their contracts say several things, of which the answer's equation is the first
+    told: frozenset = frozenset()  # they add to what is told
+
+
 class Answer(NamedTuple):
     words: str
     choice: tuple = ()  # the names of base's PickLaws that it cites
     tests: tuple = ()  # and of the library's tests
+    pieces: tuple = ()  # and of page's PieceLaws and PageLaws
+    spelt: bool = False  # whether a piece is spelt out byte by byte, so that words with others behind them are the same
 
 
 class Facts:
@@ -45,6 +54,7 @@ class Facts:
 
     def __init__(self):
         self.variants, self.calls, self.tests, self.laws, self.choice = [], [], [], set(), set()
+        self.told = []  # the callees that add to what is told
 
     def add_branch(self, fact, kind):
         laws, choice = LAWS[kind]
@@ -100,14 +110,25 @@ def enums_of(walk):
     return known | {"enum-told"} if known else known
 
 
-def facts_at(walk, need, paired):
+def others(way, own):
+    """The facts of the arm that is left of a match: one for each key before it, the last key first."""
+    if not re.match(r" where\s+pub rest :", own) or re.search(r"OneOf\s+\(\S+_∷_ \d+ \(", own):
+        return []
+    return [f"{way} .rest{' .0' * i} .1" for i in range(own.count("OneOf"))]
+
+
+def facts_at(walk, need, calls):
     """The equations at a need. Where an enum is matched, the keys are its variants' numbers, of which no definition speaks."""
     facts, enums = Facts(), enums_of(walk)
     for way, own in known_at(walk, need):
         thing = re.sub(r"\d+$", "", way.split(" .")[-1])
         field, kind = branch_of(own)
-        if "Called.Called" in own:
-            facts.calls.append(f"← {way} .ensures" + (" .0" if thing.replace("-", "_") in paired else ""))
+        name = thing.replace("-", "_")
+        if "Called.Called" in own and name in calls.told:
+            facts.told.append(name)
+            facts.calls.append(f"{way} .ensures")
+        elif "Called.Called" in own:
+            facts.calls.append(f"← {way} .ensures" + (" .0" if name in calls.paired else ""))
         elif thing in enums:
             facts.variants.append(f"{way} .given .1")
         elif field and not (enums and kind == "key"):
@@ -115,11 +136,33 @@ def facts_at(walk, need, paired):
     return facts
 
 
-def answer(need, walk, contract, paired):
-    """The standard answer. `paired` has the callees whose contracts say more than one thing: their equation is the first."""
-    facts = facts_at(walk, need, paired) if need.startswith("returns") else Facts()
+def answer(need, walk, contract, calls):
+    """The standard answer."""
+    returns = need.startswith("returns")
+    if returns and contract.told:
+        return told_answer(need, walk, contract, calls)
+    facts = facts_at(walk, need, calls._replace(told=frozenset())) if returns else Facts()
     told = facts.variants + facts.calls
     if contract.paired or not told + facts.tests:
         return Answer(f"search ({', '.join(['tests', *told])})" if told else "search tests", ("tests",))
     choice = tuple(sorted(facts.choice, reverse=True))
     return Answer(f"simp ({', '.join([*told, *facts.tests, *choice])})", choice, tuple(sorted(facts.laws)))
+
+
+def told_answer(need, walk, contract, calls):
+    """The answer of a function that tells something: what each call adds is put behind what was told before. Words in quotation
+    marks with others behind them are one list of bytes, so there a piece is spelt out."""
+    facts = facts_at(walk, need, calls)
+    for way, own in known_at(walk, need):
+        for fact in [] if enums_of(walk) else others(way, own):
+            facts.add_branch(fact, "ne")
+    said = [name for name in facts.told if name != "empty"]
+    several = len(said) > 1
+    if contract.on_page:
+        pieces = ("joined-piece",) if "join" in said else ("joined-all",) if several else ()
+    else:
+        pieces = ("with-append", "with-none") if several or not said else ()
+    choice = tuple(sorted(facts.choice, reverse=True))
+    words = [*facts.variants, *facts.calls, *facts.tests, *choice, *pieces]
+    spelt = several and "text" in said and not contract.on_page
+    return Answer(f"simp ({', '.join(words)})", choice, tuple(sorted(facts.laws)), pieces, spelt)

@@ -40,28 +40,35 @@ def function_at(place, contracts):
 
 def uses(crate, answers, opened):
     """The `use` lines that the answers need, and that of the definition that they open."""
-    laws = "Rattle.base.specs.PickLaws" if crate == "base" else "Rattle.base.specs.PickLaws"
+    picks = "Rattle.base.specs.PickLaws" if crate == "base" else "Rattle.base.specs.PickLaws"
     choice = [name for name in ("tests", "pick-true", "pick-false") if any(name in one.choice for one in answers)]
     tests = sorted({name for one in answers for name in one.tests})
     if choice:
-        yield f"use {laws}.{{{', '.join(choice)}}}"
+        yield f"use {picks}.{{{', '.join(choice)}}}"
     if tests:
         yield f"use borrow.Author.Tests.{{{', '.join(tests)}}}"
+    for file, laws in (("PieceLaws", ("with-append", "with-none")), ("PageLaws", ("joined-piece", "joined-all"))):
+        cited = [name for name in laws if any(name in one.pieces for one in answers)]
+        if cited:
+            yield f"use Rattle.page.specs.{file}.{{{', '.join(cited)}}}"
+    if any(one.spelt for one in answers):
+        yield "use Rattle.page.specs.Pieces.{with}"
     if opened:
         yield f"use {opened.module}.{{{opened.name}}}"
 
 
-def answered(crate, lines, walk, contract, opens, paired):
+def answered(crate, lines, walk, contract, opens, calls):
     """The offered lines with an answer at each hole; None where a hole is no need, as that of a loop's invariant."""
     answers, body, opened = [], [], None
     for line in (line for line in lines if not FOR_GOALS.match(line)):
         hole = HOLE.match(line)
         if hole:
-            answers.append(answer(hole[1], walk, contract, paired))
+            answers.append(answer(hole[1], walk, contract, calls))
             line = f"{hole[1]} {hole[2]} = {answers[-1].words}"
-        if hole and opens and hole[1].startswith("returns"):
-            opened = contract
-            body.append(f"unfolding {contract.name}")
+        if hole and hole[1].startswith("returns"):
+            opened = contract if opens else None
+            names = [*(["with"] if answers[-1].spelt else []), *([contract.name] if opens else [])]
+            body += [f"unfolding {' '.join(names)}"] if names else []
         body.append(line)
     if any(re.search(r"(?:^|\s)\?$", line) for line in body):
         return None

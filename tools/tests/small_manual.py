@@ -41,6 +41,13 @@ enum hailstoat_refusal { HAILSTOAT_SEAT_ABOVE = 1, HAILSTOAT_NOT_READY = 8, HAIL
 #define HAILSTOAT_BREAK 0x200
 #define HAILSTOAT_MARK_PARITY 0x01
 #define HAILSTOAT_MARK_BREAK 0x02
+#define HAILSTOAT_RBR 0
+#define HAILSTOAT_THR 0
+#define HAILSTOAT_DLM 1
+#define HAILSTOAT_LSR_DATA 0x01
+#define HAILSTOAT_LSR_HOLDING_EMPTY 0x02
+#define HAILSTOAT_MSR_CTS_CHANGED 0x01
+#define HAILSTOAT_LEVEL_CTS 0x01
 
     case HAILSTOAT_SEAT_ABOVE: return "seat above 7";
     case HAILSTOAT_NOT_READY: return "not ready";
@@ -170,11 +177,12 @@ Numbers.
 | 000 | - | nothing | `base/Refusals.order` |
 | 001 | `END` | ends | `base/Refusals.order` |
 
-| IIR | Name | Enabled by | Definition |
-|---|---|---|---|
-| 0C | `LATE` | IER bit 0 | `base/Refusals.order` |
-| 00 | `MOVED` | IER bit 3 | `base/Refusals.order` |
-| 02 | - | - | `base/Refusals.order` |
+| IIR | Name | Enabled by | Definition | Words |
+|---|---|---|---|---|
+| 0C | `LATE` | IER bit 0 | `base/Refusals.order` | time-out |
+| 00 | `MOVED` | IER bit 3 | `base/Refusals.order` | a change |
+| 01 | - | - | `base/Refusals.order` | no cause |
+| 02 | - | - | `base/Refusals.order` | - |
 
 ```rust crates/status/src/lib.rt
 {CAUSES}```
@@ -192,6 +200,82 @@ Numbers.
 |---|---|---|---|
 | 500 | 2304 | 3072 | 3840 |
 | 750 | 1536 | - | - |
+
+| Register | Name | Is | Definition |
+|---|---|---|---|
+| 0 | `RBR` | read | `base/Refusals.order` |
+| 0 | `THR` | written | `base/Refusals.order` |
+| 1 | `DLM` | the divisor's | `base/Refusals.order` |
+
+| Bit | Name | LSR | Definition |
+|---|---|---|---|
+| 0 | `LSR_DATA` | data | `base/Refusals.order` |
+| 1 | `LSR_HOLDING_EMPTY` | nothing to send | `base/Refusals.order` |
+
+| Bit | Name | MSR | Definition |
+|---|---|---|---|
+| 0 | `MSR_CTS_CHANGED` | CTS has changed | `base/Refusals.order` |
+
+| Bit | Name | Level | Definition |
+|---|---|---|---|
+| 0 | `LEVEL_CTS` | CTS | `base/Refusals.order` |
+"""
+
+NAMES = """-- "an example": row 7 "of a comment"
+abbrev pub registersRead : List Row
+registersRead = row 0 "RBR" ∷ []
+
+abbrev pub registersWritten : List Row
+registersWritten = row 0 "THR" ∷ []
+
+abbrev pub registersDivisor : List Row
+registersDivisor = row 1 "DLM" ∷ []
+
+abbrev pub causeWords : List Row
+causeWords =
+    row 0xC "time-out"
+    ∷ row 0x0 "a change"
+    ∷ []
+
+abbrev pub noCause : String
+noCause = "no cause"
+
+abbrev pub refusalsFirst : List Row
+refusalsFirst =
+    row 1 "seat above 7"
+    ∷ row 8 "not ready"
+    ∷ []
+
+abbrev pub refusalsLater : List Row
+refusalsLater = row 10 "not in the list" ∷ []
+
+abbrev pub lsrWords : List String
+lsrWords = "data" ∷ "holding-empty" ∷ []
+
+abbrev pub msrWords : List String
+msrWords = "CTS-changed" ∷ []
+
+abbrev pub markWords : List String
+markWords = "parity" ∷ "break" ∷ []
+
+abbrev pub levelWords : List String
+levelWords = "CTS" ∷ []
+"""
+
+TELLING = """# Telling
+
+| Refusal | Words |
+|---|---|
+| 1 | seat above 7 |
+| 8 | not ready |
+
+| Of | Words |
+|---|---|
+| IIR bits 3 to 0 | C `time-out`, 0 `a change`, any other `no cause` |
+| LSR bits 0 to 7 | `data`, `holding-empty` |
+| MSR bits 0 to 7 | `CTS-changed` |
+| marks 0 to 2 | `parity`, `break` |
+| levels 0 to 3 | `CTS` |
 """
 
 CHANGING = """# Changing
@@ -226,4 +310,6 @@ FILES = {
     "docs/MANUAL.md": MANUAL,
     "docs/CHANGING.md": CHANGING,
     "docs/NOTATION.md": NOTATION,
+    "crates/names/specs/Names.antt": NAMES,
+    "docs/TELLING.md": TELLING,
 }

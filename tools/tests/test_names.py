@@ -14,7 +14,7 @@ MOVED, MOVED_ROW = '    // "00 a change (bit 3)"\n', "    Row(MOVED, Settings::I
 class Names(Room):
     def setUp(self):
         super().setUp()
-        for name, value in (("WHOLE", {"Kind": 2, "Command": 2}), ("BITS", {"Mark": 2})):
+        for name, value in (("WHOLE", {"Kind": 2, "Command": 2}), ("BITS", {"Mark": 2, "LSR": 2, "MSR": 1, "Level": 1})):
             self.addCleanup(setattr, check, name, getattr(check, name))
             setattr(check, name, value)
         for name, text in FILES.items():
@@ -175,7 +175,8 @@ class Names(Room):
                 self.assertTold(moved, file, old, new)
 
     def test_causes_that_are_told_otherwise_than_the_code_has_them(self):
-        late, moved = "| 0C | `LATE` | IER bit 0 | `base/Refusals.order` |\n", "| 00 | `MOVED` | IER bit 3 | `base/Refusals.order` |\n"
+        late = "| 0C | `LATE` | IER bit 0 | `base/Refusals.order` | time-out |\n"
+        moved = "| 00 | `MOVED` | IER bit 3 | `base/Refusals.order` | a change |\n"
         for old, new in (
             (late + moved, moved + late), (moved, ""), (late, late + late), ("IER bit 3", "IER bit 2"), (late, late.replace("`LATE`", "-")),
         ):

@@ -1,10 +1,10 @@
 -- The program's loops: what stands in the block between two reads, and how far a run has come.
-use Prim.Native.Nat.{ℕ, zero, suc, _+_, _-_, _*_, _%_, _≤_, _<_}
-use mathlib.Core.Path.{_≡_, refl, ap, _∙_}
+use Prim.Native.Nat.{ℕ, zero, suc, _+_, _*_, _%_, _≤_, _<_}
+use mathlib.Core.Path.{_≡_, refl}
 use mathlib.Core.Bool.{Bool}
 use mathlib.Core.List.{List}
 use native.Mathlib.Omega.{arith}
-use lib.ListN.{length, take, drop, length-take, length-drop}
+use lib.ListN.{length}
 use Rattle.bench.specs.declared.Bench.{Bench}
 use Rattle.listing.specs.Run.{Runs, recordsOf}
 use Rattle.listing.specs.Places.{recordCount}
@@ -41,13 +41,11 @@ count-few : (last : Bool) (bytes count : ℕ) → recordCount last bytes ≡ cou
 count-few last bytes zero e = omega arith
 count-few last bytes (suc k) e = let inside : 4 * k < bytes = record-inside last bytes k (omega arith) in omega arith
 
--- a block that has room for all its lines is answered whole, and its records are no more than its bytes
-pub block-few : (b : Bench) (n : ℕ) (l : List ℕ) (a e : ℕ) (last : Bool) (d d′ : List ℕ) (r : Ran) → Runs b n (take (e - a) (drop a l)) last d d′ r
-    → a ≤ e → e ≤ length l → e ≤ a + 65536 → length d ≡ 524288 → n ≤ many → r .records ≤ e - a
-block-few b n l a e last d d′ r h order inside block room numbers =
-    let size : length (take (e - a) (drop a l)) ≡ e - a = simp (length-take, length-drop) (omega arith) in
-    let count : length (recordsOf last (take (e - a) (drop a l))) ≡ recordCount last (e - a) =
-    record-count last (take (e - a) (drop a l)) ∙ ap (recordCount last) size in
-    let few : 4 * recordCount last (e - a) < e - a + 4 = count-few last (e - a) _ refl in
-    let all : r .records ≡ length (recordsOf last (take (e - a) (drop a l))) = h .enough (omega arith) (omega arith) in
+-- records that have room for all their lines are answered whole, and they are no more than their bytes
+pub block-few : (b : Bench) (n : ℕ) (l : List ℕ) (last : Bool) (d d′ : List ℕ) (r : Ran) → Runs b n l last d d′ r → length l ≤ 65536
+    → length d ≡ 524288 → n ≤ many → r .records ≤ length l
+block-few b n l last d d′ r h block room numbers =
+    let count : length (recordsOf last l) ≡ recordCount last (length l) = record-count last l in
+    let few : 4 * recordCount last (length l) < length l + 4 = count-few last (length l) _ refl in
+    let all : r .records ≡ length (recordsOf last l) = h .enough (omega arith) (omega arith) in
     omega arith

@@ -8,12 +8,15 @@ use libc::STDIN_FILENO;
 // No loop here is endless. Each read but the last brings a byte, and no more records than a save's number can have are read.
 const READS: u64 = 17592186044415;
 
+// Nobody knows yet which seats will be named.
+const EVERY_SEAT: u8 = 255;
+
 // Bytes from `start` to `end` of `input` are read and not yet answered: at most three, of a record that is still to be completed.
 // A block holds whole records, so that such a record always has its room behind it.
 pub(crate) fn run(bench: Bench) {
     let mut input = io::large_buffer();
     let mut out = files::lines();
-    let mut course = course::begin(bench);
+    let mut course = course::begin(bench, EVERY_SEAT);
     let mut start: usize = 0;
     let mut end: usize = 0;
     let mut reads: u64 = READS;
@@ -22,16 +25,14 @@ pub(crate) fn run(bench: Bench) {
         let filled = files::fill(&mut input, end, STDIN_FILENO);
         if filled.failed {
             told::input_failed();
+            course::abandon(course);
             return;
         }
         let last = filled.end == end;
         end = filled.end;
-        course = course::play(course, &input[start..end], last, &mut out);
-        if last {
+        course = course::play(course, &input[start..end], b"", last, &mut out);
+        if last | course.failed {
             course::finish(course);
-            return;
-        }
-        if course.failed {
             return;
         }
         start = end - (end - start) % 4;

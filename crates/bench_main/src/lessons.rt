@@ -24,11 +24,21 @@ fn records() -> [u8; 1048576]
     [0u8; 1048576]
 }
 
-fn play(bench: Bench, records: &[u8])
+// The seats that the records name. One that is cut off names none.
+fn named(records: &[u8]) -> u8 {
+    let mut used: u8 = 0;
+    for k in 0..records.len() / 4 {
+        used = sight::named(used, records[4 * k], records[4 * k + 1]);
+    }
+    used
+}
+
+fn play(bench: Bench, text: &[u8], records: &[u8])
     requires { ⌜ length (now records) ≤ 1048576 ⌝ }
 {
     let mut out = files::lines();
-    course::finish(course::play(course::begin(bench), records, true, &mut out));
+    let start = course::begin(bench, named(records));
+    course::finish(course::play(start, records, text, true, &mut out));
 }
 
 // Neither room for a text is larger than what the reader reads.
@@ -37,7 +47,7 @@ fn play_text(bench: Bench, path: &[u8], text: &[u8])
 {
     let mut records = records();
     match lesson::read(text, &mut records) {
-        Lesson::Bytes(count) => play(bench, &records[..count]),
+        Lesson::Bytes(count) => play(bench, text, &records[..count]),
         Lesson::Fault(line, column, cause) => told::fault(path, line, column, cause),
         Lesson::TooLong => told::too_long(path),
         Lesson::NoRoom => told::too_many(path),

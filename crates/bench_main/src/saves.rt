@@ -9,7 +9,7 @@ ghost use Prim.Native.Nat.{_+_, _≤_, _<_};
 ghost use lib.ListN.{length};
 
 // A name has room for what is put behind it.
-const LONGEST: usize = 4092;
+pub(crate) const LONGEST: usize = 4092;
 
 // The number of records behind which a run must stop that stands behind `from` and was to stop behind `most`.
 pub(crate) fn stop(from: u64, most: u64) -> u64
@@ -51,17 +51,22 @@ fn is_made(new: &[u8], bytes: &[u8]) -> bool {
     written
 }
 
+// The new file, which is whole, in the place of the other.
+pub(crate) fn rename(file: &[u8], new: &[u8]) {
+    if os::rename(new, file) < 0 {
+        told::failed(file);
+        os::unlink(new);
+    }
+}
+
 fn put(file: &[u8], new: &[u8], bytes: &[u8]) {
     if is_made(new, bytes) {
-        if os::rename(new, file) < 0 {
-            told::failed(file);
-            os::unlink(new);
-        }
+        rename(file, new);
     }
 }
 
 // The name of the new file, which stands beside the other.
-fn put_name(file: &[u8], name: &mut [u8]) -> usize
+pub(crate) fn put_name(file: &[u8], name: &mut [u8]) -> usize
     requires { ⌜ length (now file) + 4 ≤ length (now name) ⌝ }
     ensures { λ r. ⌜ r ≤ length (now (name .entry)) ⌝ }
 {

@@ -6,7 +6,7 @@ use records::SEATS;
 
 pub(crate) fn tell(bench: Bench) {
     let words = words::read();
-    if words.tallies == 0 {
+    if words.place_of(options::TALLIES) == 0 {
         return;
     }
     for n in 0..SEATS {

@@ -25,6 +25,10 @@ pub(crate) fn not_written() {
     say_fault(b"bench: the listing could not be written\n");
 }
 
+pub(crate) fn no_timeline() {
+    say_fault(b"bench: the timeline could not be written\n");
+}
+
 pub(crate) fn input_failed() {
     say_fault(b"bench: standard input could not be read\n");
 }

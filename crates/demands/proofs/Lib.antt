@@ -17,6 +17,7 @@ pub mod SeatLetters
 pub mod TimeOut
 pub mod Once
 pub mod OnceCalls
+pub mod OnceTold
 pub mod OnceRefused
 pub mod ClosedLedger
 pub mod WrongPrograms

@@ -7,8 +7,10 @@ use Rattle.sheets.specs.OneLaws.{line-one, numbers-one}
 use Rattle.listing.specs.PartLaws.{runs-one}
 use Rattle.lesson.specs.Lesson.{handedOut}
 use Rattle.lesson.specs.declared.Lesson.{Lesson}
-use Rattle.demands.specs.OnceCalls.{BaseOnce, QueueOnce, RatesOnce, SettingLinesOnce, SheetsOnce, OptionsOnce, RegistersOnce, ReceiverOnce, TransmitterOnce, StatusOnce, ChannelOnce, LendingOnce, SeatOnce, ChannelImageOnce, SeatImageOnce, RankOnce}
-use Rattle.demands.specs.OnceCalls.{ControllerOnce, RecordsOnce, BenchOnce, ListingOnce, ImageOnce, LessonOnce, StreamsOnce, EmbedOnce}
+use Rattle.c_bench.specs.OneLaws.{plays-one, parted-one, saved-one}
+use Rattle.embed.specs.OneLaws.{reads-told-one, writes-told-one}
+use Rattle.demands.specs.OnceCalls.{BaseOnce, CWordOnce, QueueOnce, RatesOnce, SettingLinesOnce, SheetsOnce, OptionsOnce, RegistersOnce, ReceiverOnce, TransmitterOnce, StatusOnce, ChannelOnce, LendingOnce, SeatOnce, ChannelImageOnce, SeatImageOnce, RankOnce}
+use Rattle.demands.specs.OnceCalls.{ControllerOnce, RecordsOnce, BenchOnce, ListingOnce, ImageOnce, LessonOnce, StreamsOnce, CBenchOnce, EmbedOnce}
 use Rattle.demands.proofs.Once.{told, unasked, value}
 
 pub base-once : (M : Type 1) → BaseOnce M
@@ -21,6 +23,14 @@ base-once M =
       base·pick-flag = value _ refl (λ κ a v w. refl);
       base·nibble = told _ refl (λ κ a r s v w p q. (p .0 ∙ sym (q .0), refl));
       base·byte-of = value _ refl (λ κ a v w. refl);
+    }
+
+pub c-word-once : (M : Type 1) → CWordOnce M
+c-word-once M =
+    record {
+      c-word·as-byte = value _ refl (λ κ a v w. refl);
+      c-word·as-divisor = value _ refl (λ κ a v w. refl);
+      c-word·word = told _ refl (λ κ a r s v w p q. (p .0 ∙ sym (q .0), refl));
     }
 
 pub queue-once : (M : Type 1) → QueueOnce M
@@ -72,6 +82,7 @@ options-once M =
     record {
       options·Words·start = value _ refl (λ κ a v w. refl);
       options·Words·after = value _ refl (λ κ a v w. refl);
+      options·Words·place-of = value _ refl (λ κ a v w. refl);
       options·Words·are-whole = value _ refl (λ κ a v w. refl);
       options·Words·due = value _ refl (λ κ a v w. refl);
       options·Words·stop = told _ refl (λ κ a r s v w p q. (p .0 ∙ sym (q .0), refl));
@@ -197,6 +208,7 @@ controller-once M =
       controller·Controller·power-up = value _ refl (λ κ a v w. refl);
       controller·Controller·settle = value _ refl (λ κ a v w. refl);
       controller·Controller·output = value _ refl (λ κ a v w. refl);
+      controller·Controller·requests = value _ refl (λ κ a v w. refl);
       controller·Controller·read = value _ refl (λ κ a v w. refl);
       controller·Controller·write = value _ refl (λ κ a v w. refl);
       controller·Controller·acknowledge = value _ refl (λ κ a v w. refl);
@@ -251,6 +263,8 @@ lesson-once M =
           let same : r ≡ s = p .told ∙ sym (q .told) in
           let bytes = p .bytes ∙ ap (λ (l : Lesson). handedOut l (now (a .0)) (now (a .1 .0))) same ∙ sym (q .bytes) in
           (same, λ i. (tt, (bytes i, tt))));
+      lesson·behind = told _ refl (λ κ a r s v w p q. (p .0 ∙ sym (q .0), refl));
+      lesson·comment-at = told _ refl (λ κ a r s v w p q. (p .0 ∙ sym (q .0), refl));
     }
 
 pub streams-once : (M : Type 1) → StreamsOnce M
@@ -267,6 +281,15 @@ streams-once M =
       streams·Stream·next = unasked _;
     }
 
+pub c-bench-once : (M : Type 1) → CBenchOnce M
+c-bench-once M =
+    record {
+      c-bench·reset = told _ refl (λ κ a r s v w p q. (plays-one _ r s p q, refl));
+      c-bench·parts = told _ refl (λ κ a r s v w p q. (parted-one _ r s p q, refl));
+      c-bench·save = told _ refl (λ κ a r s v w p q. let same = saved-one _ _ _ _ _ r s p q in (same .0, λ i. (tt, (same .1 i, (tt, tt)))));
+      c-bench·restore = told _ refl (λ κ a r s v w p q. (plays-one _ r s p q, refl));
+    }
+
 pub embed-once : (M : Type 1) → EmbedOnce M
 embed-once M =
     record {
@@ -279,4 +302,8 @@ embed-once M =
       embed·hailstoat-output = value _ refl (λ κ a v w. refl);
       embed·hailstoat-modem-outputs = told _ refl (λ κ a r s v w p q. (p .0 ∙ sym (q .0), refl));
       embed·hailstoat-tallies = told _ refl (λ κ a r s v w p q. (p .1 .0 ∙ sym (q .1 .0), λ i. (tt, (tt, ((p .0 ∙ sym (q .0)) i, tt)))));
+      embed·hailstoat-read-setting = told _ refl (λ κ a r s v w p q. let same = reads-told-one _ _ _ _ r s p q in (same .0, λ i. (tt, (tt, (same .1 i, tt)))));
+      embed·hailstoat-write-setting = told _ refl (λ κ a r s v w p q. let same = writes-told-one _ _ _ _ _ _ r s p q in (same .0, λ i. (tt, (tt, (tt, (same .1 i, tt))))));
+      embed·hailstoat-save = told _ refl (λ κ a r s v w p q. let same = saved-one _ _ _ _ _ r s p q in (same .0, λ i. (tt, (same .1 i, (tt, tt)))));
+      embed·hailstoat-restore = told _ refl (λ κ a r s v w p q. (p .1 .0 ∙ sym (q .1 .0), λ i. ((p .0 ∙ sym (q .0)) i, (tt, (tt, tt)))));
     }

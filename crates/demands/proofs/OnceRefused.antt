@@ -17,7 +17,7 @@ use Rattle.records.specs.Events.{whole, seatCount}
 use Rattle.bench.specs.declared.Bench.{Bench}
 use Rattle.bench.specs.Seats.{powerUp}
 use Rattle.bench.specs.Steps.{outcome}
-use Rattle.embed.specs.Word.{wordOf}
+use Rattle.c_word.specs.Word.{wordOf}
 use Rattle.embed.proofs as embed
 use Rattle.rates.proofs as rates
 use Rattle.demands.specs.Once.{Free, Once, Proved, Written}

@@ -1,6 +1,7 @@
 -- A line for every public call, room by room: its contract leaves no second outcome. The line's name is the call's, and tools/before/05-once
 -- fails where a call has no line. Programs, which nothing calls, have none.
 use Rattle.base.proofs as base
+use Rattle.c_word.proofs as c_word
 use Rattle.queue.proofs as queue
 use Rattle.rates.proofs as rates
 use Rattle.setting_lines.proofs as setting_lines
@@ -20,10 +21,20 @@ use Rattle.controller.proofs as controller
 use Rattle.records.proofs as records
 use Rattle.bench.proofs as bench
 use Rattle.text.proofs as text
+use Rattle.page.proofs as page
+use Rattle.names.proofs as names
+use Rattle.deeds.proofs as deeds
+use Rattle.moves.proofs as moves
+use Rattle.account.proofs as account
+use Rattle.seat_page.proofs as seat_page
+use Rattle.controller_page.proofs as controller_page
+use Rattle.sight.proofs as sight
+use Rattle.timeline.proofs as timeline
 use Rattle.image.proofs as image
 use Rattle.listing.proofs as listing
 use Rattle.lesson.proofs as lesson
 use Rattle.streams.proofs as streams
+use Rattle.c_bench.proofs as c_bench
 use Rattle.embed.proofs as embed
 use Rattle.demands.specs.Once.{Free, Once}
 
@@ -37,6 +48,13 @@ pub record BaseOnce (M : Type 1) : Type 2 where
   pub base·pick-flag : Once M base.pick_flag.ended base.pick_flag.clauses base.pick_flag.spec
   pub base·nibble : Once M base.nibble.ended base.nibble.clauses base.nibble.spec
   pub base·byte-of : Once M base.byte_of.ended base.byte_of.clauses base.byte_of.spec
+
+-- ---- c_word: C's numbers and its word
+
+pub record CWordOnce (M : Type 1) : Type 2 where
+  pub c-word·as-byte : Once M c_word.as_byte.ended c_word.as_byte.clauses c_word.as_byte.spec
+  pub c-word·as-divisor : Once M c_word.as_divisor.ended c_word.as_divisor.clauses c_word.as_divisor.spec
+  pub c-word·word : Once M c_word.word.ended c_word.word.clauses c_word.word.spec
 
 -- ---- queue: a queue
 
@@ -79,6 +97,7 @@ pub record SheetsOnce (M : Type 1) : Type 2 where
 pub record OptionsOnce (M : Type 1) : Type 2 where
   pub options·Words·start : Once M options.Words.start.ended options.Words.start.clauses options.Words.start.spec
   pub options·Words·after : Once M options.Words.after.ended options.Words.after.clauses options.Words.after.spec
+  pub options·Words·place-of : Once M options.Words.place_of.ended options.Words.place_of.clauses options.Words.place_of.spec
   pub options·Words·are-whole : Once M options.Words.are_whole.ended options.Words.are_whole.clauses options.Words.are_whole.spec
   pub options·Words·due : Once M options.Words.due.ended options.Words.due.clauses options.Words.due.spec
   pub options·Words·stop : Once M options.Words.stop.ended options.Words.stop.clauses options.Words.stop.spec
@@ -195,6 +214,7 @@ pub record ControllerOnce (M : Type 1) : Type 2 where
   pub controller·Controller·power-up : Once M controller.Controller.power_up.ended controller.Controller.power_up.clauses controller.Controller.power_up.spec
   pub controller·Controller·settle : Once M controller.Controller.settle.ended controller.Controller.settle.clauses controller.Controller.settle.spec
   pub controller·Controller·output : Once M controller.Controller.output.ended controller.Controller.output.clauses controller.Controller.output.spec
+  pub controller·Controller·requests : Once M controller.Controller.requests.ended controller.Controller.requests.clauses controller.Controller.requests.spec
   pub controller·Controller·read : Once M controller.Controller.read.ended controller.Controller.read.clauses controller.Controller.read.spec
   pub controller·Controller·write : Once M controller.Controller.write.ended controller.Controller.write.clauses controller.Controller.write.spec
   pub controller·Controller·acknowledge :
@@ -230,6 +250,68 @@ pub record ListingOnce (M : Type 1) : Type 2 where
   pub text·put-after : Once M text.put_after.ended text.put_after.clauses text.put_after.spec
   pub listing·run : Once M listing.run.ended listing.run.clauses listing.run.spec
 
+-- ---- page: pieces of words, and pages that they fill
+
+pub record PageOnce (M : Type 1) : Type 2 where
+  pub page·Piece·empty : Once M page.Piece.empty.ended page.Piece.empty.clauses page.Piece.empty.spec
+  pub page·Piece·text : Once M page.Piece.text.ended page.Piece.text.clauses page.Piece.text.spec
+  pub page·Piece·decimal : Once M page.Piece.decimal.ended page.Piece.decimal.clauses page.Piece.decimal.spec
+  pub page·Piece·hex : Once M page.Piece.hex.ended page.Piece.hex.clauses page.Piece.hex.spec
+  pub page·Piece·letter : Once M page.Piece.letter.ended page.Piece.letter.clauses page.Piece.letter.spec
+  pub page·Page·empty : Once M page.Page.empty.ended page.Page.empty.clauses page.Page.empty.spec
+  pub page·Page·text : Once M page.Page.text.ended page.Page.text.clauses page.Page.text.spec
+  pub page·Page·add : Once M page.Page.add.ended page.Page.add.clauses page.Page.add.spec
+  pub page·Page·begin : Once M page.Page.begin.ended page.Page.begin.clauses page.Page.begin.spec
+  pub page·Page·join : Once M page.Page.join.ended page.Page.join.clauses page.Page.join.spec
+  pub page·Page·length : Once M page.Page.length.ended page.Page.length.clauses page.Page.length.spec
+  pub page·Page·comment : Once M page.Page.comment.ended page.Page.comment.clauses page.Page.comment.spec
+  pub page·Page·end : Once M page.Page.end.ended page.Page.end.clauses page.Page.end.spec
+
+-- ---- names: the words, and what is said with them
+
+pub record NamesOnce (M : Type 1) : Type 2 where
+  pub names·word : Once M names.word.ended names.word.clauses names.word.spec
+  pub names·lsr : Once M names.lsr.ended names.lsr.clauses names.lsr.spec
+  pub names·msr : Once M names.msr.ended names.msr.clauses names.msr.spec
+  pub names·marks-named : Once M names.marks_named.ended names.marks_named.clauses names.marks_named.spec
+  pub names·marks : Once M names.marks.ended names.marks.clauses names.marks.spec
+  pub names·levels : Once M names.levels.ended names.levels.clauses names.levels.spec
+  pub names·register : Once M names.register.ended names.register.clauses names.register.spec
+  pub names·lines : Once M names.lines.ended names.lines.clauses names.lines.spec
+  pub names·refusal : Once M names.refusal.ended names.refusal.clauses names.refusal.spec
+  pub names·iir : Once M names.iir.ended names.iir.clauses names.iir.spec
+
+-- ---- deeds, moves and account: a record in words, and its page
+
+pub record AccountOnce (M : Type 1) : Type 2 where
+  pub deeds·done : Once M deeds.done.ended deeds.done.clauses deeds.done.spec
+  pub deeds·cut : Once M deeds.cut.ended deeds.cut.clauses deeds.cut.spec
+  pub deeds·came : Once M deeds.came.ended deeds.came.clauses deeds.came.spec
+  pub moves·at-seat : Once M moves.at_seat.ended moves.at_seat.clauses moves.at_seat.spec
+  pub moves·at-controller : Once M moves.at_controller.ended moves.at_controller.clauses moves.at_controller.spec
+  pub account·record : Once M account.record.ended account.record.clauses account.record.spec
+  pub account·short : Once M account.short.ended account.short.clauses account.short.spec
+
+-- ---- seat_page and controller_page: the state in words
+
+pub record StateOnce (M : Type 1) : Type 2 where
+  pub seat-page·is-in-use : Once M seat_page.is_in_use.ended seat_page.is_in_use.clauses seat_page.is_in_use.spec
+  pub seat-page·seat : Once M seat_page.seat.ended seat_page.seat.clauses seat_page.seat.spec
+  pub controller-page·controller : Once M controller_page.controller.ended controller_page.controller.clauses controller_page.controller.spec
+
+-- ---- sight and timeline: what is seen of a bench, for a wave viewer
+
+pub record TimelineOnce (M : Type 1) : Type 2 where
+  pub sight·Sight·of : Once M sight.Sight.of.ended sight.Sight.of.clauses sight.Sight.of.spec
+  pub timeline·head : Once M timeline.head.ended timeline.head.clauses timeline.head.spec
+  pub timeline·seat-head : Once M timeline.seat_head.ended timeline.seat_head.clauses timeline.seat_head.spec
+  pub timeline·head-end : Once M timeline.head_end.ended timeline.head_end.clauses timeline.head_end.spec
+  pub timeline·first : Once M timeline.first.ended timeline.first.clauses timeline.first.spec
+  pub timeline·step : Once M timeline.step.ended timeline.step.clauses timeline.step.spec
+  pub timeline·last : Once M timeline.last.ended timeline.last.clauses timeline.last.spec
+  pub sight·Sight·look-at : Once M sight.Sight.look_at.ended sight.Sight.look_at.clauses sight.Sight.look_at.spec
+  pub sight·named : Once M sight.named.ended sight.named.clauses sight.named.spec
+
 -- ---- image: the whole bench as an image, with the buffer that is lent back
 
 pub record ImageOnce (M : Type 1) : Type 2 where
@@ -240,6 +322,8 @@ pub record ImageOnce (M : Type 1) : Type 2 where
 
 pub record LessonOnce (M : Type 1) : Type 2 where
   pub lesson·read : Once M lesson.read.ended lesson.read.clauses lesson.read.spec
+  pub lesson·behind : Once M lesson.behind.ended lesson.behind.clauses lesson.behind.spec
+  pub lesson·comment-at : Once M lesson.comment_at.ended lesson.comment_at.clauses lesson.comment_at.spec
 
 -- ---- streams: the trials' draws and digest
 
@@ -255,7 +339,15 @@ pub record StreamsOnce (M : Type 1) : Type 2 where
   pub streams·script-rows : Free M streams.script_rows.ended streams.script_rows.clauses streams.script_rows.spec
   pub streams·Stream·next : Free M streams.Stream.next.ended streams.Stream.next.clauses streams.Stream.next.spec
 
--- ---- embed: the C interface, with the bench that is lent back
+-- ---- c_bench: what C does to a bench, by value
+
+pub record CBenchOnce (M : Type 1) : Type 2 where
+  pub c-bench·reset : Once M c_bench.reset.ended c_bench.reset.clauses c_bench.reset.spec
+  pub c-bench·parts : Once M c_bench.parts.ended c_bench.parts.clauses c_bench.parts.spec
+  pub c-bench·save : Once M c_bench.save.ended c_bench.save.clauses c_bench.save.spec
+  pub c-bench·restore : Once M c_bench.restore.ended c_bench.restore.clauses c_bench.restore.spec
+
+-- ---- embed: the C interface, with all that is lent back
 
 pub record EmbedOnce (M : Type 1) : Type 2 where
   pub embed·hailstoat-version : Once M embed.hailstoat_version.ended embed.hailstoat_version.clauses embed.hailstoat_version.spec
@@ -267,3 +359,7 @@ pub record EmbedOnce (M : Type 1) : Type 2 where
   pub embed·hailstoat-output : Once M embed.hailstoat_output.ended embed.hailstoat_output.clauses embed.hailstoat_output.spec
   pub embed·hailstoat-modem-outputs : Once M embed.hailstoat_modem_outputs.ended embed.hailstoat_modem_outputs.clauses embed.hailstoat_modem_outputs.spec
   pub embed·hailstoat-tallies : Once M embed.hailstoat_tallies.ended embed.hailstoat_tallies.clauses embed.hailstoat_tallies.spec
+  pub embed·hailstoat-read-setting : Once M embed.hailstoat_read_setting.ended embed.hailstoat_read_setting.clauses embed.hailstoat_read_setting.spec
+  pub embed·hailstoat-write-setting : Once M embed.hailstoat_write_setting.ended embed.hailstoat_write_setting.clauses embed.hailstoat_write_setting.spec
+  pub embed·hailstoat-save : Once M embed.hailstoat_save.ended embed.hailstoat_save.clauses embed.hailstoat_save.spec
+  pub embed·hailstoat-restore : Once M embed.hailstoat_restore.ended embed.hailstoat_restore.clauses embed.hailstoat_restore.spec

@@ -1,4 +1,4 @@
--- A bench that is lent for reading: a share of its controller, or of one seat, is looked at where it lies, and the loan is shut.
+-- A bench that is lent for reading: a share of it, of its controller or of one seat is looked at where it lies, and the loan is shut.
 use Prim.Native.Nat.{ℕ, _+_}
 use mathlib.Core.Path.{refl}
 use mathlib.Core.List.{List, [], _∷_}
@@ -13,7 +13,8 @@ use types.Kit.{Given, Goal, Item, Seq, Step, Soaks, Go, ‵, raw, given, _⊛_, 
 use types.Tokens.{obor-close}
 use denote.Laws.{Is, shows}
 use denote.Memory.{cellAt, partAt, partOf}
-use denote.Steps.{looks}
+use denote.Steps.{looks, facts}
+use denote.Struct.Steps.{spelt}
 use denote.Struct.Laws as LL
 use denote.Struct.Laws.{lawfuls}
 use denote.Struct.Parts.{PartsBack}
@@ -120,3 +121,30 @@ module _ {M : Type 1} {𝓤 : URA M} {H : Heap 𝓤} {A : Atoms 𝓤} (W : Given
   pub looks-away-seat : Soaks G → (s : Share) → KnownSeat (seat h n)
       → Step Go W (‵ (flft κ q) ∷ Γ) G (seat-cell 𝓤 H A W h n b o s ∷ raw (BesideSeat 𝓤 H A W h n b o s) ∷ ‵ (fobor κ q (partAt B.the-row s h b o)) ∷ Γ) G
   looks-away-seat z s is = step (λ t. use2 W (‵ (partAt B.the-row s h b o)) (seat-unseen 𝓤 H A W h n b o s is) $ move ! (1 ∷ []) $ obor-close ! z $ drop ! $ t)
+
+-- ---- the same of the whole bench, with nothing left behind
+
+abbrev pub bench-val : Bench → Val
+bench-val h = LL.val B.the-type B′.the-laws h
+
+-- what is known of a bench's machine value
+abbrev pub KnownBench : Bench → Type 0
+KnownBench h = Is B.the-row h (bench-val h ∷ [])
+
+abbrev bench-cell : {M : Type 1} {𝓤 : URA M} → Bench → ℕ → ℕ → Share → Item 𝓤
+bench-cell h b o s = ‵ (fat s (rawTy B′.mir) b o (bench-val h))
+
+module _ {M : Type 1} {𝓤 : URA M} {H : Heap 𝓤} {A : Atoms 𝓤} (W : Given 𝓤 H A) (h : Bench) (b o : ℕ) {κ : Lft} {q : Share} {Γ : List (Item 𝓤)} {G : Goal 𝓤 H} where
+  pub looks-at-bench : Soaks G
+      → ((s : Share) → KnownBench h → Seq Go W (bench-cell h b o s ∷ ‵ (fobor κ q (partAt B.the-row s h b o)) ∷ ‵ (fshr-bor κ (λ t. partAt B.the-row t h b o)) ∷ Γ) G)
+      → Seq Go W (‵ (fshr-bor κ (λ t. partAt B.the-row t h b o)) ∷ ‵ (flft κ q) ∷ Γ) G
+  looks-at-bench z k =
+      looks ! z B.the-row (Is B.the-row) (shows 𝓤 H A B.the-row) (LL.vals B.the-type B′.the-laws) (LL.tells B.the-type B′.the-laws) ((LL.copy B.the-type B′.the-copy) 𝓤 H A W) h b o (λ s vs.
+      spelt ! B.the-row (Is B.the-row) (shows 𝓤 H A B.the-row) (LL.vals B.the-type B′.the-laws) (LL.tells B.the-type B′.the-laws) s h vs b o $
+      move ! (1 ∷ []) $ facts ! B.the-row (Is B.the-row) (shows 𝓤 H A B.the-row) h (bench-val h ∷ []) (λ is. k s is))
+
+  pub looks-away-bench : Soaks G → (s : Share) → KnownBench h
+      → Step Go W (‵ (flft κ q) ∷ Γ) G (bench-cell h b o s ∷ ‵ (fobor κ q (partAt B.the-row s h b o)) ∷ Γ) G
+  looks-away-bench z s is = step (λ t.
+      use1 W (‵ (partAt B.the-row s h b o)) (cell-in 𝓤 H A W s B.the-row (LL.vals B.the-type B′.the-laws) h b o ((LL.makes B.the-type B′.the-plain) 𝓤 H A) is) $
+      move ! (1 ∷ []) $ obor-close ! z $ drop ! $ t)

@@ -1,12 +1,10 @@
-pub mod Word
 pub mod Bytes
 pub mod Version
-pub mod Numbers
 pub mod Outputs
 pub mod Tallies
-pub mod Zeroed
-pub mod WordLaws
+pub mod Settings
 pub mod NumberLaws
+pub mod OneLaws
 pub mod OutputsLaws
+pub mod SettingLaws
 pub mod VersionLaws
-pub mod ZeroedLaws

@@ -4,7 +4,7 @@ use mathlib.Core.Bool.{false}
 use mathlib.Core.Path.{_≡_}
 use Rattle.seat.specs.declared.Seat.{Seat}
 use Rattle.bench.specs.Tallies.{talliedBy}
-use Rattle.embed.specs.Word.{Tells}
+use Rattle.c_word.specs.Word.{Tells}
 use Rattle.embed.specs.declared.Counted.{Counted}
 
 -- what came back is the five by a seat's number, and the word tells their answer

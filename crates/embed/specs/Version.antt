@@ -9,7 +9,7 @@ abbrev major : ℕ
 major = 3
 
 abbrev minor : ℕ
-minor = 0
+minor = 1
 
 abbrev patch : ℕ
 patch = 0

@@ -1,12 +1,19 @@
 // The bench for the control software, which is written in C: the caller holds a bench and lends it for a call.
 // A function over a lent bench copies out what its call touches, calls a function by value, stores what came back, and does nothing else.
+mod images;
+mod settings;
+
 use base::Answer;
 use bench::Bench;
 use controller::Controller;
+pub use images::hailstoat_restore;
+pub use images::hailstoat_save;
 use records::Event;
 use registers::Settings;
 use seat::Five;
 use seat::Seat;
+pub use settings::hailstoat_read_setting;
+pub use settings::hailstoat_write_setting;
 ghost use mathlib.Core.Path.{_≡_};
 ghost use mathlib.Core.Bool.{false};
 ghost use Rattle.base.specs.Bits.{digit};
@@ -14,41 +21,25 @@ ghost use Rattle.rates.specs.Rates.{divisorOf};
 ghost use Rattle.controller.specs.Steps.{placed};
 ghost use Rattle.controller.specs.Turns.{outputOf};
 ghost use Rattle.records.specs.Events.{whole};
-ghost use Rattle.records.specs.Parts.{parted};
 ghost use Rattle.records.specs.declared.Event.the-variants.{MasterReset};
 ghost use Rattle.bench.specs.Seats.{powerUp};
 ghost use Rattle.bench.specs.Parts.{partly};
 ghost use Rattle.bench.specs.Steps.{met, outcome};
 ghost use Rattle.bench.specs.Tallies.{talliesOf};
-ghost use Rattle.embed.specs.Word.{Tells, Told, Parted};
-ghost use Rattle.embed.specs.Numbers.{asByte};
+ghost use Rattle.c_word.specs.Word.{Tells};
+ghost use Rattle.c_bench.specs.Told.{Told};
 ghost use Rattle.embed.specs.Outputs.{outputs, outputsOf, outputsAt};
 ghost use Rattle.embed.specs.Tallies.{Counts};
 ghost use Rattle.embed.specs.Version.{version};
 ghost use Rattle.embed.specs.Bytes.{benchBytes};
 
-const LAST_BYTE: u32 = 255;
-
 const MASTER_RESET: u32 = Event::MASTER_RESET as u32;
 
 const SEATS: u32 = records::SEATS as u32;
 
-const VERSION: u32 = 30000;
+const VERSION: u32 = 30100;
 
 const BENCH_BYTES: usize = 812;
-
-// A bench after a master reset, and the word that tells of it.
-pub struct Played {
-    pub bench: Bench,
-    pub word: u64,
-}
-
-// A seat and the controller after a record, and the word that tells of it.
-pub struct PartsPlayed {
-    pub seat: Seat,
-    pub controller: Controller,
-    pub word: u64,
-}
 
 // The five tallies of a seat, which are 0 where the seat is not there, and the word that tells which.
 pub struct Counted {
@@ -56,78 +47,11 @@ pub struct Counted {
     pub word: u64,
 }
 
-// A number of C as a byte: each that is past a byte becomes 255, which the rooms refuse, or do not look at, as they would it.
-fn as_byte(n: u32) -> u8
-    ensures { λ r. ⌜ r ≡ asByte n ⌝ }
-{
-    if n < LAST_BYTE {
-        return n as u8;
-    }
-    LAST_BYTE as u8
-}
-
-fn word(answer: Answer, output: bool) -> u64
-    ensures { λ r. ⌜ Tells r answer output ⌝ }
-{
-    let high = base::pick_byte(output, 1, 0);
-    let Answer::Letter(byte, figures) = answer else {
-        let value = answer.value();
-        let refusal = answer.refusal();
-        return value as u64 + 0x10000 * refusal as u64 + 0x1000000 * high as u64;
-    };
-    let lower = byte as u64 + 0x1000000 * high as u64;
-    lower + 0x100000000 * figures.marks as u64 + 0x10000000000 * figures.behind as u64
-}
-
-// The one record that touches every seat.
-fn play_reset(b: Bench) -> Played
-    ensures { λ r. ⌜ (r .bench ≡ met b MasterReset .bench) × Told (r .word) (met b MasterReset) ⌝ }
-{
-    let o = b.reset();
-    let next = o.bench;
-    let answer = o.answer;
-    let told = word(answer, o.output);
-    Played {
-        bench: next,
-        word: told,
-    }
-}
-
-// Any other record, on the two parts that it can touch.
-fn play_parts(
-    seat: Seat,
-    controller: Controller,
-    kind: u32,
-    n: u32,
-    number: u32,
-    value: u8,
-) -> PartsPlayed
-    ensures { λ r. ⌜ Parted r (parted seat controller (whole kind n number value)) ⌝ }
-{
-    let t = records::step_parts(
-        seat,
-        controller,
-        as_byte(kind),
-        as_byte(n),
-        as_byte(number),
-        value,
-    );
-    let next = t.seat;
-    let moved = t.controller;
-    let answer = t.answer;
-    let told = word(answer, moved.output());
-    PartsPlayed {
-        seat: next,
-        controller: moved,
-        word: told,
-    }
-}
-
 fn place_word(controller: Controller, line: u32) -> u64
     ensures { λ r. ⌜ Tells r (placed controller line) false ⌝ }
 {
-    let answer = controller.place(as_byte(line));
-    word(answer, false)
+    let answer = controller.place(c_word::as_byte(line));
+    c_word::word(answer, false)
 }
 
 // In loopback the terminals are inactive, whatever the MCR says (document 004, MCR bit 4).
@@ -150,9 +74,9 @@ fn outputs_word(mcr: u8, n: u32) -> u64
     ensures { λ r. ⌜ Tells r (outputsOf mcr n) false ⌝ }
 {
     if n < SEATS {
-        return word(Answer::Byte(active_outputs(mcr)), false);
+        return c_word::word(Answer::Byte(active_outputs(mcr)), false);
     }
-    word(Answer::Refused(Answer::SEAT_ABOVE), false)
+    c_word::word(Answer::Refused(Answer::SEAT_ABOVE), false)
 }
 
 fn seat_outputs(held: Seat, n: u32) -> u64
@@ -167,7 +91,7 @@ fn seat_tallies(held: Seat, n: u32) -> Counted
     let t = bench::tallies_by(held, n);
     let five = t.five;
     let answer = t.answer;
-    let told = word(answer, false);
+    let told = c_word::word(answer, false);
     Counted { five, word: told }
 }
 
@@ -199,8 +123,8 @@ pub extern "C" fn hailstoat_size() -> usize
 pub extern "C" fn hailstoat_divisor(rate: u32, clock: u32) -> u64
     ensures { λ r. ⌜ Tells r (divisorOf rate clock) false ⌝ }
 {
-    let answer = rates::divisor(rate, as_byte(clock));
-    word(answer, false)
+    let answer = rates::divisor(rate, c_word::as_byte(clock));
+    c_word::word(answer, false)
 }
 
 #[no_mangle]
@@ -214,7 +138,7 @@ pub extern "C" fn hailstoat_power_up(bench: &mut Bench)
 fn reset_event(bench: &mut Bench) -> u64
     ensures { λ r. ⌜ (now (bench .exit) ≡ met (now (bench .entry)) MasterReset .bench) × Told r (met (now (bench .entry)) MasterReset) ⌝ }
 {
-    let p = play_reset(*bench);
+    let p = c_bench::reset(*bench);
     *bench = p.bench;
     p.word
 }
@@ -227,7 +151,7 @@ fn seat_event(bench: &mut Bench, kind: u32, seat: u32, number: u32, value: u8) -
 {
     let at = seat as usize % records::SEATS;
     let held = &mut bench.seats[at];
-    let p = play_parts(*held, bench.controller, kind, seat, number, value);
+    let p = c_bench::parts(*held, bench.controller, kind, seat, number, value);
     *held = p.seat;
     bench.controller = p.controller;
     p.word

@@ -1,4 +1,5 @@
 pub mod Walks
+pub mod Commenting
 pub mod Ends
 pub mod Stops
 pub mod Slips

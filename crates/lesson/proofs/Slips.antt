@@ -7,6 +7,7 @@ use Rattle.text.specs.Hex.{digit}
 use Rattle.lesson.specs.Text.{apart, commented, uncommented, worths, paired, digitsOf, bytesOf}
 use Rattle.lesson.specs.Fault.{faulty, next, after, faultFrom, faultOf}
 use Rattle.lesson.specs.Cause.{finding, stoppedAt, marked, wide, alien, begins, begunFrom, begunIn}
+use Rattle.lesson.specs.Comments.{inText, dueBehind, reach, reached, placeAfter, goesOn, run, runEnd, commentFrom, commentAt, commentOf}
 use Rattle.lesson.specs.Place.{onward, placeFrom, placeBehind}
 use Rattle.lesson.specs.Lesson.{answerBy, lessonOf}
 use Rattle.lesson.specs.declared.Lesson.{Lesson}
@@ -64,3 +65,18 @@ short-record-is-told-at-its-start = refl
 short-record-is-counted : answer (48 ∷ 56 ∷ 48 ∷ 48 ∷ 48 ∷ 48 ∷ 10 ∷ 48 ∷ []) ≡ 1 ∷ 1 ∷ 30 ∷ 3 ∷ []
 unfolding answer
 short-record-is-counted = refl
+
+-- the comment of a text's first record; it opens what finding it computes with
+unfoldable commentFound : List ℕ → List ℕ
+unfolding placeAfter reached inText reach dueBehind commentOf commentAt commentFrom runEnd run goesOn commented digit pick
+commentFound text = commentOf text (placeAfter text 0 8)
+
+-- `no-comment`; 08000000, a line feed, a number sign
+comment-stands-on-its-line : commentFound (48 ∷ 56 ∷ 48 ∷ 48 ∷ 48 ∷ 48 ∷ 48 ∷ 48 ∷ 10 ∷ 35 ∷ []) ≡ []
+unfolding commentFound
+comment-stands-on-its-line = refl
+
+-- `reach-digits`; a number sign, 8, a line feed, 08000000, a number sign
+digits-of-comments-are-passed : commentFound (35 ∷ 56 ∷ 10 ∷ 48 ∷ 56 ∷ 48 ∷ 48 ∷ 48 ∷ 48 ∷ 48 ∷ 48 ∷ 35 ∷ []) ≡ 35 ∷ []
+unfolding commentFound
+digits-of-comments-are-passed = refl

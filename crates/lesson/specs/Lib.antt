@@ -1,6 +1,7 @@
 pub mod Text
 pub mod Fault
 pub mod Cause
+pub mod Comments
 pub mod Place
 pub mod Lesson
 pub mod Plain
@@ -16,3 +17,4 @@ pub mod RecordLaws
 pub mod CauseLaws
 pub mod ShortLaws
 pub mod ByteCountLaws
+pub mod CommentLaws

@@ -23,7 +23,7 @@ struct Behind {
     begun: usize,
 }
 
-fn character_at(text: &[u8], at: usize) -> u8
+pub(crate) fn character_at(text: &[u8], at: usize) -> u8
     ensures { λ r. ⌜ r ≡ characterAt (now (text .entry)) at ⌝ }
 {
     if at < text.len() {

@@ -2,9 +2,12 @@
 mod bytes;
 mod causes;
 mod characters;
+mod comments;
 mod faults;
 mod places;
 
+pub use comments::behind;
+pub use comments::comment_at;
 use faults::Found;
 ghost use Rattle.lesson.specs.Lesson.{Reads};
 
@@ -29,6 +32,12 @@ pub enum Cause {
     ShortRecord(u8),
     ByteOrderMark,
     Utf16,
+}
+
+// The part of a text that a comment is: from its number sign on, up to its end. Where both are the same there is none.
+pub struct Comment {
+    pub from: usize,
+    pub end: usize,
 }
 
 // Reads a text into the buffer. Where it has a fault or is too long, the buffer stays as it was.

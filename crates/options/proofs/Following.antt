@@ -5,15 +5,17 @@ use mathlib.Core.List.{List, [], _∷_}
 use mathlib.Core.Logic.{_⊎_, inl, inr, ⊎-elim}
 use mathlib.Core.Path.{_≡_, refl, sym, ap, _∙_}
 use native.Mathlib.Omega.{arith}
-use lib.ListN.{length}
-use borrow.Author.Tests.{ne-eqb}
+use lib.Dec.{eqb}
+use lib.ListN.{length, getD, set}
+use borrow.Author.Tests.{eq-eqb, ne-eqb}
 use Rattle.base.specs.Pick.{pick}
-use Rattle.base.specs.PickLaws.{pick-true, pick-false, either-way, not-both}
+use Rattle.base.specs.PickLaws.{pick-true, pick-false, pick-either, either-way, not-both}
 use Rattle.text.specs.Quoted.{quoted}
 use Rattle.options.specs.Moments.{sameBytes, momentOf}
 use Rattle.options.specs.SameLaws.{same-only}
-use Rattle.options.specs.Words.{option, moment, nothing, noWords, awaiting, stopped, withLesson, withImage, withTallies, withMoment, dashed, optionRead, wordsAfter, wordsBehind, whole}
-use Rattle.options.specs.WordsRead.{between, OptionsRead, NotUnderstood, TableFollowed}
+use Rattle.options.specs.Asked as asked
+use Rattle.options.specs.Words.{option, moment, nothing, when, noWords, awaiting, stopped, placeOf, once, withMoment, withWhen, dashed, Row, table, readBy, optionRead, wordsAfter, wordsBehind, whole}
+use Rattle.options.specs.WordsRead.{between, Free, Taken, Reads, NoneOf, OptionsRead, NotUnderstood, TableFollowed}
 use Rattle.options.specs.declared.Moment.{Moment}
 use Rattle.options.specs.declared.Moment.the-variants.{Behind, End, Unread}
 use Rattle.options.specs.declared.Words.{Words}
@@ -27,133 +29,151 @@ other text word differs =
     (either-way (sameBytes word text))
 
 -- each option begins with `-`
-plain : (text name : List ℕ) → dashed text ≡ true → dashed name ≡ false → name ≡ text → ⊥
-plain text name t f e = not-both (ap dashed e ∙ t) f
+abbrev AllDashed : List Row → Type 0
+AllDashed [] = Unit {0}
+AllDashed (r ∷ rows) = (dashed (quoted (r .word)) ≡ true) × AllDashed rows
 
-begins-save : dashed (quoted "--save-at") ≡ true
+table-dashed : AllDashed table
 unfolding dashed pick
-begins-save = refl
+table-dashed = (refl, (refl, (refl, (refl, (refl, (refl, (refl, tt)))))))
 
-begins-restore : dashed (quoted "--restore") ≡ true
-unfolding dashed pick
-begins-restore = refl
+-- so a word that does not is none
+plain : (rows : List Row) (name : List ℕ) → AllDashed rows → dashed name ≡ false → NoneOf rows name
+plain [] name all f = tt
+plain (r ∷ rows) name all f = ((λ e. not-both (ap dashed e ∙ all .0) f), plain rows name (all .1) f)
 
-begins-tallies : dashed (quoted "--tallies") ≡ true
-unfolding dashed pick
-begins-tallies = refl
+module _ (s : Words) (place : ℕ) (word : List ℕ) where
+  no-option : (rows : List Row) → NoneOf rows word → readBy rows s place word ≡ pick (dashed word) (stopped s place) (once asked.lesson option s place)
+  no-option [] none = refl
+  no-option (r ∷ rows) none = pick-false _ _ _ (other (quoted (r .word)) word (none .0)) ∙ no-option rows (none .1)
 
-begins-dashes : dashed (quoted "--") ≡ true
-unfolding dashed pick
-begins-dashes = refl
-
--- a word that is no option
-module _ (s : Words) (place : ℕ) (word : List ℕ) (save : word ≡ quoted "--save-at" → ⊥) (restore : word ≡ quoted "--restore" → ⊥)
-    (tallies : word ≡ quoted "--tallies" → ⊥) (dashes : word ≡ quoted "--" → ⊥) where
-  no-option : optionRead s place word ≡ pick (dashed word) (stopped s place) (withLesson s place)
+  name-read : dashed word ≡ false → optionRead s place word ≡ once asked.lesson option s place
   unfolding optionRead
-  no-option =
-      pick-false _ _ _ (other _ word save)
-      ∙ pick-false _ _ _ (other _ word restore)
-      ∙ pick-false _ _ _ (other _ word tallies)
-      ∙ pick-false _ _ _ (other _ word dashes)
+  name-read f = no-option table (plain table word table-dashed f) ∙ pick-false _ _ _ f
 
-name-read : (s : Words) (place : ℕ) (name : List ℕ) → dashed name ≡ false → optionRead s place name ≡ withLesson s place
-name-read s place name f =
-    no-option s place name (plain _ name begins-save f) (plain _ name begins-restore f) (plain _ name begins-tallies f) (plain _ name begins-dashes f)
-    ∙ pick-false _ _ _ f
+-- ---- once
 
-save-read : (m : Moment) (lesson image tallies place count : ℕ) (when file : List ℕ) → momentOf when ≡ Behind count
-    → wordsBehind (between m lesson image tallies) place (quoted "--save-at" ∷ when ∷ file ∷ []) ≡ between (Behind count) lesson image tallies
-unfolding wordsAfter optionRead sameBytes pick
-save-read m lesson image tallies place count when file e = rw e
+module _ (m : Moment) (places : List ℕ) (what next place : ℕ) where
+  asks : Free places what → once what next (between m places) place ≡ record { awaited = next; moment = m; asked = set places what place; wrong = 0 }
+  unfolding once placeOf
+  asks free = pick-true _ _ _ (eq-eqb _ 0 free)
 
-save-end-read : (m : Moment) (lesson image tallies place : ℕ) (when file : List ℕ) → momentOf when ≡ End
-    → wordsBehind (between m lesson image tallies) place (quoted "--save-at" ∷ when ∷ file ∷ []) ≡ between End lesson image tallies
-unfolding wordsAfter optionRead sameBytes pick
-save-end-read m lesson image tallies place when file e = rw e
+  asks-twice : Taken places what → once what next (between m places) place ≡ stopped (between m places) place
+  unfolding once placeOf
+  asks-twice taken = pick-false _ _ _ (ne-eqb _ 0 taken)
 
-restore-read : (m : Moment) (lesson tallies place : ℕ) (file : List ℕ)
-    → wordsBehind (between m lesson 0 tallies) place (quoted "--restore" ∷ file ∷ []) ≡ between m lesson (suc place) tallies
-unfolding wordsAfter optionRead withImage sameBytes pick
-restore-read m lesson tallies place file = refl
+module _ (m : Moment) (places : List ℕ) (place : ℕ) where
+  save-read : (count : ℕ) (when file : List ℕ) → momentOf when ≡ Behind count
+      → Reads m places place (quoted "--save-at" ∷ when ∷ file ∷ []) (between (Behind count) places)
+  unfolding wordsAfter optionRead sameBytes pick
+  save-read count when file e = rw e
 
-tallies-read : (m : Moment) (lesson image place : ℕ)
-    → wordsBehind (between m lesson image 0) place (quoted "--tallies" ∷ []) ≡ between m lesson image place
-unfolding wordsAfter optionRead withTallies sameBytes pick
-tallies-read m lesson image place = refl
+  save-end-read : (when file : List ℕ) → momentOf when ≡ End → Reads m places place (quoted "--save-at" ∷ when ∷ file ∷ []) (between End places)
+  unfolding wordsAfter optionRead sameBytes pick
+  save-end-read when file e = rw e
 
-lesson-read : (m : Moment) (image tallies place : ℕ) (name : List ℕ) → dashed name ≡ false
-    → wordsBehind (between m 0 image tallies) place (name ∷ []) ≡ between m place image tallies
-unfolding wordsAfter withLesson pick
-lesson-read m image tallies place name f = name-read (between m 0 image tallies) place name f
+  moment-stops : (when : List ℕ) → momentOf when ≡ Unread → Reads m places place (quoted "--save-at" ∷ when ∷ []) (stopped (between m places) (suc place))
+  unfolding wordsAfter optionRead sameBytes pick
+  moment-stops when e = rw e
 
-named-read : (m : Moment) (image tallies place : ℕ) (name : List ℕ)
-    → wordsBehind (between m 0 image tallies) place (quoted "--" ∷ name ∷ []) ≡ between m (suc place) image tallies
-unfolding wordsAfter optionRead withLesson sameBytes pick
-named-read m image tallies place name = refl
+  -- each of these is read by `once`, at this place or the next
+  restore-once : (file : List ℕ) → Reads m places place (quoted "--restore" ∷ file ∷ []) (once asked.image option (between m places) (suc place))
+  unfolding wordsAfter optionRead sameBytes pick once placeOf
+  restore-once file = refl
+
+  timeline-once : (file : List ℕ) → Reads m places place (quoted "--vcd" ∷ file ∷ []) (once asked.timeline option (between m places) (suc place))
+  unfolding wordsAfter optionRead sameBytes pick once placeOf
+  timeline-once file = refl
+
+  tallies-once : Reads m places place (quoted "--tallies" ∷ []) (once asked.tallies option (between m places) place)
+  unfolding wordsAfter optionRead sameBytes pick
+  tallies-once = refl
+
+  explain-once : Reads m places place (quoted "--explain" ∷ []) (once asked.explain option (between m places) place)
+  unfolding wordsAfter optionRead sameBytes pick
+  explain-once = refl
+
+  show-once : Reads m places place (quoted "--show" ∷ []) (once asked.show when (between m places) place)
+  unfolding wordsAfter optionRead sameBytes pick
+  show-once = refl
+
+  lesson-once : (name : List ℕ) → dashed name ≡ false → Reads m places place (name ∷ []) (once asked.lesson option (between m places) place)
+  unfolding wordsAfter pick
+  lesson-once name f = name-read (between m places) place name f
+
+  named-once : (name : List ℕ) → Reads m places place (quoted "--" ∷ name ∷ []) (once asked.lesson option (between m places) (suc place))
+  unfolding wordsAfter optionRead sameBytes pick once placeOf
+  named-once name = refl
+
+  -- behind `--show` its moment is read
+  show-read : Free places asked.show → (word : List ℕ)
+      → Reads m places place (quoted "--show" ∷ word ∷ []) (withWhen (record { awaited = when; moment = m; asked = set places asked.show place; wrong = 0 }) (suc place) word)
+  unfolding wordsAfter optionRead sameBytes pick
+  show-read free word = rw (asks m places asked.show when place free)
+
+  option-stops : (word : List ℕ) → dashed word ≡ true → NoneOf table word → wordsAfter (between m places) place word ≡ stopped (between m places) place
+  unfolding wordsAfter optionRead pick
+  option-stops word t none = no-option (between m places) place word table none ∙ pick-true _ _ _ t
+
+each-read : (m : Moment) (places : List ℕ) (place : ℕ) → Free places asked.show → Free (set places asked.show place) asked.each
+    → Reads m places place (quoted "--show" ∷ quoted "each" ∷ []) (between m (set (set places asked.show place) asked.each (suc place)))
+unfolding withWhen sameBytes pick once placeOf
+each-read m places place free never = show-read m places place free (quoted "each") ∙ rw never
+
+end-read : (m : Moment) (places : List ℕ) (place : ℕ) → Free places asked.show
+    → Reads m places place (quoted "--show" ∷ quoted "end" ∷ []) (between m (set places asked.show place))
+unfolding withWhen sameBytes pick
+end-read m places place free = show-read m places place free (quoted "end")
 
 pub options-read : OptionsRead
-options-read = record { save = save-read; save-end = save-end-read; restore = restore-read; tallies = tallies-read; lesson = lesson-read; named = named-read }
+options-read = record {
+  save = λ m places place. save-read m places place;
+  save-end = λ m places place. save-end-read m places place;
+  restore = λ m places place file free. restore-once m places place file ∙ asks m places asked.image option (suc place) free;
+  timeline = λ m places place file free. timeline-once m places place file ∙ asks m places asked.timeline option (suc place) free;
+  tallies = λ m places place free. tallies-once m places place ∙ asks m places asked.tallies option place free;
+  explain = λ m places place free. explain-once m places place ∙ asks m places asked.explain option place free;
+  show-end = end-read;
+  show-each = each-read;
+  lesson = λ m places place name f free. lesson-once m places place name f ∙ asks m places asked.lesson option place free;
+  named = λ m places place name free. named-once m places place name ∙ asks m places asked.lesson option (suc place) free;
+}
 
 -- ---- not understood
 
-moment-stops : (m : Moment) (lesson image tallies place : ℕ) (when : List ℕ) → momentOf when ≡ Unread
-    → wordsBehind (between m lesson image tallies) place (quoted "--save-at" ∷ when ∷ []) ≡ stopped (between m lesson image tallies) (suc place)
-unfolding wordsAfter optionRead sameBytes pick
-moment-stops m lesson image tallies place when e = rw e
-
-restore-stops : (m : Moment) (lesson image tallies place : ℕ) (file : List ℕ)
-    → wordsBehind (between m lesson (suc image) tallies) place (quoted "--restore" ∷ file ∷ []) ≡ stopped (between m lesson (suc image) tallies) (suc place)
-unfolding wordsAfter optionRead withImage sameBytes pick
-restore-stops m lesson image tallies place file = pick-false _ _ _ (ne-eqb (suc image) 0 (λ e. omega arith))
-
-tallies-stops : (m : Moment) (lesson image tallies place : ℕ)
-    → wordsBehind (between m lesson image (suc tallies)) place (quoted "--tallies" ∷ []) ≡ stopped (between m lesson image (suc tallies)) place
-unfolding wordsAfter optionRead withTallies sameBytes pick
-tallies-stops m lesson image tallies place = pick-false _ _ _ (ne-eqb (suc tallies) 0 (λ e. omega arith))
-
-lesson-stops : (m : Moment) (lesson image tallies place : ℕ) (name : List ℕ) → dashed name ≡ false
-    → wordsBehind (between m (suc lesson) image tallies) place (name ∷ []) ≡ stopped (between m (suc lesson) image tallies) place
-unfolding wordsAfter withLesson pick
-lesson-stops m lesson image tallies place name f =
-    name-read (between m (suc lesson) image tallies) place name f ∙ pick-false _ _ _ (ne-eqb (suc lesson) 0 (λ e. omega arith))
-
-named-stops : (m : Moment) (lesson image tallies place : ℕ) (name : List ℕ)
-    → wordsBehind (between m (suc lesson) image tallies) place (quoted "--" ∷ name ∷ []) ≡ stopped (between m (suc lesson) image tallies) (suc place)
-unfolding wordsAfter optionRead withLesson sameBytes pick
-named-stops m lesson image tallies place name = pick-false _ _ _ (ne-eqb (suc lesson) 0 (λ e. omega arith))
-
-option-stops : (m : Moment) (lesson image tallies place : ℕ) (word : List ℕ) → dashed word ≡ true
-    → (word ≡ quoted "--save-at" → ⊥) → (word ≡ quoted "--restore" → ⊥) → (word ≡ quoted "--tallies" → ⊥) → (word ≡ quoted "--" → ⊥)
-    → wordsAfter (between m lesson image tallies) place word ≡ stopped (between m lesson image tallies) place
-unfolding wordsAfter pick
-option-stops m lesson image tallies place word t save restore counted dashes =
-    no-option (between m lesson image tallies) place word save restore counted dashes ∙ pick-true _ _ _ t
+when-stops : (m : Moment) (places : List ℕ) (place : ℕ) (word : List ℕ) → Free places asked.show
+    → (word ≡ quoted "each" → ⊥) → (word ≡ quoted "end" → ⊥)
+    → Reads m places place (quoted "--show" ∷ word ∷ []) (stopped (between m (set places asked.show place)) (suc place))
+unfolding withWhen
+when-stops m places place word free each end =
+    show-read m places place free word ∙ pick-false _ _ _ (other (quoted "each") word each) ∙ pick-false _ _ _ (other (quoted "end") word end)
 
 -- one that awaits nothing
-abbrev over : Moment → ℕ → ℕ → ℕ → ℕ → Words
-over m lesson image tallies wrong = record { awaited = nothing; moment = m; lesson = lesson; image = image; tallies = tallies; wrong = wrong }
+abbrev over : Moment → List ℕ → ℕ → Words
+over m places wrong = record { awaited = nothing; moment = m; asked = places; wrong = wrong }
 
-over-stays : (m : Moment) (lesson image tallies wrong place : ℕ) (words : List (List ℕ))
-    → wordsBehind (over m lesson image tallies wrong) place words ≡ over m lesson image tallies wrong
+over-stays : (m : Moment) (places : List ℕ) (wrong place : ℕ) (words : List (List ℕ)) → wordsBehind (over m places wrong) place words ≡ over m places wrong
 unfolding wordsAfter pick
-over-stays m lesson image tallies wrong place [] = refl
-over-stays m lesson image tallies wrong place (word ∷ words) = over-stays m lesson image tallies wrong (suc place) words
+over-stays m places wrong place [] = refl
+over-stays m places wrong place (word ∷ words) = over-stays m places wrong (suc place) words
 
 stays : (s : Words) (place : ℕ) (words : List (List ℕ)) → s .awaited ≡ nothing → wordsBehind s place words ≡ s
 stays s place words e =
-    let same : s ≡ over (s .moment) (s .lesson) (s .image) (s .tallies) (s .wrong) =
-    λ i. record { awaited = e i; moment = s .moment; lesson = s .lesson; image = s .image; tallies = s .tallies; wrong = s .wrong } in
-    ap (λ (t : Words). wordsBehind t place words) same ∙ over-stays (s .moment) (s .lesson) (s .image) (s .tallies) (s .wrong) place words ∙ sym same
+    let same : s ≡ over (s .moment) (s .asked) (s .wrong) = λ i. record { awaited = e i; moment = s .moment; asked = s .asked; wrong = s .wrong } in
+    ap (λ (t : Words). wordsBehind t place words) same ∙ over-stays (s .moment) (s .asked) (s .wrong) place words ∙ sym same
 
 pub not-understood : NotUnderstood
 not-understood = record {
-  moment = moment-stops;
-  restore = restore-stops;
-  tallies = tallies-stops;
-  lesson = lesson-stops;
-  named = named-stops;
-  option = option-stops;
+  moment = λ m places place. moment-stops m places place;
+  when = when-stops;
+  restore = λ m places place file taken. restore-once m places place file ∙ asks-twice m places asked.image option (suc place) taken;
+  timeline = λ m places place file taken. timeline-once m places place file ∙ asks-twice m places asked.timeline option (suc place) taken;
+  tallies = λ m places place taken. tallies-once m places place ∙ asks-twice m places asked.tallies option place taken;
+  explain = λ m places place taken. explain-once m places place ∙ asks-twice m places asked.explain option place taken;
+  show = λ m places place taken. show-once m places place ∙ asks-twice m places asked.show when place taken;
+  lesson = λ m places place name f taken. lesson-once m places place name f ∙ asks-twice m places asked.lesson option place taken;
+  named = λ m places place name taken. named-once m places place name ∙ asks-twice m places asked.lesson option (suc place) taken;
+  option = λ m places place. option-stops m places place;
   stays = stays;
 }
 
@@ -191,35 +211,95 @@ save-followed place (when ∷ []) h = absurd (omega arith)
 save-followed place (when ∷ file ∷ []) h = save-ended (suc place) (momentOf when) file
 save-followed place (when ∷ file ∷ other ∷ words) h = absurd (omega arith)
 
-restore-fewer : (place : ℕ) (words : List (List ℕ)) → length words < 1 → whole (wordsBehind noWords place (quoted "--restore" ∷ words)) ≡ false
+-- where no word follows, one is not missing
+none-fewer : (text : List ℕ) (place : ℕ) (words : List (List ℕ)) → length words < 0 → whole (wordsBehind noWords place (text ∷ words)) ≡ false
+none-fewer text place words h = absurd (omega arith)
+
+-- one word follows: without it one is missing, and behind it the next option may stand
+one-fewer : (text : List ℕ) → ((place : ℕ) → whole (wordsAfter noWords place text) ≡ false)
+    → (place : ℕ) (words : List (List ℕ)) → length words < 1 → whole (wordsBehind noWords place (text ∷ words)) ≡ false
+one-fewer text missing place [] h = missing place
+one-fewer text missing place (word ∷ words) h = absurd (omega arith)
+
+one-followed : (text : List ℕ) → ((place : ℕ) (word : List ℕ) → Ended (wordsAfter (wordsAfter noWords place text) (suc place) word))
+    → (place : ℕ) (words : List (List ℕ)) → length words ≡ 1 → Ended (wordsBehind noWords place (text ∷ words))
+one-followed text ended place [] h = absurd (omega arith)
+one-followed text ended place (word ∷ []) h = ended place word
+one-followed text ended place (word ∷ other ∷ words) h = absurd (omega arith)
+
+none-followed : (text : List ℕ) → ((place : ℕ) → Ended (wordsAfter noWords place text))
+    → (place : ℕ) (words : List (List ℕ)) → length words ≡ 0 → Ended (wordsBehind noWords place (text ∷ words))
+none-followed text ended place [] h = ended place
+none-followed text ended place (other ∷ words) h = absurd (omega arith)
+
+restore-missing : (place : ℕ) → whole (wordsAfter noWords place (quoted "--restore")) ≡ false
 unfolding wordsAfter optionRead sameBytes pick whole
-restore-fewer place [] h = refl
-restore-fewer place (file ∷ words) h = absurd (omega arith)
+restore-missing place = refl
 
-restore-followed : (place : ℕ) (words : List (List ℕ)) → length words ≡ 1 → Ended (wordsBehind noWords place (quoted "--restore" ∷ words))
-unfolding wordsAfter optionRead withImage sameBytes pick
-restore-followed place [] h = absurd (omega arith)
-restore-followed place (file ∷ []) h = inl refl
-restore-followed place (file ∷ other ∷ words) h = absurd (omega arith)
+restore-ended : (place : ℕ) (file : List ℕ) → Ended (wordsAfter (wordsAfter noWords place (quoted "--restore")) (suc place) file)
+unfolding wordsAfter optionRead once placeOf sameBytes pick
+restore-ended place file = inl refl
 
-tallies-fewer : (place : ℕ) (words : List (List ℕ)) → length words < 0 → whole (wordsBehind noWords place (quoted "--tallies" ∷ words)) ≡ false
-tallies-fewer place words h = absurd (omega arith)
-
-tallies-followed : (place : ℕ) (words : List (List ℕ)) → length words ≡ 0 → Ended (wordsBehind noWords place (quoted "--tallies" ∷ words))
-unfolding wordsAfter optionRead withTallies sameBytes pick
-tallies-followed place [] h = inl refl
-tallies-followed place (other ∷ words) h = absurd (omega arith)
-
-dashes-fewer : (place : ℕ) (words : List (List ℕ)) → length words < 1 → whole (wordsBehind noWords place (quoted "--" ∷ words)) ≡ false
+timeline-missing : (place : ℕ) → whole (wordsAfter noWords place (quoted "--vcd")) ≡ false
 unfolding wordsAfter optionRead sameBytes pick whole
-dashes-fewer place [] h = refl
-dashes-fewer place (name ∷ words) h = absurd (omega arith)
+timeline-missing place = refl
 
-dashes-followed : (place : ℕ) (words : List (List ℕ)) → length words ≡ 1 → Ended (wordsBehind noWords place (quoted "--" ∷ words))
-unfolding wordsAfter optionRead withLesson sameBytes pick
-dashes-followed place [] h = absurd (omega arith)
-dashes-followed place (name ∷ []) h = inl refl
-dashes-followed place (name ∷ other ∷ words) h = absurd (omega arith)
+timeline-ended : (place : ℕ) (file : List ℕ) → Ended (wordsAfter (wordsAfter noWords place (quoted "--vcd")) (suc place) file)
+unfolding wordsAfter optionRead once placeOf sameBytes pick
+timeline-ended place file = inl refl
+
+dashes-missing : (place : ℕ) → whole (wordsAfter noWords place (quoted "--")) ≡ false
+unfolding wordsAfter optionRead sameBytes pick whole
+dashes-missing place = refl
+
+dashes-ended : (place : ℕ) (name : List ℕ) → Ended (wordsAfter (wordsAfter noWords place (quoted "--")) (suc place) name)
+unfolding wordsAfter optionRead once placeOf sameBytes pick
+dashes-ended place name = inl refl
+
+tallies-ended : (place : ℕ) → Ended (wordsAfter noWords place (quoted "--tallies"))
+unfolding wordsAfter optionRead once placeOf sameBytes pick
+tallies-ended place = inl refl
+
+explain-ended : (place : ℕ) → Ended (wordsAfter noWords place (quoted "--explain"))
+unfolding wordsAfter optionRead once placeOf sameBytes pick
+explain-ended place = inl refl
+
+show-missing : (place : ℕ) → whole (wordsAfter noWords place (quoted "--show")) ≡ false
+unfolding wordsAfter optionRead once placeOf sameBytes pick whole
+show-missing place = refl
+
+-- the state is asked for, and its moment is next
+abbrev showRead : ℕ → Words
+showRead place = record { awaited = when; moment = Unread; asked = set (noWords .asked) asked.show place; wrong = 0 }
+
+when-ended : (place : ℕ) (word : List ℕ) → Ended (withWhen (showRead place) (suc place) word)
+unfolding withWhen once placeOf
+when-ended place word =
+    pick-either Ended (sameBytes word (quoted "each")) _ _
+    (pick-either Ended (eqb (getD (showRead place .asked) asked.each 0) 0) _ _ (inl refl) (inr refl))
+    (pick-either Ended (sameBytes word (quoted "end")) _ _ (inl refl) (inr refl))
+
+show-ended : (place : ℕ) (word : List ℕ) → Ended (wordsAfter (wordsAfter noWords place (quoted "--show")) (suc place) word)
+unfolding wordsAfter optionRead once placeOf sameBytes pick
+show-ended place word = when-ended place word
 
 pub table-followed : TableFollowed
-table-followed = ((save-fewer, save-followed), ((restore-fewer, restore-followed), ((tallies-fewer, tallies-followed), ((dashes-fewer, dashes-followed), tt))))
+table-followed = (
+  (save-fewer, save-followed),
+  (
+    (one-fewer (quoted "--restore") restore-missing, one-followed (quoted "--restore") restore-ended),
+    (
+      (none-fewer (quoted "--tallies"), none-followed (quoted "--tallies") tallies-ended),
+      (
+        (none-fewer (quoted "--explain"), none-followed (quoted "--explain") explain-ended),
+        (
+          (one-fewer (quoted "--show") show-missing, one-followed (quoted "--show") show-ended),
+          (
+            (one-fewer (quoted "--vcd") timeline-missing, one-followed (quoted "--vcd") timeline-ended),
+            ((one-fewer (quoted "--") dashes-missing, one-followed (quoted "--") dashes-ended), tt),
+          ),
+        ),
+      ),
+    ),
+  ),
+)

@@ -1,4 +1,5 @@
 pub mod Moments
+pub mod Asked
 pub mod Words
 pub mod Saves
 pub mod SameLaws

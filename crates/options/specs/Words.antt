@@ -1,18 +1,20 @@
 -- The program's words, one after the other, by the words of the program:
 --  1. `--save-at N FILE` asks for an image in FILE behind record N of the listing, or at `start`, or at `end`. It may be given more than once.
---  2. `--restore FILE` says that the bench starts from the image in FILE. It is given at most once.
---  3. `--tallies` asks for the tallies of all seats at the end. It is given at most once, and no word belongs to it.
---  4. A word that does not begin with `-` is the lesson's name; behind `--` it may begin so. There is at most one.
---  5. They stand in any order. Behind a word that is not understood nothing is read any more.
+--  2. `--restore FILE` says that the bench starts from the image in FILE.
+--  3. `--tallies` asks for the tallies of all seats at the end, `--explain` for each record in words. No word belongs to them.
+--  4. `--show each` asks for the state behind every record, `--show end` behind the last; `--vcd FILE` for the timeline in FILE.
+--  5. A word that does not begin with `-` is the lesson's name; behind `--` it may begin so.
+--  6. Each of those of 2 to 5 is given at most once. All stand in any order. Behind a word that is not understood nothing is read any more.
 use Prim.Native.Nat.{ℕ, suc}
 use Prim.Native.Char.{code}
 use Prim.Native.String.{String}
 use mathlib.Core.Bool.{Bool, false}
 use mathlib.Core.List.{List, [], _∷_}
 use lib.Dec.{eqb}
-use lib.ListN.{length, getD}
+use lib.ListN.{length, getD, set, replicate}
 use Rattle.base.specs.Pick.{pick}
 use Rattle.options.specs.Moments.{is, momentOf}
+use Rattle.options.specs.Asked as asked
 use Rattle.options.specs.declared.Moment.{Moment}
 use Rattle.options.specs.declared.Moment.the-variants.{Behind, End, Unread}
 use Rattle.options.specs.declared.Words.{Words}
@@ -42,42 +44,48 @@ lesson = 4
 abbrev pub nothing : ℕ
 nothing = 5
 
+-- when the state is shown
+abbrev pub when : ℕ
+when = 6
+
+-- the file for the timeline
+abbrev pub timeline : ℕ
+timeline = 7
+
 -- ---- what is read of a word
 
 -- before the first
 abbrev pub noWords : Words
-noWords = record { awaited = option; moment = Unread; lesson = 0; image = 0; tallies = 0; wrong = 0 }
+noWords = record { awaited = option; moment = Unread; asked = replicate asked.all 0; wrong = 0 }
 
 abbrev pub awaiting : Words → ℕ → Words
-awaiting s next = record { awaited = next; moment = s .moment; lesson = s .lesson; image = s .image; tallies = s .tallies; wrong = s .wrong }
+awaiting s next = record { awaited = next; moment = s .moment; asked = s .asked; wrong = s .wrong }
 
 -- the word at this place is not understood
 abbrev pub stopped : Words → ℕ → Words
-stopped s place = record { awaited = nothing; moment = s .moment; lesson = s .lesson; image = s .image; tallies = s .tallies; wrong = place }
+stopped s place = record { awaited = nothing; moment = s .moment; asked = s .asked; wrong = place }
 
--- the lesson's name, unless there is one
-unfoldable pub withLesson : Words → ℕ → Words
-withLesson s place =
-    pick (eqb (s .lesson) 0) (record { awaited = option; moment = s .moment; lesson = place; image = s .image; tallies = s .tallies; wrong = s .wrong }) (stopped s place)
+-- where a thing is asked for; 0 for nowhere
+unfoldable pub placeOf : Words → ℕ → ℕ
+placeOf s what = getD (s .asked) what 0
 
--- the name of the image, unless there is one
-unfoldable pub withImage : Words → ℕ → Words
-withImage s place =
-    pick (eqb (s .image) 0) (record { awaited = option; moment = s .moment; lesson = s .lesson; image = place; tallies = s .tallies; wrong = s .wrong }) (stopped s place)
-
--- the tallies, unless they are asked for already
-unfoldable pub withTallies : Words → ℕ → Words
-withTallies s place =
-    pick (eqb (s .tallies) 0) (record { awaited = option; moment = s .moment; lesson = s .lesson; image = s .image; tallies = place; wrong = s .wrong }) (stopped s place)
+-- it is asked for at this place, unless it is already; and what the next word is
+unfoldable pub once : ℕ → ℕ → Words → ℕ → Words
+once what next s place =
+    pick (eqb (placeOf s what) 0) (record { awaited = next; moment = s .moment; asked = set (s .asked) what place; wrong = s .wrong }) (stopped s place)
 
 -- when to save; its file is next
 abbrev pub saving : Words → Moment → Words
-saving s m = record { awaited = file; moment = m; lesson = s .lesson; image = s .image; tallies = s .tallies; wrong = s .wrong }
+saving s m = record { awaited = file; moment = m; asked = s .asked; wrong = s .wrong }
 
 abbrev pub withMoment : Words → ℕ → Moment → Words
 withMoment s place (Behind count) = saving s (Behind count)
 withMoment s place End = saving s End
 withMoment s place Unread = stopped s place
+
+-- behind which records the state is shown: `each`, or the last
+unfoldable pub withWhen : Words → ℕ → List ℕ → Words
+withWhen s place word = pick (is "each" word) (once asked.each option s place) (pick (is "end" word) (awaiting s option) (stopped s place))
 
 -- ---- the options
 
@@ -94,20 +102,28 @@ row word read follow = record { word = word; read = read; follow = follow }
 abbrev pub next : ℕ → Words → ℕ → Words
 next awaited s place = awaiting s awaited
 
+-- what a lesson is told by
+abbrev pub further : List Row
+further =
+    row "--show" (once asked.show when) 1
+    ∷ row "--vcd" (next timeline) 1
+    ∷ row "--" (next lesson) 1
+    ∷ []
+
 abbrev pub table : List Row
 table =
     row "--save-at" (next moment) 2
     ∷ row "--restore" (next image) 1
-    ∷ row "--tallies" withTallies 0
-    ∷ row "--" (next lesson) 1
-    ∷ []
+    ∷ row "--tallies" (once asked.tallies option) 0
+    ∷ row "--explain" (once asked.explain option) 0
+    ∷ further
 
 unfoldable pub dashed : List ℕ → Bool
 dashed word = pick (eqb (length word) 0) false (eqb (getD word 0 0) (code "-"))
 
 -- an option of these rows, or else a lesson's name
 abbrev pub readBy : List Row → Words → ℕ → List ℕ → Words
-readBy [] s place word = pick (dashed word) (stopped s place) (withLesson s place)
+readBy [] s place word = pick (dashed word) (stopped s place) (once asked.lesson option s place)
 readBy (r ∷ rows) s place word = pick (is (r .word) word) (r .read s place) (readBy rows s place word)
 
 unfoldable pub optionRead : Words → ℕ → List ℕ → Words
@@ -120,8 +136,10 @@ wordsAfter s place word =
     pick (eqb (s .awaited) option) (optionRead s place word)
     (pick (eqb (s .awaited) moment) (withMoment s place (momentOf word))
     (pick (eqb (s .awaited) file) (awaiting s option)
-    (pick (eqb (s .awaited) image) (withImage s place)
-    (pick (eqb (s .awaited) lesson) (withLesson s place) s))))
+    (pick (eqb (s .awaited) image) (once asked.image option s place)
+    (pick (eqb (s .awaited) lesson) (once asked.lesson option s place)
+    (pick (eqb (s .awaited) when) (withWhen s place word)
+    (pick (eqb (s .awaited) timeline) (once asked.timeline option s place) s))))))
 
 -- behind some words, of which the first stands at this place
 abbrev pub wordsBehind : Words → ℕ → List (List ℕ) → Words

@@ -23,14 +23,30 @@ pub enum Due {
     Missed,
 }
 
-// The words as far as they are read: what the next one is, and the moment of the save that was read last. Lesson and image are the places of their
-// names among the words, tallies the place of the word that asks for them, 0 for none; `wrong` is the place of a word that is not understood.
+// What may be asked for once; of each the place of its word is kept.
+pub const LESSON: usize = 0;
+
+pub const IMAGE: usize = 1;
+
+pub const TALLIES: usize = 2;
+
+pub const EXPLAIN: usize = 3;
+
+pub const SHOW: usize = 4;
+
+// The state behind every record, and not behind the last alone.
+pub const EACH: usize = 5;
+
+pub const TIMELINE: usize = 6;
+
+pub(crate) const ASKED: usize = 7;
+
+// The words as far as they are read: what the next one is, and the moment of the save that was read last; where each thing is asked for that may be
+// once, 0 for nowhere; `wrong` is the place of a word that is not understood.
 pub struct Words {
     pub(crate) awaited: u8,
     pub(crate) moment: Moment,
-    pub lesson: usize,
-    pub image: usize,
-    pub tallies: usize,
+    pub(crate) asked: [usize; ASKED],
     pub wrong: usize,
 }
 
@@ -49,4 +65,10 @@ impl Words {
 
     // A word is not understood, and nothing is read any more.
     pub(crate) const NOTHING: u8 = 5;
+
+    // Behind which records the state is shown.
+    pub(crate) const WHEN: u8 = 6;
+
+    // The file for the timeline.
+    pub(crate) const TIMELINE: u8 = 7;
 }

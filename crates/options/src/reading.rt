@@ -1,10 +1,19 @@
 // The words, one after the other.
+use crate::ASKED;
+use crate::EACH;
+use crate::EXPLAIN;
+use crate::IMAGE;
+use crate::LESSON;
 use crate::Moment;
+use crate::SHOW;
+use crate::TALLIES;
+use crate::TIMELINE;
 use crate::Words;
 use crate::moments;
 use crate::moments::is_word;
 ghost use mathlib.Core.Path.{_≡_};
-ghost use Rattle.options.specs.Words.{noWords, awaiting, stopped, withLesson, withImage, withTallies, saving, withMoment, dashed, optionRead, wordsAfter, whole};
+ghost use Prim.Native.Nat.{_<_};
+ghost use Rattle.options.specs.Words.{noWords, awaiting, stopped, once, placeOf, saving, withMoment, withWhen, dashed, readBy, further, optionRead, wordsAfter, whole};
 
 fn is_dashed(word: &[u8]) -> bool
     ensures { λ r. ⌜ r ≡ dashed (now (word .entry)) ⌝ }
@@ -22,9 +31,7 @@ impl Words {
         Words {
             awaited: Words::OPTION,
             moment: Moment::Unread,
-            lesson: 0,
-            image: 0,
-            tallies: 0,
+            asked: [0usize; ASKED],
             wrong: 0,
         }
     }
@@ -44,34 +51,14 @@ impl Words {
         self
     }
 
-    fn with_lesson(mut self, place: usize) -> Words
-        ensures { λ r. ⌜ r ≡ withLesson self place ⌝ }
+    // Asked for at this place, unless it is already.
+    fn once(mut self, what: usize, next: u8, place: usize) -> Words
+        requires { ⌜ what < 7 ⌝ }
+        ensures { λ r. ⌜ r ≡ once what next self place ⌝ }
     {
-        if self.lesson == 0 {
-            self.awaited = Words::OPTION;
-            self.lesson = place;
-            return self;
-        }
-        self.stopped(place)
-    }
-
-    fn with_image(mut self, place: usize) -> Words
-        ensures { λ r. ⌜ r ≡ withImage self place ⌝ }
-    {
-        if self.image == 0 {
-            self.awaited = Words::OPTION;
-            self.image = place;
-            return self;
-        }
-        self.stopped(place)
-    }
-
-    fn with_tallies(mut self, place: usize) -> Words
-        ensures { λ r. ⌜ r ≡ withTallies self place ⌝ }
-    {
-        if self.tallies == 0 {
-            self.awaited = Words::OPTION;
-            self.tallies = place;
+        if self.asked[what] == 0 {
+            self.awaited = next;
+            self.asked[what] = place;
             return self;
         }
         self.stopped(place)
@@ -80,12 +67,11 @@ impl Words {
     fn saving(self, moment: Moment) -> Words
         ensures { λ r. ⌜ r ≡ saving self moment ⌝ }
     {
+        let asked = self.asked;
         Words {
             awaited: Words::FILE,
             moment,
-            lesson: self.lesson,
-            image: self.image,
-            tallies: self.tallies,
+            asked,
             wrong: self.wrong,
         }
     }
@@ -100,6 +86,18 @@ impl Words {
         }
     }
 
+    fn with_when(self, place: usize, word: &[u8]) -> Words
+        ensures { λ r. ⌜ r ≡ withWhen self place (now (word .entry)) ⌝ }
+    {
+        if is_word(word, b"each") {
+            return self.once(EACH, Words::OPTION, place);
+        }
+        if is_word(word, b"end") {
+            return self.awaiting(Words::OPTION);
+        }
+        self.stopped(place)
+    }
+
     fn with_option(self, place: usize, word: &[u8]) -> Words
         ensures { λ r. ⌜ r ≡ optionRead self place (now (word .entry)) ⌝ }
     {
@@ -110,7 +108,22 @@ impl Words {
             return self.awaiting(Words::IMAGE);
         }
         if is_word(word, b"--tallies") {
-            return self.with_tallies(place);
+            return self.once(TALLIES, Words::OPTION, place);
+        }
+        if is_word(word, b"--explain") {
+            return self.once(EXPLAIN, Words::OPTION, place);
+        }
+        self.with_further(place, word)
+    }
+
+    fn with_further(self, place: usize, word: &[u8]) -> Words
+        ensures { λ r. ⌜ r ≡ readBy further self place (now (word .entry)) ⌝ }
+    {
+        if is_word(word, b"--show") {
+            return self.once(SHOW, Words::WHEN, place);
+        }
+        if is_word(word, b"--vcd") {
+            return self.awaiting(Words::TIMELINE);
         }
         if is_word(word, b"--") {
             return self.awaiting(Words::LESSON);
@@ -118,7 +131,7 @@ impl Words {
         if is_dashed(word) {
             return self.stopped(place);
         }
-        self.with_lesson(place)
+        self.once(LESSON, Words::OPTION, place)
     }
 
     // Behind one more word, which stands at this place.
@@ -130,10 +143,22 @@ impl Words {
             Words::OPTION => self.with_option(place, word),
             Words::MOMENT => self.with_moment(place, moments::read(word)),
             Words::FILE => self.awaiting(Words::OPTION),
-            Words::IMAGE => self.with_image(place),
-            Words::LESSON => self.with_lesson(place),
+            Words::IMAGE => self.once(IMAGE, Words::OPTION, place),
+            Words::LESSON => self.once(LESSON, Words::OPTION, place),
+            Words::WHEN => self.with_when(place, word),
+            Words::TIMELINE => self.once(TIMELINE, Words::OPTION, place),
             _ => self,
         }
+    }
+
+    // Where a thing is asked for that may be once; 0 for nowhere.
+    pub fn place_of(self, what: usize) -> usize
+        ensures { λ r. ⌜ r ≡ placeOf self what ⌝ }
+    {
+        if what < ASKED {
+            return self.asked[what];
+        }
+        0
     }
 
     // Whether every word is understood and none is missing.

@@ -4,7 +4,7 @@ use mathlib.Core.Bool.{false}
 use Rattle.base.specs.declared.Answer.{Answer}
 use Rattle.rates.specs.Rates.{divisorOf}
 use Rattle.embed.specs.NumberLaws.{clock-past}
-use Rattle.embed.specs.Word.{Tells}
+use Rattle.c_word.specs.Word.{Tells}
 use Rattle.embed.proofs.hailstoat_divisor.Statement.{statement}
 use Rattle.embed.proofs.hailstoat_divisor.Tie as tie
 

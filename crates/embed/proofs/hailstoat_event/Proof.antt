@@ -43,7 +43,7 @@ use Rattle.bench.specs.PartLaws.{parted-outcome, reset-outcome}
 use Rattle.bench.specs.declared.Bench.{Bench}
 use Rattle.bench.specs.declared.Outcome.{Outcome}
 use Rattle.bench.proofs.Bench as B
-use Rattle.embed.specs.Word.{Told}
+use Rattle.c_bench.specs.Told.{Told}
 use Rattle.embed.proofs.reset_event as reset
 use Rattle.embed.proofs.reset_event.Symbol as reset-def
 use Rattle.embed.proofs.reset_event.Symbol.{name as #embed·reset-event}

@@ -45,7 +45,7 @@ use Rattle.bench.specs.Seats.{chair, seat}
 use Rattle.bench.proofs.Bench as B
 use Rattle.embed.specs.Bytes.{seatBytes}
 use Rattle.embed.specs.Outputs.{outputsAt}
-use Rattle.embed.specs.Word.{Tells}
+use Rattle.c_word.specs.Word.{Tells}
 use Rattle.embed.proofs.InPlace.{seat-val, seats-lie}
 use Rattle.embed.proofs.Looking.{KnownSeat, looks-at-seat, looks-away-seat}
 use Rattle.embed.proofs.Storing.{wide, chair-fits, offset-fits, cast-ok, rem-ok, mul-ok}

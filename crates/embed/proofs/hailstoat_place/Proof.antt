@@ -40,7 +40,7 @@ use Rattle.controller.proofs.Controller as K
 use Rattle.controller.proofs.Controller.Laws as K′
 use Rattle.bench.specs.declared.Bench.{Bench}
 use Rattle.bench.proofs.Bench as B
-use Rattle.embed.specs.Word.{Tells}
+use Rattle.c_word.specs.Word.{Tells}
 use Rattle.embed.proofs.InPlace.{rest-val, controller-lies}
 use Rattle.embed.proofs.Looking.{Known, looks-at, looks-away}
 use Rattle.embed.proofs.place_word as asked

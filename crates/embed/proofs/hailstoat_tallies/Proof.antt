@@ -52,7 +52,7 @@ use Rattle.bench.proofs.Bench as B
 use Rattle.bench.proofs.Bench.Laws as B′
 use Rattle.embed.specs.Bytes.{seatBytes}
 use Rattle.embed.specs.Tallies.{Counts}
-use Rattle.embed.specs.Word.{Tells}
+use Rattle.c_word.specs.Word.{Tells}
 use Rattle.embed.specs.declared.Counted.{Counted}
 use Rattle.embed.proofs.Handing.{found, finds, stores, leaves}
 use Rattle.embed.proofs.InPlace.{seat-place, seat-val, seats-lie}

@@ -3,7 +3,7 @@ use mathlib.Core.Path.{ap, subst, sym, _∙_}
 use Rattle.base.specs.declared.Answer.{Answer}
 use Rattle.base.specs.declared.Answer.the-variants.{Byte}
 use Rattle.embed.specs.OutputsLaws.{outputs-told, outputs-refused}
-use Rattle.embed.specs.Word.{Tells}
+use Rattle.c_word.specs.Word.{Tells}
 use borrow.Author.Needs.{needs}
 use Rattle.embed.proofs.outputs_word.Statement.{statement}
 use Rattle.embed.proofs.outputs_word.Tie as tie

@@ -4,7 +4,7 @@ use mathlib.Core.Bool.{false}
 use Rattle.base.specs.declared.Answer.{Answer}
 use Rattle.controller.specs.Steps.{placed}
 use Rattle.embed.specs.NumberLaws.{line-past}
-use Rattle.embed.specs.Word.{Tells}
+use Rattle.c_word.specs.Word.{Tells}
 use Rattle.embed.proofs.place_word.Statement.{statement}
 use Rattle.embed.proofs.place_word.Tie as tie
 

@@ -1,5 +1,5 @@
--- `reset_event`, walked by hand. The loan is opened and the bench copied out; what `play_reset` returns is stored in its place, and the loan is
--- closed there. Of `play_reset` only its contract is used, so a change behind that contract leaves this walk alone.
+-- `reset_event`, walked by hand. The loan is opened and the bench copied out; what `c_bench::reset` returns is stored in its place, and the loan is
+-- closed there. Of `c_bench::reset` only its contract is used, so a change behind that contract leaves this walk alone.
 use mathlib.Core.Path.{_≡_, refl, ap}
 use Prim.Native.Nat.{ℕ, _<_, _^_}
 use mathlib.Core.List.{[], _∷_, List}
@@ -42,15 +42,15 @@ use Rattle.bench.specs.Steps.{met}
 use Rattle.bench.specs.declared.Bench.{Bench}
 use Rattle.bench.proofs.Bench as B
 use Rattle.bench.proofs.Bench.Laws as B′
-use Rattle.embed.specs.Word.{Told}
-use Rattle.embed.specs.declared.Played.{Played}
+use Rattle.c_bench.specs.Told.{Told}
+use Rattle.c_bench.specs.declared.Played.{Played}
 use Rattle.embed.proofs.Leaving.{stores, leaves}
-use Rattle.embed.proofs.Played as P
-use Rattle.embed.proofs.Played.Laws as P′
-use Rattle.embed.proofs.play_reset as play
-use Rattle.embed.proofs.play_reset.Symbol as play-def
-use Rattle.embed.proofs.play_reset.Symbol.{name as #embed·play-reset}
-use Rattle.embed.proofs.play_reset.Met as play-thm
+use Rattle.c_bench.proofs.Played as P
+use Rattle.c_bench.proofs.Played.Laws as P′
+use Rattle.c_bench.proofs.reset as play
+use Rattle.c_bench.proofs.reset.Symbol as play-def
+use Rattle.c_bench.proofs.reset.Symbol.{name as #c-bench·reset}
+use Rattle.c_bench.proofs.reset.Met as play-thm
 use Rattle.embed.proofs.Places.{envAt, typeAt, past}
 use Rattle.embed.proofs.reset_event.Key.{name as #embed·reset-event}
 use Rattle.embed.proofs.reset_event as f
@@ -68,7 +68,7 @@ stayed = (stay-ref (0 ∷ []) tt (plain (λ _. B.the-row)), tt)
 abbrev bench : Bench → Val
 bench h = LL.val B.the-type B′.the-laws h
 
--- what is known of the fields of what `play_reset` returns
+-- what is known of the fields of what `c_bench::reset` returns
 is-bench : (r : Played) (v : Val) → Is P.the-row r (v ∷ []) → Is B.the-row (r .bench) (bench (r .bench) ∷ [])
 is-bench r v is = LL.owed P.the-type P′.the-laws r (v ∷ []) is .0
 
@@ -101,7 +101,7 @@ module _ {M : Type 1} (𝓤 : URA M) (H : Heap 𝓤) (A : Atoms 𝓤) (W : Given
       frame ! $ feqI ! (List Val) (vptr b o ∷ []) (vptr b o ∷ []) refl $ fjoin3 ! $ nothing ! $ move ! (1 ∷ 0 ∷ []) $ fjoin ! $
       owned ! u64 (Is u64) (uint-makes 𝓤 H A W w64) (r .word) _ (refl, is-word r w is) $ move ! (1 ∷ 0 ∷ []) $ done !
 
-  -- what the triple of `play_reset` binds outside
+  -- what the triple of `c_bench::reset` binds outside
   abbrev args : Bench × Unit {0}
   args = (h, tt)
 
@@ -115,8 +115,8 @@ module _ {M : Type 1} (𝓤 : URA M) (H : Heap 𝓤) (A : Atoms 𝓤) (W : Given
   goes-play =
       qed W (‵ (B.the-row .own h (bench h ∷ [])) ∷ []) ∵ nothing ! $ move ! (1 ∷ 0 ∷ []) $ fjoin ! $ nothing ! $ join ! $ frame ! $ done !
 
-  module _ (Cs : Calls 𝓤 H) (Λ : Loops 𝓤 H) (fm : FmC 𝓤 H (W .laws) Cs) (known : Triple 𝓤 (Cs #embed·play-reset) (Play 𝓤 H A at-mem run)) where
-    -- what `play_reset` returned is put in its local; its bench is stored where the old one was, the loan is closed there, and the word returned
+  module _ (Cs : Calls 𝓤 H) (Λ : Loops 𝓤 H) (fm : FmC 𝓤 H (W .laws) Cs) (known : Triple 𝓤 (Cs #c-bench·reset) (Play 𝓤 H A at-mem run)) where
+    -- what `c_bench::reset` returned is put in its local; its bench is stored where the old one was, the loan is closed there, and the word returned
     ends : (l₀ l₁ l₂ l₃ : ℕ) (w : Val) (r : Played) → Is P.the-row r (w ∷ []) → Ensured r
         → Seq Go W
         (‵ (fat fullShare (rawTy B′.mir) b o (bench h)) ∷ ‵ (fobor κ q (Body (mem B.the-row) b o γ)) ∷ ‵ (fobs γ (B.the-row .coded .code h)) ∷ ‵ (fauth γ (B.the-row .coded .code h))
@@ -153,7 +153,7 @@ module _ {M : Type 1} (𝓤 : URA M) (H : Heap 𝓤) (A : Atoms 𝓤) (W : Given
         keep ! (0 ∷ 1 ∷ 2 ∷ 3 ∷ 4 ∷ 5 ∷ 6 ∷ 7 ∷ 8 ∷ 9 ∷ 10 ∷ 11 ∷ []) $ ends l₀ l₁ l₂ l₃ w r is eq))))))))))
 
 module _ {M : Type 1} (𝓤 : URA M) (H : Heap 𝓤) (A : Atoms 𝓤) (W : Given 𝓤 H A) (at-mem : Memory → SProp 𝓤) (run : Routine → Fun 𝓤) where
-  reset-event-walks : (Cs : Calls 𝓤 H) (Λ : Loops 𝓤 H) → FmC 𝓤 H (W .laws) Cs → Triple 𝓤 (Cs #embed·play-reset) (Play 𝓤 H A at-mem run) → Walks 𝓤 H A f.ended stayed (WpFn 𝓤 H Cs Λ code.function) (f.clauses 𝓤 H A at-mem run)
+  reset-event-walks : (Cs : Calls 𝓤 H) (Λ : Loops 𝓤 H) → FmC 𝓤 H (W .laws) Cs → Triple 𝓤 (Cs #c-bench·reset) (Play 𝓤 H A at-mem run) → Walks 𝓤 H A f.ended stayed (WpFn 𝓤 H Cs Λ code.function) (f.clauses 𝓤 H A at-mem run)
   reset-event-walks Cs Λ fm known = walked 𝓤 H A f.ended stayed (f.clauses 𝓤 H A at-mem run) (WpFn 𝓤 H Cs Λ code.function)
       (λ κs. (ptr-vals, tt)) (λ κs. (mut-tells (named 0) (κs .0) B.the-row, tt))
       (λ κs qs bounds a _ are. via 𝓤 _ (fst∗ 𝓤 _ (emp 𝓤)) (walk 𝓤 H A W at-mem run (κs .0) (qs .0) (a .0 .ptr .0) (a .0 .ptr .1) (a .0 .name) (a .0 .now) Cs Λ fm known))
@@ -162,7 +162,7 @@ module _ {M : Type 1} (𝓤 : URA M) (H : Heap 𝓤) (A : Atoms 𝓤) (W : Given
   goes =
       (goes-ref 𝓤 H A W 1 0 tt (plain (λ _. B.the-row)), tt)
 
-reset-event-meets : {M : Type 1} (𝓤 : URA M) (H : Heap 𝓤) (A : Atoms 𝓤) → Given 𝓤 H A → (at-mem : Memory → SProp 𝓤) (run : Routine → Fun 𝓤) (𝓣 : Tables 𝓤 H) → Triple 𝓤 (𝓣 .C #embed·play-reset) (Play 𝓤 H A at-mem run)
+reset-event-meets : {M : Type 1} (𝓤 : URA M) (H : Heap 𝓤) (A : Atoms 𝓤) → Given 𝓤 H A → (at-mem : Memory → SProp 𝓤) (run : Routine → Fun 𝓤) (𝓣 : Tables 𝓤 H) → Triple 𝓤 (𝓣 .C #c-bench·reset) (Play 𝓤 H A at-mem run)
     → Meets 𝓤 H A f.signature (WpFn 𝓤 H (𝓣 .C) (𝓣 .Λ) code.function) (f.spec 𝓤 H A at-mem run)
 reset-event-meets 𝓤 H A W at-mem run 𝓣 known = walk-meets 𝓤 H A f.ended stayed W (goes 𝓤 H A W at-mem run) (f.clauses 𝓤 H A at-mem run) (WpFn 𝓤 H (𝓣 .C) (𝓣 .Λ) code.function) (WpFn-mono 𝓤 H (W .laws) 𝓣 code.function) (reset-event-walks 𝓤 H A W at-mem run (𝓣 .C) (𝓣 .Λ) (fmOf 𝓤 H (W .laws) 𝓣) known)
 
@@ -172,4 +172,4 @@ reset-event-spec 𝓤 H 𝓜 𝓖 𝓡 =
     entered 𝓤 H (tripleOf 𝓤 H (𝓖 .A) f.signature (f.spec 𝓤 H (𝓖 .A) (𝓜 .mem) (𝓡 .run)))
     (tables 𝓤 H 𝓜 𝓡 code.env .C) (tables 𝓤 H 𝓜 𝓡 code.env .Λ) #embed·reset-event code.function (code.unfolded 𝓤 H 𝓜 𝓡)
     (reset-event-meets 𝓤 H (𝓖 .A) (givenOf 𝓤 H 𝓜 𝓖) (𝓜 .mem) (𝓡 .run) (tablesOf 𝓤 H 𝓜 (tables 𝓤 H 𝓜 𝓡 code.env))
-    (cited 𝓤 H (Play 𝓤 H (𝓖 .A) (𝓜 .mem) (𝓡 .run)) 𝓜 𝓡 code.env #embed·play-reset play-def.routine code.calls-embed·play-reset (play-thm.met 𝓤 H 𝓜 𝓖 𝓡)))
+    (cited 𝓤 H (Play 𝓤 H (𝓖 .A) (𝓜 .mem) (𝓡 .run)) 𝓜 𝓡 code.env #c-bench·reset play-def.routine code.calls-c-bench·reset (play-thm.met 𝓤 H 𝓜 𝓖 𝓡)))

@@ -1,5 +1,5 @@
 -- `seat_event`, walked by hand. The loan is opened, and of the bench the seat and the controller are taken out where they lie and copied; what
--- `play_parts` returns is stored in their places, the bench is put together, and the loan is closed. Of `play_parts` only its contract is used.
+-- `c_bench::parts` returns is stored in their places, the bench is put together, and the loan is closed. Of `c_bench::parts` only its contract is used.
 use mathlib.Core.Path.{refl, sym, ap, ap₂}
 use Prim.Native.Nat.{ℕ, _+_, _<_, _^_}
 use mathlib.Core.List.{[], _∷_, List}
@@ -52,16 +52,16 @@ use Rattle.bench.specs.declared.Bench.{Bench}
 use Rattle.bench.proofs.Bench as B
 use Rattle.bench.proofs.Bench.Laws as B′
 use Rattle.embed.specs.Bytes.{seatBytes, seatsBytes}
-use Rattle.embed.specs.Word.{Parted}
-use Rattle.embed.specs.declared.PartsPlayed.{PartsPlayed}
+use Rattle.c_bench.specs.Parts.{Parted}
+use Rattle.c_bench.specs.declared.PartsPlayed.{PartsPlayed}
 use Rattle.embed.proofs.InPlace.{seat-place, seat-val, rest-val, seats-lie, controller-lies, cell-out, cell-in, Kept, reaches, comes-back}
 use Rattle.embed.proofs.Storing.{bare, found, copied, finds, copies, stores, leaves}
-use Rattle.embed.proofs.PartsPlayed as P
-use Rattle.embed.proofs.PartsPlayed.Laws as P′
-use Rattle.embed.proofs.play_parts as play
-use Rattle.embed.proofs.play_parts.Symbol as play-def
-use Rattle.embed.proofs.play_parts.Symbol.{name as #embed·play-parts}
-use Rattle.embed.proofs.play_parts.Met as play-thm
+use Rattle.c_bench.proofs.PartsPlayed as P
+use Rattle.c_bench.proofs.PartsPlayed.Laws as P′
+use Rattle.c_bench.proofs.parts as play
+use Rattle.c_bench.proofs.parts.Symbol as play-def
+use Rattle.c_bench.proofs.parts.Symbol.{name as #c-bench·parts}
+use Rattle.c_bench.proofs.parts.Met as play-thm
 use Rattle.embed.proofs.Places.{envAt, typeAt, past}
 use Rattle.embed.proofs.seat_event.Key.{name as #embed·seat-event}
 use Rattle.embed.proofs.seat_event as f
@@ -78,7 +78,7 @@ lender = typeAt 1 (code.function .locals)
 abbrev holder : Ty
 holder = typeAt 7 (code.function .locals)
 
--- what is known of the fields of what `play_parts` returns
+-- what is known of the fields of what `c_bench::parts` returns
 is-seat : (r : PartsPlayed) (v : Val) → Is P.the-row r (v ∷ []) → Is S.the-row (r .seat) (seat-val (r .seat) ∷ [])
 is-seat r v is = LL.owed P.the-type P′.the-laws r (v ∷ []) is .0
 
@@ -120,7 +120,7 @@ module _ {M : Type 1} (𝓤 : URA M) (H : Heap 𝓤) (A : Atoms 𝓤) (W : Given
       owned ! u32 (Is u32) (uint-makes 𝓤 H A W w32) s _ (refl, fs) $ fjoin ! $ owned ! u32 (Is u32) (uint-makes 𝓤 H A W w32) k _ (refl, fk) $ fjoin ! $ move ! (1 ∷ 0 ∷ []) $ fjoin ! $
       owned ! u64 (Is u64) (uint-makes 𝓤 H A W w64) (r .word) _ (refl, is-word r w is) $ move ! (1 ∷ 0 ∷ []) $ done !
 
-  -- what the triple of `play_parts` binds outside
+  -- what the triple of `c_bench::parts` binds outside
   abbrev args : Seat × (Controller × (ℕ × (ℕ × (ℕ × (ℕ × Unit {0})))))
   args = (seat h s, (h .controller, (k, (s, (n, (v, tt))))))
 
@@ -147,8 +147,8 @@ module _ {M : Type 1} (𝓤 : URA M) (H : Heap 𝓤) (A : Atoms 𝓤) (W : Given
   abbrev is-now : Item 𝓤
   is-now = ‵ (fauth γ (B.the-row .coded .code h))
 
-  module _ (Cs : Calls 𝓤 H) (Λ : Loops 𝓤 H) (fm : FmC 𝓤 H (W .laws) Cs) (known : Triple 𝓤 (Cs #embed·play-parts) (Play 𝓤 H A at-mem run)) where
-    -- what `play_parts` returned is put in its local; both are stored where they lie, the bench is put together and the loan closed
+  module _ (Cs : Calls 𝓤 H) (Λ : Loops 𝓤 H) (fm : FmC 𝓤 H (W .laws) Cs) (known : Triple 𝓤 (Cs #c-bench·parts) (Play 𝓤 H A at-mem run)) where
+    -- what `c_bench::parts` returned is put in its local; both are stored where they lie, the bench is put together and the loan closed
     ends : (l₀ l₁ l₂ l₃ l₄ l₅ l₆ l₇ l₈ l₉ l₁₀ l₁₁ l₁₂ l₁₃ : ℕ) (w : Val) (r : PartsPlayed) → Is P.the-row r (w ∷ []) → Ensured r
         → Seq Go W
         (‵ (fat fullShare (rawTy K′.mir) b (o + seatsBytes) (rest-val (h .controller))) ∷ raw (Kept 𝓤 H A W fullShare h s b o) ∷ ‵ (fat fullShare (rawTy S′.mir) b (seat-place o s) (seat-val (seat h s))) ∷ loan ∷ was ∷ is-now
@@ -192,7 +192,7 @@ module _ {M : Type 1} (𝓤 : URA M) (H : Heap 𝓤) (A : Atoms 𝓤) (W : Given
         keep ! (0 ∷ 1 ∷ 2 ∷ 3 ∷ 4 ∷ 5 ∷ 6 ∷ 7 ∷ 8 ∷ 9 ∷ 10 ∷ 11 ∷ 12 ∷ 13 ∷ 14 ∷ 15 ∷ 16 ∷ 17 ∷ 18 ∷ 19 ∷ 20 ∷ 21 ∷ 22 ∷ 23 ∷ 24 ∷ 25 ∷ 26 ∷ 27 ∷ 28 ∷ 29 ∷ 30 ∷ 31 ∷ 32 ∷ 33 ∷ []) $ ends l₀ l₁ l₂ l₃ l₄ l₅ l₆ l₇ l₈ l₉ l₁₀ l₁₁ l₁₂ l₁₃ w r is eq))))))))))))))))))))
 
 module _ {M : Type 1} (𝓤 : URA M) (H : Heap 𝓤) (A : Atoms 𝓤) (W : Given 𝓤 H A) (at-mem : Memory → SProp 𝓤) (run : Routine → Fun 𝓤) where
-  seat-event-walks : (Cs : Calls 𝓤 H) (Λ : Loops 𝓤 H) → FmC 𝓤 H (W .laws) Cs → Triple 𝓤 (Cs #embed·play-parts) (Play 𝓤 H A at-mem run) → Walks 𝓤 H A f.ended stayed (WpFn 𝓤 H Cs Λ code.function) (f.clauses 𝓤 H A at-mem run)
+  seat-event-walks : (Cs : Calls 𝓤 H) (Λ : Loops 𝓤 H) → FmC 𝓤 H (W .laws) Cs → Triple 𝓤 (Cs #c-bench·parts) (Play 𝓤 H A at-mem run) → Walks 𝓤 H A f.ended stayed (WpFn 𝓤 H Cs Λ code.function) (f.clauses 𝓤 H A at-mem run)
   seat-event-walks Cs Λ fm known = walked 𝓤 H A f.ended stayed (f.clauses 𝓤 H A at-mem run) (WpFn 𝓤 H Cs Λ code.function)
       (λ κs. (ptr-vals, (uint-vals w32, (uint-vals w32, (uint-vals w32, (uint-vals w8, tt)))))) (λ κs. (mut-tells (named 0) (κs .0) B.the-row, (uint-tells w32, (uint-tells w32, (uint-tells w32, (uint-tells w8, tt))))))
       (λ κs qs bounds a _ are. via 𝓤 _ (fst∗ 𝓤 _ (emp 𝓤)) (walk 𝓤 H A W at-mem run (κs .0) (qs .0) (a .0 .ptr .0) (a .0 .ptr .1) (a .0 .name) (a .0 .now) (a .1 .0) (a .1 .1 .0) (a .1 .1 .1 .0) (a .1 .1 .1 .1 .0)
@@ -202,7 +202,7 @@ module _ {M : Type 1} (𝓤 : URA M) (H : Heap 𝓤) (A : Atoms 𝓤) (W : Given
   goes =
       (goes-ref 𝓤 H A W 1 0 tt (plain (λ _. B.the-row)), (goes-none 𝓤 H A W 1 (λ _. u32) yes (λ κs x f. refl), (goes-none 𝓤 H A W 1 (λ _. u32) yes (λ κs x f. refl), (goes-none 𝓤 H A W 1 (λ _. u32) yes (λ κs x f. refl), (goes-none 𝓤 H A W 1 (λ _. u8) yes (λ κs x f. refl), tt)))))
 
-seat-event-meets : {M : Type 1} (𝓤 : URA M) (H : Heap 𝓤) (A : Atoms 𝓤) → Given 𝓤 H A → (at-mem : Memory → SProp 𝓤) (run : Routine → Fun 𝓤) (𝓣 : Tables 𝓤 H) → Triple 𝓤 (𝓣 .C #embed·play-parts) (Play 𝓤 H A at-mem run)
+seat-event-meets : {M : Type 1} (𝓤 : URA M) (H : Heap 𝓤) (A : Atoms 𝓤) → Given 𝓤 H A → (at-mem : Memory → SProp 𝓤) (run : Routine → Fun 𝓤) (𝓣 : Tables 𝓤 H) → Triple 𝓤 (𝓣 .C #c-bench·parts) (Play 𝓤 H A at-mem run)
     → Meets 𝓤 H A f.signature (WpFn 𝓤 H (𝓣 .C) (𝓣 .Λ) code.function) (f.spec 𝓤 H A at-mem run)
 seat-event-meets 𝓤 H A W at-mem run 𝓣 known = walk-meets 𝓤 H A f.ended stayed W (goes 𝓤 H A W at-mem run) (f.clauses 𝓤 H A at-mem run) (WpFn 𝓤 H (𝓣 .C) (𝓣 .Λ) code.function) (WpFn-mono 𝓤 H (W .laws) 𝓣 code.function) (seat-event-walks 𝓤 H A W at-mem run (𝓣 .C) (𝓣 .Λ) (fmOf 𝓤 H (W .laws) 𝓣) known)
 
@@ -212,4 +212,4 @@ seat-event-spec 𝓤 H 𝓜 𝓖 𝓡 =
     entered 𝓤 H (tripleOf 𝓤 H (𝓖 .A) f.signature (f.spec 𝓤 H (𝓖 .A) (𝓜 .mem) (𝓡 .run)))
     (tables 𝓤 H 𝓜 𝓡 code.env .C) (tables 𝓤 H 𝓜 𝓡 code.env .Λ) #embed·seat-event code.function (code.unfolded 𝓤 H 𝓜 𝓡)
     (seat-event-meets 𝓤 H (𝓖 .A) (givenOf 𝓤 H 𝓜 𝓖) (𝓜 .mem) (𝓡 .run) (tablesOf 𝓤 H 𝓜 (tables 𝓤 H 𝓜 𝓡 code.env))
-    (cited 𝓤 H (Play 𝓤 H (𝓖 .A) (𝓜 .mem) (𝓡 .run)) 𝓜 𝓡 code.env #embed·play-parts play-def.routine code.calls-embed·play-parts (play-thm.met 𝓤 H 𝓜 𝓖 𝓡)))
+    (cited 𝓤 H (Play 𝓤 H (𝓖 .A) (𝓜 .mem) (𝓡 .run)) 𝓜 𝓡 code.env #c-bench·parts play-def.routine code.calls-c-bench·parts (play-thm.met 𝓤 H 𝓜 𝓖 𝓡)))

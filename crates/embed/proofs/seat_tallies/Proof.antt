@@ -1,7 +1,7 @@
 use mathlib.Core.Bool.{false}
 use mathlib.Core.Path.{ap, subst}
 use Rattle.bench.specs.declared.Tallied.{Tallied}
-use Rattle.embed.specs.Word.{Tells}
+use Rattle.c_word.specs.Word.{Tells}
 use borrow.Author.Needs.{needs}
 use Rattle.embed.proofs.seat_tallies.Statement.{statement}
 use Rattle.embed.proofs.seat_tallies.Tie as tie

@@ -12,6 +12,9 @@ abbrev μ-loop : tie.MeasureT-loop
 read-requires : tie.Need-read-requires Inv-loop μ-loop
 read-requires c κs = search needs
 
+place-of-requires : tie.Need-place-of-requires Inv-loop μ-loop
+place-of-requires c κs = search needs
+
 returns : tie.Need-returns Inv-loop μ-loop
 returns c = search needs
 
@@ -49,6 +52,7 @@ tell-spec =
     Inv-loop
     μ-loop
     read-requires
+    place-of-requires
     returns
     loop-holds
     cast-tallies

@@ -1,4 +1,4 @@
--- made by tools/answers for Words::with_option of crates/options/src/reading.rt, sum 443d97a1e523eaf0: do not change it by hand, make it anew
+-- made by tools/answers for Words::with_option of crates/options/src/reading.rt, sum 25eef3c1a60baaa3: do not change it by hand, make it anew
 use Rattle.base.specs.PickLaws.{pick-true, pick-false}
 use Rattle.options.specs.Words.{optionRead}
 use borrow.Author.Needs.{needs}
@@ -37,12 +37,12 @@ slice-aggregate-is-word-3 c = search needs
 is-word-requires-3 : tie.Need-is-word-requires-3
 is-word-requires-3 c κs = search needs
 
-with-tallies-requires : tie.Need-with-tallies-requires
-with-tallies-requires c κs = search needs
+once-requires : tie.Need-once-requires
+once-requires c κs = search needs
 
 returns-3 : tie.Need-returns-3
 unfolding optionRead
-returns-3 c = simp (← c .with-tallies .ensures, ← c .before .before .is-word3 .ensures, ← c .before .before .before .before .before .is-word2 .ensures, ← c .before .before .before .before .before .before .before .before .is-word .ensures, c .before .if3 .taken, c .before .before .before .before .if2 .left, c .before .before .before .before .before .before .before .if1 .left, pick-true, pick-false)
+returns-3 c = simp (← c .once .ensures, ← c .before .before .is-word3 .ensures, ← c .before .before .before .before .before .is-word2 .ensures, ← c .before .before .before .before .before .before .before .before .is-word .ensures, c .before .if3 .taken, c .before .before .before .before .if2 .left, c .before .before .before .before .before .before .before .if1 .left, pick-true, pick-false)
 
 slice-aggregate-is-word-4 : tie.Need-slice-aggregate-is-word-4
 slice-aggregate-is-word-4 c = search needs
@@ -50,29 +50,19 @@ slice-aggregate-is-word-4 c = search needs
 is-word-requires-4 : tie.Need-is-word-requires-4
 is-word-requires-4 c κs = search needs
 
-awaiting-requires-3 : tie.Need-awaiting-requires-3
-awaiting-requires-3 c κs = search needs
+once-requires-2 : tie.Need-once-requires-2
+once-requires-2 c κs = search needs
 
 returns-4 : tie.Need-returns-4
 unfolding optionRead
-returns-4 c = simp (← c .awaiting3 .ensures, ← c .before .before .is-word4 .ensures, ← c .before .before .before .before .before .is-word3 .ensures, ← c .before .before .before .before .before .before .before .before .is-word2 .ensures, ← c .before .before .before .before .before .before .before .before .before .before .before .is-word .ensures, c .before .if4 .taken, c .before .before .before .before .if3 .left, c .before .before .before .before .before .before .before .if2 .left, c .before .before .before .before .before .before .before .before .before .before .if1 .left, pick-true, pick-false)
+returns-4 c = simp (← c .once2 .ensures, ← c .before .before .is-word4 .ensures, ← c .before .before .before .before .before .is-word3 .ensures, ← c .before .before .before .before .before .before .before .before .is-word2 .ensures, ← c .before .before .before .before .before .before .before .before .before .before .before .is-word .ensures, c .before .if4 .taken, c .before .before .before .before .if3 .left, c .before .before .before .before .before .before .before .if2 .left, c .before .before .before .before .before .before .before .before .before .before .if1 .left, pick-true, pick-false)
 
-is-dashed-requires : tie.Need-is-dashed-requires
-is-dashed-requires c κs = search needs
-
-stopped-requires : tie.Need-stopped-requires
-stopped-requires c κs = search needs
+with-further-requires : tie.Need-with-further-requires
+with-further-requires c κs = search needs
 
 returns-5 : tie.Need-returns-5
 unfolding optionRead
-returns-5 c = simp (← c .stopped .ensures, ← c .before .before .is-dashed .ensures, ← c .before .before .before .before .is-word4 .ensures, ← c .before .before .before .before .before .before .before .is-word3 .ensures, ← c .before .before .before .before .before .before .before .before .before .before .is-word2 .ensures, ← c .before .before .before .before .before .before .before .before .before .before .before .before .before .is-word .ensures, c .before .if5 .taken, c .before .before .before .if4 .left, c .before .before .before .before .before .before .if3 .left, c .before .before .before .before .before .before .before .before .before .if2 .left, c .before .before .before .before .before .before .before .before .before .before .before .before .if1 .left, pick-true, pick-false)
-
-with-lesson-requires : tie.Need-with-lesson-requires
-with-lesson-requires c κs = search needs
-
-returns-6 : tie.Need-returns-6
-unfolding optionRead
-returns-6 c = simp (← c .with-lesson .ensures, ← c .before .before .is-dashed .ensures, ← c .before .before .before .before .is-word4 .ensures, ← c .before .before .before .before .before .before .before .is-word3 .ensures, ← c .before .before .before .before .before .before .before .before .before .before .is-word2 .ensures, ← c .before .before .before .before .before .before .before .before .before .before .before .before .before .is-word .ensures, c .before .if5 .left, c .before .before .before .if4 .left, c .before .before .before .before .before .before .if3 .left, c .before .before .before .before .before .before .before .before .before .if2 .left, c .before .before .before .before .before .before .before .before .before .before .before .before .if1 .left, pick-false)
+returns-5 c = simp (← c .with-further .ensures, ← c .before .before .is-word4 .ensures, ← c .before .before .before .before .before .is-word3 .ensures, ← c .before .before .before .before .before .before .before .before .is-word2 .ensures, ← c .before .before .before .before .before .before .before .before .before .before .before .is-word .ensures, c .before .if4 .left, c .before .before .before .before .if3 .left, c .before .before .before .before .before .before .before .if2 .left, c .before .before .before .before .before .before .before .before .before .before .if1 .left, pick-false)
 
 pub with-option-spec : {M : Type 1} → statement M
 with-option-spec =
@@ -88,14 +78,11 @@ with-option-spec =
     returns-2
     slice-aggregate-is-word-3
     is-word-requires-3
-    with-tallies-requires
+    once-requires
     returns-3
     slice-aggregate-is-word-4
     is-word-requires-4
-    awaiting-requires-3
+    once-requires-2
     returns-4
-    is-dashed-requires
-    stopped-requires
-    returns-5
-    with-lesson-requires
-    returns-6)
+    with-further-requires
+    returns-5)

@@ -1,0 +1,4 @@
+pub mod Word
+pub mod Numbers
+pub mod WordLaws
+pub mod NumberLaws

@@ -1,0 +1,5 @@
+pub mod InOrder
+pub mod Short
+pub mod Exemplified
+pub mod Slips
+pub mod Statements

@@ -1,0 +1,3 @@
+pub mod Exemplified
+pub mod Statements
+pub mod Slips

@@ -1,0 +1,11 @@
+-- Closed instances of laws, each false under a slip of `must-fail`, which names it.
+use mathlib.Core.Path.{_≡_, refl}
+use Rattle.base.specs.Pick.{pick}
+use Rattle.base.specs.Bits.{bit}
+use Rattle.text.specs.Quoted.{quoted}
+use Rattle.deeds.specs.Done.{wordAt0}
+
+-- `selects` of `DoneExamples`: bit 3 makes it OCW3, where bit 4 is clear
+bit-3-makes-it-ocw3 : wordAt0 0x0B ≡ quoted "OCW3"
+unfolding pick bit wordAt0
+bit-3-makes-it-ocw3 = refl

@@ -1,0 +1,5 @@
+mod InMemory
+pub mod LentLaws
+pub mod DivisorLaws
+pub mod ImageLaws
+pub mod SettingLaws

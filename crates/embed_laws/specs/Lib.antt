@@ -1,0 +1,2 @@
+pub mod Zeroed
+pub mod ZeroedLaws

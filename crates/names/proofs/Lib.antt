@@ -1,0 +1,5 @@
+pub mod Tables
+pub mod Exemplified
+pub mod Differ
+pub mod Statements
+pub mod Slips

@@ -1,0 +1,9 @@
+pub mod Names
+pub mod Words
+pub mod Fits
+pub mod FitLaws
+pub mod WordLaws
+pub mod Uncut
+pub mod Differ
+pub mod Examples
+pub mod Statements

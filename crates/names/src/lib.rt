@@ -1,0 +1,16 @@
+// The words for registers, bits, causes and refusals: one table, for whoever tells a lesson.
+mod bits;
+mod registers;
+mod sets;
+mod words;
+
+pub use bits::levels;
+pub use bits::lsr;
+pub use bits::marks;
+pub use bits::marks_named;
+pub use bits::msr;
+pub use bits::word;
+pub use registers::register;
+pub use sets::lines;
+pub use words::iir;
+pub use words::refusal;

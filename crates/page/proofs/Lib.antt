@@ -1,0 +1,5 @@
+pub mod Counted
+pub mod Words
+pub mod Exemplified
+pub mod Statements
+pub mod Slips

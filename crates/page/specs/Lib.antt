@@ -1,0 +1,15 @@
+pub mod Through
+pub mod Pieces
+pub mod Pages
+pub mod Notes
+pub mod Columns
+pub mod ThroughLaws
+pub mod KeptLaws
+pub mod PieceLaws
+pub mod PageLaws
+pub mod ColumnLaws
+pub mod FitLaws
+pub mod Says
+pub mod Examples
+pub mod Statements
+pub mod CountLaws

@@ -1,0 +1,4 @@
+pub mod Sights
+pub mod InUse
+pub mod Seen
+pub mod Statements

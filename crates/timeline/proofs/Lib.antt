@@ -1,0 +1,11 @@
+pub mod Behind
+pub mod Scopes
+pub mod Bits
+pub mod Lengths
+pub mod Reading
+pub mod Names
+pub mod Watching
+pub mod Pages
+pub mod Exemplified
+pub mod Slips
+pub mod Statements
