@@ -13,7 +13,7 @@ use Rattle.controller.specs.declared.Controller.{Controller}
 use Rattle.records.specs.Kinds as kinds
 use Rattle.records.specs.Events.{Record, whole, short}
 
--- ---- a seat. `divisor` is "LCR bit 7 as it stood before the record"
+-- ---- a seat; `divisor` tells whether LCR bit 7 stood before the record
 
 -- "seat S"
 unfoldable pub seatWords : ℕ → List ℕ
