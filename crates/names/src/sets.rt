@@ -16,7 +16,7 @@ fn one(set: u8, line: u8) -> u8
     0
 }
 
-fn count(set: u8) -> u8
+fn size_of(set: u8) -> u8
     ensures { λ r. ⌜ r ≡ linesIn set ⌝ }
 {
     one(set, 0)
@@ -38,7 +38,7 @@ pub fn lines(piece: Piece, set: u8) -> Piece
     if set == 0 {
         return piece.text(b"no line");
     }
-    if count(set) == 1 {
+    if size_of(set) == 1 {
         return numbers(piece.text(b"line"), set);
     }
     numbers(piece.text(b"lines"), set)

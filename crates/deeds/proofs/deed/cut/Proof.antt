@@ -1,6 +1,4 @@
--- made by tools/answers for cut of crates/deeds/src/deed.rt, sum 92eec799fa86db19: do not change it by hand, make it anew
-use Rattle.page.specs.PieceLaws.{with-append, with-none}
-use Rattle.page.specs.Pieces.{with}
+-- made by tools/answers for cut of crates/deeds/src/deed.rt, sum a86fb1b754233cd7: do not change it by hand, make it anew
 use Rattle.deeds.specs.Done.{cutDone}
 use borrow.Author.Needs.{needs}
 use Rattle.deeds.proofs.deed.cut.Statement.{statement}
@@ -16,8 +14,8 @@ text-requires : tie.Need-text-requires
 text-requires c κs = search needs
 
 returns : tie.Need-returns
-unfolding with cutDone
-returns c = simp (c .text .ensures, c .before .before .empty .ensures, with-append, with-none)
+unfolding cutDone
+returns c = simp (c .text .ensures, c .before .before .empty .ensures)
 
 pub cut-spec : {M : Type 1} → statement M
 cut-spec = tie.close (tie.spec empty-requires slice-aggregate-text text-requires returns)

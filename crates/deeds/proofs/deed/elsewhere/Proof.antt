@@ -1,4 +1,4 @@
--- made by tools/answers for elsewhere of crates/deeds/src/deed.rt, sum 54a1188d64f9c992: do not change it by hand, make it anew
+-- made by tools/answers for elsewhere of crates/deeds/src/deed.rt, sum 2759d9913068b296: do not change it by hand, make it anew
 use Rattle.base.specs.PickLaws.{pick-true, pick-false}
 use borrow.Author.Tests.{ne-eqb}
 use Rattle.page.specs.PieceLaws.{with-append, with-none}
@@ -45,8 +45,8 @@ decimal-requires : tie.Need-decimal-requires
 decimal-requires c κs = search needs
 
 returns : tie.Need-returns
-unfolding with otherDone
-returns c = simp (c .text .ensures, c .before .before .empty .ensures, c .before .before .before .match .keys1, pick-true, pick-false, with-append, with-none)
+unfolding otherDone
+returns c = simp (c .text .ensures, c .before .before .empty .ensures, c .before .before .before .match .keys1, pick-true, pick-false)
 
 returns-2 : tie.Need-returns-2
 unfolding otherDone
@@ -57,8 +57,8 @@ unfolding otherDone
 returns-3 c = simp (c .write .ensures, c .before .match .keys3, pick-true, pick-false)
 
 returns-4 : tie.Need-returns-4
-unfolding with otherDone
-returns-4 c = simp (c .text2 .ensures, c .before .before .empty2 .ensures, c .before .before .before .match .keys4, pick-true, pick-false, with-append, with-none)
+unfolding otherDone
+returns-4 c = simp (c .text2 .ensures, c .before .before .empty2 .ensures, c .before .before .before .match .keys4, pick-true, pick-false)
 
 returns-5 : tie.Need-returns-5
 unfolding with otherDone

@@ -1,4 +1,4 @@
--- made by tools/answers for read of crates/deeds/src/ports.rt, sum 40a4f38073797ea8: do not change it by hand, make it anew
+-- made by tools/answers for read of crates/deeds/src/ports.rt, sum 8b8a8e6609b4d666: do not change it by hand, make it anew
 use Rattle.base.specs.PickLaws.{pick-true, pick-false}
 use borrow.Author.Tests.{eq-eqb, ne-eqb}
 use Rattle.page.specs.PieceLaws.{with-append, with-none}
@@ -18,8 +18,8 @@ text-requires : tie.Need-text-requires
 text-requires c κs = search needs
 
 returns : tie.Need-returns
-unfolding with controllerReadDone
-returns c = simp (c .text .ensures, c .before .before .before .before .empty .ensures, c .before .before .if2 .taken, eq-eqb _ _ (c .before .before .before .if1 .taken), pick-true, with-append, with-none)
+unfolding controllerReadDone
+returns c = simp (c .text .ensures, c .before .before .before .before .empty .ensures, c .before .before .if2 .taken, eq-eqb _ _ (c .before .before .before .if1 .taken), pick-true)
 
 slice-aggregate-text-2 : tie.Need-slice-aggregate-text-2
 slice-aggregate-text-2 c = search needs
@@ -28,8 +28,8 @@ text-requires-2 : tie.Need-text-requires-2
 text-requires-2 c κs = search needs
 
 returns-2 : tie.Need-returns-2
-unfolding with controllerReadDone
-returns-2 c = simp (c .text2 .ensures, c .before .before .before .before .empty .ensures, c .before .before .if2 .left, eq-eqb _ _ (c .before .before .before .if1 .taken), pick-true, pick-false, with-append, with-none)
+unfolding controllerReadDone
+returns-2 c = simp (c .text2 .ensures, c .before .before .before .before .empty .ensures, c .before .before .if2 .left, eq-eqb _ _ (c .before .before .before .if1 .taken), pick-true, pick-false)
 
 slice-aggregate-text-3 : tie.Need-slice-aggregate-text-3
 slice-aggregate-text-3 c = search needs
@@ -38,8 +38,8 @@ text-requires-3 : tie.Need-text-requires-3
 text-requires-3 c κs = search needs
 
 returns-3 : tie.Need-returns-3
-unfolding with controllerReadDone
-returns-3 c = simp (c .text3 .ensures, c .before .before .before .before .empty .ensures, eq-eqb _ _ (c .before .before .if3 .taken), ne-eqb _ _ (c .before .before .before .if1 .left), pick-true, pick-false, with-append, with-none)
+unfolding controllerReadDone
+returns-3 c = simp (c .text3 .ensures, c .before .before .before .before .empty .ensures, eq-eqb _ _ (c .before .before .if3 .taken), ne-eqb _ _ (c .before .before .before .if1 .left), pick-true, pick-false)
 
 slice-aggregate-text-4 : tie.Need-slice-aggregate-text-4
 slice-aggregate-text-4 c = search needs

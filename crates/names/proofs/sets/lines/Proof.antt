@@ -1,4 +1,4 @@
--- made by tools/answers for lines of crates/names/src/sets.rt, sum dfeb1930772b1be8: do not change it by hand, make it anew
+-- made by tools/answers for lines of crates/names/src/sets.rt, sum d919ede550d8fea6: do not change it by hand, make it anew
 use Rattle.base.specs.PickLaws.{pick-true, pick-false}
 use borrow.Author.Tests.{eq-eqb, ne-eqb}
 use Rattle.page.specs.PieceLaws.{with-append, with-none}
@@ -18,8 +18,8 @@ returns : tie.Need-returns
 unfolding linesSaid
 returns c = simp (c .text .ensures, eq-eqb _ _ (c .before .before .if1 .taken), pick-true)
 
-count-requires : tie.Need-count-requires
-count-requires c κs = search needs
+size-of-requires : tie.Need-size-of-requires
+size-of-requires c κs = search needs
 
 slice-aggregate-text-2 : tie.Need-slice-aggregate-text-2
 slice-aggregate-text-2 c = search needs
@@ -32,7 +32,7 @@ numbers-requires c κs = search needs
 
 returns-2 : tie.Need-returns-2
 unfolding with linesSaid
-returns-2 c = simp (c .numbers .ensures, c .before .text2 .ensures, ← c .before .before .before .before .count .ensures, eq-eqb _ _ (c .before .before .before .if2 .taken), ne-eqb _ _ (c .before .before .before .before .before .if1 .left), pick-true, pick-false, with-append, with-none)
+returns-2 c = simp (c .numbers .ensures, c .before .text2 .ensures, ← c .before .before .before .before .size-of .ensures, eq-eqb _ _ (c .before .before .before .if2 .taken), ne-eqb _ _ (c .before .before .before .before .before .if1 .left), pick-true, pick-false, with-append, with-none)
 
 slice-aggregate-text-3 : tie.Need-slice-aggregate-text-3
 slice-aggregate-text-3 c = search needs
@@ -45,7 +45,7 @@ numbers-requires-2 c κs = search needs
 
 returns-3 : tie.Need-returns-3
 unfolding with linesSaid
-returns-3 c = simp (c .numbers2 .ensures, c .before .text3 .ensures, ← c .before .before .before .before .count .ensures, ne-eqb _ _ (c .before .before .before .if2 .left), ne-eqb _ _ (c .before .before .before .before .before .if1 .left), pick-false, with-append, with-none)
+returns-3 c = simp (c .numbers2 .ensures, c .before .text3 .ensures, ← c .before .before .before .before .size-of .ensures, ne-eqb _ _ (c .before .before .before .if2 .left), ne-eqb _ _ (c .before .before .before .before .before .if1 .left), pick-false, with-append, with-none)
 
 pub lines-spec : {M : Type 1} → statement M
 lines-spec =
@@ -54,7 +54,7 @@ lines-spec =
     slice-aggregate-text
     text-requires
     returns
-    count-requires
+    size-of-requires
     slice-aggregate-text-2
     text-requires-2
     numbers-requires

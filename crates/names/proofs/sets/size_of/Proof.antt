@@ -1,8 +1,8 @@
--- made by tools/answers for count of crates/names/src/sets.rt, sum 3d46ce8aaf5ebb35: do not change it by hand, make it anew
+-- made by tools/answers for size_of of crates/names/src/sets.rt, sum 63949aee15060cc5: do not change it by hand, make it anew
 use Rattle.names.specs.Words.{linesIn}
 use borrow.Author.Needs.{needs}
-use Rattle.names.proofs.sets.count.Statement.{statement}
-use Rattle.names.proofs.sets.count.Tie as tie
+use Rattle.names.proofs.sets.size_of.Statement.{statement}
+use Rattle.names.proofs.sets.size_of.Tie as tie
 
 one-requires : tie.Need-one-requires
 one-requires c κs = search needs
@@ -53,8 +53,8 @@ returns : tie.Need-returns
 unfolding linesIn
 returns c = simp (← c .one8 .ensures .0, ← c .before .one7 .ensures .0, ← c .before .before .one6 .ensures .0, ← c .before .before .before .one5 .ensures .0, ← c .before .before .before .before .one4 .ensures .0, ← c .before .before .before .before .before .one3 .ensures .0, ← c .before .before .before .before .before .before .one2 .ensures .0, ← c .before .before .before .before .before .before .before .one .ensures .0)
 
-pub count-spec : {M : Type 1} → statement M
-count-spec =
+pub size-of-spec : {M : Type 1} → statement M
+size-of-spec =
     tie.close
     (tie.spec
     one-requires
