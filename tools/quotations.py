@@ -4,6 +4,11 @@ from typing import NamedTuple
 
 DOCUMENT_01 = 0  # the source of a quotation; a ticket of document 02 is its number
 
+# The page that says every byte of what is told of a lesson, and who quotes it: rooms, and a file of another.
+TELLING = "docs/TELLING.md"
+TELLING_ROOMS = ("page", "names", "deeds", "moves", "account", "seat_page", "controller_page", "sight", "timeline")
+TELLING_FILES = ("crates/lesson/specs/Comments.antt",)
+
 
 class Fault(Exception):
     """Something in the repository that its author has to put right."""
@@ -86,11 +91,50 @@ def quotations_of(crate, path, root):
             yield Quotation(crate, file, start, name, text, source)
 
 
+def spec_files(root, crate):
+    """The files of a room's specs, definitions first: a reader who believes them needs no law."""
+    files = [f for f in (root / "crates" / crate / "specs").rglob("*.antt") if f.name != "Lib.antt"]
+    return sorted(files, key=lambda f: (f.name.endswith("Laws.antt"), f.as_posix()))
+
+
+def quotes_telling(root, crate, path):
+    return crate in TELLING_ROOMS or path.relative_to(root).as_posix() in TELLING_FILES
+
+
 def all_quotations(root):
     found = []
     for crate in crate_names(root):
-        files = [f for f in (root / "crates" / crate / "specs").rglob("*.antt") if f.name != "Lib.antt"]
-        # definitions first: a reader who believes them needs no law
-        for path in sorted(files, key=lambda f: (f.name.endswith("Laws.antt"), f.as_posix())):
-            found += quotations_of(crate, path, root)
+        for path in spec_files(root, crate):
+            if not quotes_telling(root, crate, path):
+                found += quotations_of(crate, path, root)
     return found
+
+
+def folded(text):
+    """Without the marks of a table and of code, and with one blank between two words."""
+    return " ".join(text.replace("|", " ").replace("`", "").split())
+
+
+def stands_in(text, page):
+    """Whether what is quoted stands there; of what `..` leaves out, the parts, in their order."""
+    at = 0
+    for part in folded(text).split(" .. "):
+        at = page.find(part, at)
+        if at < 0:
+            return False
+        at += len(part)
+    return True
+
+
+def misquoted(root):
+    """What is quoted of the page that says what is told, and does not stand there: file, line and words."""
+    page = root / TELLING
+    told = folded(page.read_text("utf-8")) if page.is_file() else ""
+    for crate in crate_names(root):
+        for path in spec_files(root, crate):
+            if quotes_telling(root, crate, path):
+                file, lines = path.relative_to(root).as_posix(), path.read_text("utf-8").splitlines()
+                for start, words, _ in comments(lines):
+                    for text, _ in sourced(words, f"{file}:{start}"):
+                        if not stands_in(text, told):
+                            yield f"{file}:{start}: {TELLING} does not say: {text}"

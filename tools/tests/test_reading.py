@@ -222,6 +222,15 @@ class Reading(Room):
         self.write("crates/lamp/specs/Lamp.antt", SPECS.replace('above 1"', "above 1"))
         self.fails("Lamp.antt:9: a quotation is not closed")
 
+    def test_rooms_that_tell_a_lesson_quote_the_page_of_what_is_told(self):
+        self.write("crates.txt", "# rooms\nlamp:\npage:\n")
+        self.write("docs/TELLING.md", "A lamp is told by `its number`,\nand what it shows.\n")
+        quoting = '-- "A lamp is told by its number, .. what it shows"\nabbrev pub lamp : N\n'
+        self.write("crates/page/specs/Lamps.antt", quoting)
+        self.passes()
+        self.write("crates/page/specs/Lamps.antt", quoting.replace("what it shows", "what it hides"))
+        self.fails("crates/page/specs/Lamps.antt:1: docs/TELLING.md does not say: A lamp is told by its number, .. what it hides")
+
     def test_clauses_that_nobody_quotes_are_listed(self):
         said = self.passes(*self.against())
         self.assertIn("What is on the bench: 3 of 3 clauses are quoted by nobody\n    Two lamps.\n", said)

@@ -7,7 +7,7 @@ use Rattle.base.specs.declared.Answer.{Answer}
 use Rattle.text.specs.Quoted.{quoted}
 use Rattle.text.specs.Line.{space, capital, outputDigit, line}
 
--- "answer in three hex capitals, output after the event", each behind a blank
+-- the answer in three hex capitals, and the output after the event, each behind a blank
 unfoldable pub figuresShown : ℕ → Bool → List ℕ
 figuresShown value output =
     space ∷ capital (value / 256 % 16) ∷ capital (value / 16 % 16) ∷ capital (value % 16) ∷ space ∷ outputDigit output ∷ []

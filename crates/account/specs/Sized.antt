@@ -6,7 +6,7 @@ use Rattle.bench.specs.declared.Bench.{Bench}
 use Rattle.bench.specs.Steps.{outcome}
 use Rattle.account.specs.Told.{channelAt}
 
--- "An event is a four-byte record"
+-- an event is a record of four bytes
 abbrev pub OfBytes : Record → Type 0
 OfBytes (whole kind seat number value) = (kind < 256) × (seat < 256) × (number < 256) × (value < 256)
 OfBytes short = Unit {0}

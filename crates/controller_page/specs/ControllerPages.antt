@@ -1,4 +1,4 @@
--- The page of the controller. docs/TELLING.md has its pieces under "`--show`: the state".
+-- The page of the controller. docs/TELLING.md has its pieces under `--show`: the state.
 use Prim.Native.Nat.{ℕ}
 use mathlib.Core.List.{List, [], _∷_, _++_}
 use lib.ListN.{replicate}

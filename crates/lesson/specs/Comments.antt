@@ -1,7 +1,5 @@
--- Where the comment of a record stands in a text. docs/TELLING.md says, under "The comment":
--- "The comment of a record is the one that follows its last digit on the same line, with nothing but white space between: of several records on
--- a line the last one has it. It begins with its `#` and ends before the first carriage return or line feed, or where the text ends."
--- "A comment on a line of its own belongs to no record, and is not told."
+-- Where the comment of a record stands in a text, by docs/TELLING.md: it follows the last digit of its record on the same line, with nothing but
+-- white space between, so that of several records on a line the last one has it. One on a line of its own belongs to no record.
 use Prim.Native.Nat.{ℕ, suc, _+_, _-_}
 use mathlib.Core.Bool.{Bool, true, false, not, _||_}
 use mathlib.Core.List.{List, [], _∷_}

@@ -1,4 +1,4 @@
--- What moved: "Pieces in this order, each only where it has changed by the record."
+-- What moved: pieces in the order of docs/TELLING.md, each only where it has changed by the record.
 use Prim.Native.Nat.{ℕ}
 use mathlib.Core.Bool.{Bool, not, _&&_}
 use mathlib.Core.List.{List, [], _∷_, _++_}

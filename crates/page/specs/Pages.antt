@@ -11,7 +11,7 @@ use Rattle.page.specs.Pieces.{pieceMost}
 use Rattle.page.specs.Through.{through}
 use Rattle.page.specs.declared.Page.{Page}
 
--- "A page has at most 4096 bytes with the last line feed"
+-- "A page has at most 4096 bytes"
 abbrev pub pageMost : ℕ
 pageMost = 4096
 
@@ -26,7 +26,7 @@ noPage = record { bytes = replicate 4096 0; count = 0; column = 0; first = false
 unfoldable pub columnAfter : ℕ → ℕ → ℕ
 columnAfter column c = pick (eqb c newline) 0 (pick (ltb column pageMost) (column + 1) column)
 
--- with one byte more; "what would stand behind them is left out"
+-- with one byte more; "of what would be more the first 4095 stand, and the line feed"
 unfoldable pub putByte : Page → ℕ → Page
 putByte p c =
     pick (ltb (p .count) pageMost)
@@ -48,7 +48,7 @@ unfoldable pub headed : List ℕ → Page
 headed head =
     record { bytes = put noPage head .bytes; count = put noPage head .count; column = put noPage head .column; first = true }
 
--- "on a new line instead, behind 12 blanks"
+-- "on a new line instead, the first one too, behind 12 blanks and without the `; `"
 abbrev pub indent : List ℕ
 indent = newline ∷ replicate 12 space
 

@@ -1,4 +1,4 @@
--- "LSR, IIR and MSR, each as a read would tell it": what a read of the register answers, whatever the channel is.
+-- LSR, IIR and MSR are told as a read would tell them: what a read of the register answers, whatever the channel is.
 use mathlib.Core.List.{[], _∷_}
 use mathlib.Core.Path.{_≡_}
 use Rattle.base.specs.Answers.{valueOf}

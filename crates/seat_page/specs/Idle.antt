@@ -27,7 +27,7 @@ quietBut overrun kept last =
           };
     }
 
--- "A seat is in use where ..": a sound one that is not in use has nothing else that a state would tell
+-- a sound seat that is not in use has nothing else that a state would tell
 abbrev pub IdleAsAtPowerUp : Type 0
 IdleAsAtPowerUp =
     (s : Seat) → sound s ≡ true → inUse s ≡ false

@@ -1,4 +1,4 @@
--- The page of a seat. docs/TELLING.md has its pieces under "`--show`: the state".
+-- The page of a seat. docs/TELLING.md has its pieces under `--show`: the state.
 use Prim.Native.Nat.{ℕ}
 use mathlib.Core.Bool.{Bool, true, false}
 use mathlib.Core.List.{List, [], _∷_, _++_, map}

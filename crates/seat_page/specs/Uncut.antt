@@ -1,5 +1,4 @@
--- docs/TELLING.md: "A piece has at most 68 characters, and none is cut. A page has at most 4096 bytes: of what would be more the first 4095 stand,
--- and the line feed. That can only be so of a long comment."
+-- No piece of a seat's page has more than the 68 characters of docs/TELLING.md, and the page has room for all of them; so none is cut.
 use Prim.Native.Nat.{ℕ, _^_, _<_}
 use mathlib.Core.Bool.{true}
 use mathlib.Core.Path.{_≡_}
@@ -11,7 +10,7 @@ use Rattle.names.specs.Fits.{AllFit}
 use Rattle.seat.specs.declared.Seat.{Seat}
 use Rattle.seat_page.specs.SeatPages.{seatHead, seatPieces, seatPage}
 
--- what the fields of a seat can hold: sixteen slots, bytes, and ticket 8's "32-bit tallies"
+-- what the fields of a seat can hold: sixteen slots, bytes, and the tallies of 32 bits
 pub record Fields (s : Seat) : Type 0 where
   pub heard : length (s .channel .receiver .queue .slots) ≡ 16
   pub sent : length (s .channel .transmitter .queue .slots) ≡ 16

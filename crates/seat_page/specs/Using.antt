@@ -1,6 +1,6 @@
--- Which seats a state tells of. docs/TELLING.md, "`--show`: the state": "A seat is in use where one of IER, FCR, LCR, MCR,
--- SCRATCH, DLL and DLM is not 0, or a modem level or a change bit is set, or something is in the transmit queue or the shift register, or the
--- holding-empty flag is set, or a character has arrived."
+-- Which seats a state tells of, by docs/TELLING.md: a seat is in use where one of IER, FCR, LCR, MCR, SCRATCH, DLL and DLM is not 0, or a modem
+-- level or a change bit is set, or something is in the transmit queue or the shift register, or the holding-empty flag is set, or a character has
+-- arrived.
 use Prim.Native.Nat.{ℕ}
 use mathlib.Core.Bool.{Bool, not, _||_}
 use lib.Dec.{eqb}

@@ -29,7 +29,7 @@ pub record AsRead (b : Bench) : Type 0 where
   pub service : b .controller .operation .selected ≡ true → controller.shown (b .controller) 0 ≡ sightOf b .service
   pub mask : controller.shown (b .controller) 1 ≡ sightOf b .mask
   pub output : (a : Answer) → bench.shown b a .output ≡ sightOf b .output
-  -- "its interrupt output is line n of one 8259A"
+  -- seat n is line n of the controller
   pub levels : Wired b → (n : ℕ) → n < 8 → bit n (sightOf b .levels) ≡ line (seat b n)
   -- the bits that are told of a number make that number, on a bench that power-up and records can make
   pub lsr-bits : (n : ℕ) → bits (listed 8 (λ k. bit k (lookAt (sightOf b) n .lsr))) ≡ lookAt (sightOf b) n .lsr
