@@ -1,4 +1,4 @@
--- Closed instances of laws, each false under a slip of `must-fail`, which names it.
+-- Closed instances of laws, each false under a slip that no edit makes yet.
 use mathlib.Core.Path.{_≡_, refl}
 use Rattle.base.specs.Pick.{pick}
 use Rattle.base.specs.Bits.{bit}

@@ -1,4 +1,4 @@
--- Closed instances of laws, each false under a slip of `must-fail`, which names it.
+-- Closed instances of laws, each false under a slip. An edit of `must-fail` that makes the slip names it; that of the marks has none yet.
 use mathlib.Core.Bool.{true, false}
 use mathlib.Core.List.{[], _∷_}
 use mathlib.Core.Path.{_≡_, refl}
