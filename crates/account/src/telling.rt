@@ -2,6 +2,7 @@
 use crate::Told;
 use crate::heads;
 use bench::Bench;
+use bench::Outcome;
 use channel::Channel;
 use records::Event;
 use registers::Settings;
@@ -10,6 +11,9 @@ ghost use mathlib.Core.List.{[]};
 ghost use Rattle.records.specs.Events.{whole, short};
 ghost use Rattle.bench.specs.Steps.{outcome};
 ghost use Rattle.account.specs.Told.{channelAt, divisorAt, told};
+
+// A line of the listing has no more bytes.
+const LONGEST_LINE: usize = 31;
 
 fn channel_at(bench: Bench, n: u8) -> Channel
     ensures { λ r. ⌜ r ≡ channelAt bench n ⌝ }
@@ -28,6 +32,22 @@ fn divisor_at(bench: Bench, n: u8) -> bool
     base::bit(Settings::LCR_DIVISOR, channel_at(bench, n).settings.lcr)
 }
 
+// A record as the listing answers it. A program that lists and tells has its step in that one place, where it is compiled into the loop.
+fn answered(bench: Bench, n: u64, kind: u8, seat: u8, number: u8, value: u8) -> Outcome
+    ensures { λ r. ⌜ r ≡ outcome bench (whole kind seat number value) ⌝ }
+{
+    let mut line = [0u8; LONGEST_LINE];
+    let ran = listing::run(bench, n, &[kind, seat, number, value], true, &mut line);
+    let next = ran.bench;
+    let answer = ran.answer;
+    let output = next.controller.output();
+    Outcome {
+        bench: next,
+        answer,
+        output,
+    }
+}
+
 // A record of four bytes, which has this number in the listing.
 pub fn record(
     bench: Bench,
@@ -42,7 +62,7 @@ pub fn record(
 {
     let before = channel_at(bench, seat);
     let divisor = divisor_at(bench, seat);
-    let stepped = bench.step(kind, seat, number, value);
+    let stepped = answered(bench, n, kind, seat, number, value);
     let next = stepped.bench;
     let answer = stepped.answer;
     let head = heads::begun(n, answer, stepped.output);

@@ -69,8 +69,8 @@ pub(crate) fn begin(place: usize, used: u8, bench: Bench) -> i32 {
     make(&name[..end], used, bench)
 }
 
-// A timeline that is not whole is removed.
-fn remove(file: i32) {
+// The file is given its name where it is whole, and is removed where it is not.
+fn leave(file: i32, whole: bool) {
     let mut word = words::long_word();
     let mut name = io::buffer();
     let words = words::read();
@@ -80,6 +80,10 @@ fn remove(file: i32) {
     }
     let end = saves::put_name(&word[..length], &mut name);
     libc::close(file);
+    if whole {
+        saves::rename(&word[..length], &name[..end]);
+        return;
+    }
     os::unlink(&name[..end]);
 }
 
@@ -96,7 +100,7 @@ pub(crate) fn step(telling: Telling, number: u64, before: Sight, bench: Bench) -
         return file;
     }
     told::no_timeline();
-    remove(file);
+    leave(file, false);
     NONE
 }
 
@@ -104,7 +108,7 @@ pub(crate) fn abandon(file: i32) {
     if file < 0 {
         return;
     }
-    remove(file);
+    leave(file, false);
 }
 
 fn is_ended(file: i32, number: u64) -> bool
@@ -116,29 +120,15 @@ fn is_ended(file: i32, number: u64) -> bool
     libc::fsync(file) == 0
 }
 
-fn give_name() {
-    let mut word = words::long_word();
-    let mut name = io::buffer();
-    let words = words::read();
-    let length = os::arg(words.place_of(TIMELINE), &mut word);
-    if saves::LONGEST < length {
-        return;
-    }
-    let end = saves::put_name(&word[..length], &mut name);
-    saves::rename(&word[..length], &name[..end]);
-}
-
 pub(crate) fn finish(file: i32, number: u64)
     requires { ⌜ number ≤ 1152921504606846976 ⌝ }
 {
     if file < 0 {
         return;
     }
-    if !is_ended(file, number) {
+    let whole = is_ended(file, number);
+    if !whole {
         told::no_timeline();
-        remove(file);
-        return;
     }
-    libc::close(file);
-    give_name();
+    leave(file, whole);
 }

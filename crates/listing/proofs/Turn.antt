@@ -12,6 +12,7 @@ use lib.ListN.{length, take, drop, getD, length-append, drop-of-length-le}
 use lib.Seq.{sets, length-sets, take-suc, drop-cons, length-take-le}
 use borrow.Author.Tests.{le-ltb, lt-ltb, le-leb, lt-leb, leb-true, leb-false}
 use Rattle.base.specs.declared.Answer.{Answer}
+use Rattle.base.specs.declared.Answer.the-variants.{Done}
 use Rattle.base.specs.Pick.{pick}
 use Rattle.base.specs.PickLaws.{pick-true, pick-false}
 use Rattle.records.specs.Events.{Record, short}
@@ -23,8 +24,8 @@ use Rattle.text.specs.Front.{front, lineAfter, rest}
 use Rattle.text.specs.Line.{longest, Put, Puts}
 use Rattle.text.specs.LineLaws.{line-some, puts-after}
 use Rattle.base.specs.StoreLaws.{sets-append}
-use Rattle.listing.specs.Run.{lineOf, listing, answered, fits, numberEnd, recordsOf, Runs}
-use Rattle.listing.specs.RunLaws.{listing-parts, record-count, record-inside}
+use Rattle.listing.specs.Run.{lineOf, listing, answered, fits, lastAnswer, numberEnd, recordsOf, Runs}
+use Rattle.listing.specs.RunLaws.{listing-parts, last-answer, record-count, record-inside}
 use Rattle.listing.specs.Places.{roomAt, recordCount}
 
 -- a place that did not move tells that there was no room, and one that moved that there was
@@ -45,8 +46,9 @@ pub told-put : (b : Bench) (r : Record) (l : List ℕ) (n : ℕ) (a : Answer) (o
 told-put b r l n a o d d′ w next is small told p = rw (← told .0, ← told .1) (puts-after l n a o d d′ w next is (omega arith) p)
 
 -- what holds after k of the records rs, of which the first has number n, from the bench b₀ and the buffer d₀
-pub record Turn (b₀ : Bench) (n : ℕ) (rs : List Record) (d₀ : List ℕ) (b : Bench) (d : List ℕ) (w k : ℕ) : Type 0 where
+pub record Turn (b₀ : Bench) (n : ℕ) (rs : List Record) (d₀ : List ℕ) (b : Bench) (d : List ℕ) (w k : ℕ) (a : Answer) : Type 0 where
   pub bench : b ≡ afterAll b₀ (take k rs)
+  pub answer : a ≡ lastAnswer b₀ Done (take k rs)
   pub written : w ≡ length (listing b₀ n (take k rs))
   pub bytes : d ≡ sets d₀ 0 (listing b₀ n (take k rs))
   pub left : answered b₀ n rs (length d₀) ≡ k + answered b (n + k) (drop k rs) (length d₀ - w)
@@ -54,10 +56,11 @@ pub record Turn (b₀ : Bench) (n : ℕ) (rs : List Record) (d₀ : List ℕ) (b
   pub inside : w ≤ length d₀
   pub short : w ≤ longest * k
 
-pub start : (b : Bench) (n : ℕ) (rs : List Record) (d : List ℕ) → Turn b n rs d b d 0 0
+pub start : (b : Bench) (n : ℕ) (rs : List Record) (d : List ℕ) → Turn b n rs d b d 0 0 Done
 unfolding listing
 start b n rs d = record {
   bench = refl;
+  answer = refl;
   written = refl;
   bytes = refl;
   left = rw (zero-add, add-zero, sub-zero);
@@ -71,7 +74,7 @@ pub record Full (b₀ : Bench) (n : ℕ) (rs : List Record) (d₀ : List ℕ) (k
   pub told : answered b₀ n rs (length d₀) ≡ k
   pub narrow : longest * length rs ≤ length d₀ → ⊥
 
-module _ (b₀ : Bench) (n : ℕ) (rs : List Record) (d₀ : List ℕ) (b : Bench) (d d′ : List ℕ) (w k : ℕ) (r : Record) (next : ℕ) (t : Turn b₀ n rs d₀ b d w k)
+module _ (b₀ : Bench) (n : ℕ) (rs : List Record) (d₀ : List ℕ) (b : Bench) (d d′ : List ℕ) (w k : ℕ) (r : Record) (next : ℕ) (a : Answer) (t : Turn b₀ n rs d₀ b d w k a)
     (p : Puts (n + k) (outcome b r .answer) (outcome b r .output) d d′ w next) (more : k < length rs) (is : getD rs k short ≡ r) where
   abbrev size : ℕ
   size = length (lineOf b (n + k) r)
@@ -90,6 +93,9 @@ module _ (b₀ : Bench) (n : ℕ) (rs : List Record) (d₀ : List ℕ) (b : Benc
 
   bench-more : afterAll b₀ (take (k + 1) rs) ≡ outcome b r .bench
   bench-more = rw (one-more, after-parts, ← t .bench)
+
+  answer-more : lastAnswer b₀ Done (take (k + 1) rs) ≡ outcome b r .answer
+  answer-more = rw (one-more, last-answer, ← t .bench)
 
   module _ (moved : next ≡ w → ⊥) (small : n + k < numberEnd) where
     yes : roomAt b (n + k) r d w ≡ true
@@ -114,9 +120,10 @@ module _ (b₀ : Bench) (n : ℕ) (rs : List Record) (d₀ : List ℕ) (b : Benc
         rw (lt-ltb (n + k) numberEnd small) (le-leb size (length d₀ - w) (omega arith)) in
         pick-true _ _ _ it-fits
 
-    pub turn : Turn b₀ n rs d₀ (outcome b r .bench) d′ next (k + 1)
+    pub turn : Turn b₀ n rs d₀ (outcome b r .bench) d′ next (k + 1) (outcome b r .answer)
     turn = record {
       bench = sym bench-more;
+      answer = sym answer-more;
       written = rw (listing-more, length-append, ← t .written) next-is;
       bytes = rw (listing-more, sets-append (listing b₀ n (take k rs)), zero-add, ← t .bytes, ← t .written) bytes-is;
       left =
@@ -150,7 +157,7 @@ module _ (b₀ : Bench) (n : ℕ) (rs : List Record) (d₀ : List ℕ) (b : Benc
         rw (lt-leb size (length d₀ - w) (omega arith)) (and-false (ltb (n + k) numberEnd)) in
         t .left ∙ rw (next-up, pick-false _ _ _ it-does-not) (add-zero k)
 
-    pub full : Turn b₀ n rs d₀ b d′ w k × Full b₀ n rs d₀ k
+    pub full : Turn b₀ n rs d₀ b d′ w k a × Full b₀ n rs d₀ k
     full =
         let e : length d ≡ length d₀ = t .same in
         let f : length d < w + size = leb-false (w + size) (length d) no in
@@ -177,10 +184,10 @@ ahead last s n end k e less =
     (omega arith, record-inside last (length s) k there, omega arith)
 
 -- at the end of the records, or of the numbers, all are answered that could be
-over : (b₀ : Bench) (n : ℕ) (rs : List Record) (d₀ : List ℕ) (b : Bench) (d : List ℕ) (w k : ℕ)
-    → Turn b₀ n rs d₀ b d w k → k ≡ min (length rs) (numberEnd - n) → answered b₀ n rs (length d₀) ≡ k
+over : (b₀ : Bench) (n : ℕ) (rs : List Record) (d₀ : List ℕ) (b : Bench) (d : List ℕ) (w k : ℕ) (a : Answer)
+    → Turn b₀ n rs d₀ b d w k a → k ≡ min (length rs) (numberEnd - n) → answered b₀ n rs (length d₀) ≡ k
 unfolding answered
-over b₀ n rs d₀ b d w k t at-end =
+over b₀ n rs d₀ b d w k a t at-end =
     let within : k ≤ length rs = omega arith in
     ⊎-elim
     (λ (e : k ≡ length rs).
@@ -191,15 +198,16 @@ over b₀ n rs d₀ b d w k t at-end =
     t .left ∙ rw (drop-cons rs k short less, it-does-not, pick-false) (add-zero k))
     (eq-or-lt-of-le within)
 
-module _ (b₀ : Bench) (n : ℕ) (s : List ℕ) (last : Bool) (d₀ : List ℕ) (b : Bench) (d : List ℕ) (w end k : ℕ) (t : Turn b₀ n (recordsOf last s) d₀ b d w k) where
+module _ (b₀ : Bench) (n : ℕ) (s : List ℕ) (last : Bool) (d₀ : List ℕ) (b : Bench) (d : List ℕ) (w end k : ℕ) (a : Answer) (t : Turn b₀ n (recordsOf last s) d₀ b d w k a) where
   -- the answer of a run that ends after k records
   finished : answered b₀ n (recordsOf last s) (length d₀) ≡ k
       → (longest * length (recordsOf last s) ≤ length d₀ → n + length (recordsOf last s) ≤ numberEnd → k ≡ length (recordsOf last s))
-      → Runs b₀ n s last d₀ d (record { bench = b; records = k; used = min (4 * k) (length s); written = w })
+      → Runs b₀ n s last d₀ d (record { bench = b; answer = a; records = k; used = min (4 * k) (length s); written = w })
   finished e enough = record {
     records = sym e;
     used = refl;
     bench = rw e (t .bench);
+    answer = rw e (t .answer);
     written = rw e (t .written);
     bytes = rw e (t .bytes);
     inside = t .inside;
@@ -207,8 +215,8 @@ module _ (b₀ : Bench) (n : ℕ) (s : List ℕ) (last : Bool) (d₀ : List ℕ)
   }
 
   pub ended : Until b₀ n (recordsOf last s) d₀ end k → k ≤ end → end ≤ k
-      → Runs b₀ n s last d₀ d (record { bench = b; records = k; used = min (4 * k) (length s); written = w })
+      → Runs b₀ n s last d₀ d (record { bench = b; answer = a; records = k; used = min (4 * k) (length s); written = w })
   ended (inl e) within over-it =
       let at-end : k ≡ min (length (recordsOf last s)) (numberEnd - n) = omega arith in
-      finished (over b₀ n (recordsOf last s) d₀ b d w k t at-end) (λ long fit. at-end ∙ omega arith)
+      finished (over b₀ n (recordsOf last s) d₀ b d w k a t at-end) (λ long fit. at-end ∙ omega arith)
   ended (inr f) within over-it = finished (f .1 .told) (λ long fit. absurd (f .1 .narrow long))

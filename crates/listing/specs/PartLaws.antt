@@ -85,6 +85,7 @@ runs-one b n s last d d₁ d₂ r₁ r₂ p q =
     let u : r₁ .used ≡ r₂ .used = p .used ∙ ap (λ (k : ℕ). min (4 * k) (length s)) e ∙ sym (q .used) in (
       λ i. record {
         bench = (p .bench ∙ sym (q .bench)) i;
+        answer = (p .answer ∙ sym (q .answer)) i;
         records = e i;
         used = u i;
         written = (p .written ∙ sym (q .written)) i;

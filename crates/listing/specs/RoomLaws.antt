@@ -9,10 +9,13 @@ use lib.Dec.{ltb, leb}
 use lib.ListN.{length, take, drop, length-append, drop-of-length-le}
 use borrow.Author.Tests.{lt-ltb, le-leb, lt-leb, leb-true, ltb-true, ltb-false}
 use Rattle.base.specs.PickLaws.{pick-true, pick-false, pick-cases, both-hold, either-way}
-use Rattle.records.specs.Events.{Record}
+use Rattle.base.specs.declared.Answer.the-variants.{Done}
+use Rattle.records.specs.Events.{Record, whole}
+use Rattle.bench.specs.Runs.{afterAll}
 use Rattle.bench.specs.Steps.{outcome}
 use Rattle.bench.specs.declared.Bench.{Bench}
-use Rattle.listing.specs.Run.{recordsOf, lineOf, listing, fits, answered, numberEnd, Runs}
+use Rattle.text.specs.Line.{longest}
+use Rattle.listing.specs.Run.{recordsOf, lineOf, listing, fits, answered, lastAnswer, numberEnd, Runs}
 use Rattle.listing.specs.RunLaws.{record-count, record-inside}
 use Rattle.listing.specs.PartLaws.{records-left}
 use Rattle.listing.specs.declared.Ran.{Ran}
@@ -76,3 +79,15 @@ rest-left b n s last d d′ r p = (
       ∙ sym (drop-of-length-le (recordsOf last s) (all-of last s (r .records) all)))
       (either-way (ltb (4 * r .records) (length s))),
 )
+
+-- one record of four bytes, with room for the longest line: it is answered, by the bench as it was
+pub one-answered : (b : Bench) (n : ℕ) (kind seat number value : ℕ) (last : Bool) (d d′ : List ℕ) (r : Ran) → n < numberEnd → longest ≤ length d
+    → Runs b n (kind ∷ seat ∷ number ∷ value ∷ []) last d d′ r
+    → (r .bench ≡ outcome b (whole kind seat number value) .bench) × (r .answer ≡ outcome b (whole kind seat number value) .answer)
+unfolding recordsOf
+one-answered b n kind seat number value last d d′ r small wide p =
+    let rs = whole kind seat number value ∷ [] in
+    let one : answered b n rs (length d) ≡ 1 = sym (p .records) ∙ p .enough (omega arith) (omega arith) in (
+      p .bench ∙ ap (λ (k : ℕ). afterAll b (take k rs)) one,
+      p .answer ∙ ap (λ (k : ℕ). lastAnswer b Done (take k rs)) one,
+    )

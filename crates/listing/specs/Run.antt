@@ -7,6 +7,8 @@ use lib.Dec.{ltb, leb}
 use lib.ListN.{length, take}
 use lib.Seq.{sets}
 use Rattle.base.specs.Pick.{pick}
+use Rattle.base.specs.declared.Answer.{Answer}
+use Rattle.base.specs.declared.Answer.the-variants.{Done}
 use Rattle.records.specs.Events.{Record, whole, short}
 use Rattle.bench.specs.Runs.{afterAll}
 use Rattle.bench.specs.Seats.{powerUp}
@@ -62,11 +64,17 @@ answered b n (r ∷ rest) room =
 abbrev pub answeredOf : Bench → ℕ → List Record → ℕ → List Record
 answeredOf b n rs room = take (answered b n rs room) rs
 
+-- what the last of some records is answered with; where there is none, what was answered before them
+abbrev pub lastAnswer : Bench → Answer → List Record → Answer
+lastAnswer b before [] = before
+lastAnswer b before (r ∷ rest) = lastAnswer (outcome b r .bench) (outcome b r .answer) rest
+
 -- a run over the bytes s into a buffer that was d and is d′ then: the bytes that are not written stay
 pub record Runs (b : Bench) (n : ℕ) (s : List ℕ) (last : Bool) (d d′ : List ℕ) (r : Ran) : Type 0 where
   pub records : r .records ≡ answered b n (recordsOf last s) (length d)
   pub used : r .used ≡ min (4 * r .records) (length s)
   pub bench : r .bench ≡ afterAll b (answeredOf b n (recordsOf last s) (length d))
+  pub answer : r .answer ≡ lastAnswer b Done (answeredOf b n (recordsOf last s) (length d))
   pub written : r .written ≡ length (listing b n (answeredOf b n (recordsOf last s) (length d)))
   pub bytes : d′ ≡ sets d 0 (listing b n (answeredOf b n (recordsOf last s) (length d)))
   pub inside : r .written ≤ length d

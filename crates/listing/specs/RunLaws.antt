@@ -11,11 +11,12 @@ use borrow.Author.Tests.{le-ltb, eqb-false}
 use mathlib.Core.Logic.{⊎-elim}
 use Rattle.base.specs.Pick.{pick}
 use Rattle.base.specs.PickLaws.{pick-false, pick-through, either-way}
+use Rattle.base.specs.declared.Answer.{Answer}
 use Rattle.records.specs.Events.{Record, short}
 use Rattle.bench.specs.Runs.{afterAll}
 use Rattle.bench.specs.Steps.{outcome}
 use Rattle.bench.specs.declared.Bench.{Bench}
-use Rattle.listing.specs.Run.{recordsOf, listing, lineOf}
+use Rattle.listing.specs.Run.{recordsOf, listing, lineOf, lastAnswer}
 use Rattle.listing.specs.Places.{recordAt, recordCount}
 
 pub listing-parts : (b : Bench) (n : ℕ) (xs ys : List Record)
@@ -27,6 +28,11 @@ listing-parts b n (r ∷ xs) ys =
     ap (λ (l : List ℕ). lineOf b n r ++ l) (listing-parts (outcome b r .bench) (suc n) xs ys)
     ∙ sym (append-assoc (lineOf b n r) _ _)
     ∙ ap (λ (m : ℕ). listing b n (r ∷ xs) ++ listing (afterAll (outcome b r .bench) xs) m ys) e
+
+-- the last record is answered by the bench behind those before it
+pub last-answer : (b : Bench) (a : Answer) (rs : List Record) (r : Record) → lastAnswer b a (rs ++ (r ∷ [])) ≡ outcome (afterAll b rs) r .answer
+last-answer b a [] r = refl
+last-answer b a (s ∷ rs) r = last-answer (outcome b s .bench) (outcome b s .answer) rs r
 
 -- ---- the record at a place
 

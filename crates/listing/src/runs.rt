@@ -2,6 +2,7 @@
 use crate::RECORD_BYTES;
 use crate::Ran;
 use crate::held;
+use base::Answer;
 use bench::Bench;
 ghost use mathlib.Core.Path.{_≡_};
 ghost use Prim.Native.Nat.{_-_, _*_, min};
@@ -52,6 +53,7 @@ pub fn run(mut bench: Bench, n: u64, input: &[u8], last: bool, out: &mut [u8]) -
     let mut place: usize = 0;
     let mut front = [0u8; 20];
     let mut digits = text::put_front(&mut front, n);
+    let mut latest = Answer::Done;
     while k < end {
         let m = n + k as u64;
         digits = keep_front(&mut front, digits, m);
@@ -72,12 +74,14 @@ pub fn run(mut bench: Bench, n: u64, input: &[u8], last: bool, out: &mut [u8]) -
             bench.seats[at] = stood;
             bench.controller = moved;
             place = next;
+            latest = answer;
             k += 1;
         }
     }
     let used = used(k, input.len());
     Ran {
         bench,
+        answer: latest,
         records: k,
         used,
         written: place,

@@ -11,11 +11,8 @@ ghost use Rattle.text.specs.Front.{front};
 pub fn capital(number: u32) -> u8
     ensures { λ r. ⌜ r ≡ Line·capital (number % 16) ⌝ }
 {
-    let digit = (number % 16) as u8;
-    if digit < 10 {
-        return b'0' + digit;
-    }
-    b'A' - 10 + digit
+    let digits = b"0123456789ABCDEF";
+    digits[(number % 16) as usize]
 }
 
 // The number of decimal digits.

@@ -12,8 +12,8 @@ channel-at-requires c κs = search needs
 divisor-at-requires : tie.Need-divisor-at-requires
 divisor-at-requires c κs = search needs
 
-step-requires : tie.Need-step-requires
-step-requires c κs = search needs
+answered-requires : tie.Need-answered-requires
+answered-requires c κs = search needs
 
 begun-requires : tie.Need-begun-requires
 begun-requires c κs = search needs
@@ -50,7 +50,7 @@ end-requires c κs = search needs
 
 returns : tie.Need-returns
 unfolding told
-returns c = (ap (λ (o : Outcome). o .bench) (c .before .before .before .before .before .before .before .before .before .before .before .before .step .ensures), simp (c .end .ensures, c .before .comment .ensures, c .before .before .at-controller .ensures, c .before .before .before .at-seat .ensures, c .before .before .before .before .channel-at2 .ensures, c .before .before .before .before .before .join2 .ensures, c .before .before .before .before .before .before .join .ensures, c .before .before .before .before .before .before .before .came .ensures, c .before .before .before .before .before .before .before .before .done .ensures, c .before .before .before .before .before .before .before .before .before .is-empty .ensures, c .before .before .before .before .before .before .before .before .before .before .begun .ensures, c .before .before .before .before .before .before .before .before .before .before .before .before .step .ensures, c .before .before .before .before .before .before .before .before .before .before .before .before .before .divisor-at .ensures, c .before .before .before .before .before .before .before .before .before .before .before .before .before .before .channel-at .ensures, joined-piece, joined-all))
+returns c = (ap (λ (o : Outcome). o .bench) (c .before .before .before .before .before .before .before .before .before .before .before .before .answered .ensures), simp (c .end .ensures, c .before .comment .ensures, c .before .before .at-controller .ensures, c .before .before .before .at-seat .ensures, c .before .before .before .before .channel-at2 .ensures, c .before .before .before .before .before .join2 .ensures, c .before .before .before .before .before .before .join .ensures, c .before .before .before .before .before .before .before .came .ensures, c .before .before .before .before .before .before .before .before .done .ensures, c .before .before .before .before .before .before .before .before .before .is-empty .ensures, c .before .before .before .before .before .before .before .before .before .before .begun .ensures, c .before .before .before .before .before .before .before .before .before .before .before .before .answered .ensures, c .before .before .before .before .before .before .before .before .before .before .before .before .before .divisor-at .ensures, c .before .before .before .before .before .before .before .before .before .before .before .before .before .before .channel-at .ensures, joined-piece, joined-all))
 
 pub record-spec : {M : Type 1} → statement M
 record-spec =
@@ -58,7 +58,7 @@ record-spec =
     (tie.spec
     channel-at-requires
     divisor-at-requires
-    step-requires
+    answered-requires
     begun-requires
     is-empty-requires
     done-requires

@@ -21,11 +21,11 @@ use Rattle.listing.proofs.runs.run.Statement.{statement}
 use Rattle.listing.proofs.runs.run.Tie as tie
 
 abbrev Inv-loop : tie.InvT-loop
-Inv-loop n input last out₀ bench₀ end₀ k₀ place₀ front₀ digits₀ out bench end k place front digits =
-    (k ≤ end) × Turn bench₀ n (recordsOf last input) out₀ bench out place k × Stays front digits (n + k) × Until bench₀ n (recordsOf last input) out₀ end k
+Inv-loop n input last out₀ bench₀ end₀ k₀ place₀ front₀ digits₀ latest₀ out bench end k place front digits latest =
+    (k ≤ end) × Turn bench₀ n (recordsOf last input) out₀ bench out place k latest × Stays front digits (n + k) × Until bench₀ n (recordsOf last input) out₀ end k
 
 abbrev μ-loop : tie.MeasureT-loop
-μ-loop n input last out₀ bench₀ end₀ k₀ place₀ front₀ digits₀ out bench end k place front digits = end - k
+μ-loop n input last out₀ bench₀ end₀ k₀ place₀ front₀ digits₀ latest₀ out bench end k place front digits latest = end - k
 
 record-count-requires : tie.Need-record-count-requires Inv-loop μ-loop
 record-count-requires c κs = tt
@@ -97,13 +97,19 @@ met : (c : tie.After-slice-known2 Inv-loop μ-loop)
     c .before .before .before .before .before .before .before .meet .result ≡ parted (getD (i .bench .seats) (c .before .before .before .before .before .before .before .before .before .before .record-at .result .chair) noSeat) (i .bench .controller) (recordAt (c .before .before .before .before .before .before .before .before .before .before .before .before .before .before .before .before .before .before .before .before .before .args .input .now) (4 * i .k)))
 met c = c .before .before .before .before .before .before .before .meet .ensures ∙ ap (parted _ _) (c .before .before .before .before .before .before .before .before .before .before .record-at .ensures .is)
 
+-- its answer and the output after it
+told : (c : tie.After-slice-known2 Inv-loop μ-loop)
+    → (let a = c .before .before .before .before .before .before .before .before .before .before .before .before .before .before .before .before .before .before .before .before .before .args in let i = c .before .before .before .before .before .before .before .before .before .before .before .before .before .before .loop in let o = outcome (i .bench) (recordAt (a .input .now) (4 * i .k)) in
+    (c .before .before .before .before .before .before .before .meet .result .answer ≡ o .answer) × (c .before .before .before .before .before .output .result ≡ o .output))
+told c = parts-told _ _ _ _ _ _ refl (c .before .before .before .before .before .before .before .before .before .before .record-at .ensures .at) (met c) (c .before .before .before .before .before .output .ensures)
+
 -- its line, as the run is asked for it
 put : (c : tie.After-slice-known2 Inv-loop μ-loop)
     → (let a = c .before .before .before .before .before .before .before .before .before .before .before .before .before .before .before .before .before .before .before .before .before .args in let i = c .before .before .before .before .before .before .before .before .before .before .before .before .before .before .loop in let o = outcome (i .bench) (recordAt (a .input .now) (4 * i .k)) in
     Puts (a .n + i .k) (o .answer) (o .output) (i .out) (c .before .before .put-after .last .0) (i .place) (c .before .before .put-after .result))
 put c =
     told-put _ _ _ _ _ _ _ _ _ _ (c .before .before .before .before .before .before .before .before .before .before .before .keep-front .ensures .shown) (next (c .before .before .before .before .before .before .before .before .before .before .before .before .before) .2)
-    (parts-told _ _ _ _ _ _ refl (c .before .before .before .before .before .before .before .before .before .before .record-at .ensures .at) (met c) (c .before .before .before .before .before .output .ensures)) (c .before .before .put-after .ensures)
+    (told c) (c .before .before .put-after .ensures)
 
 -- and that it is the next of the input's records
 stands : (c : tie.After-slice-known2 Inv-loop μ-loop)
@@ -117,7 +123,7 @@ loop-again : tie.Need-loop-again Inv-loop μ-loop
 loop-again c =
     let i = c .before .before .before .before .before .before .before .before .before .before .before .before .before .before .before .loop in
     let kept = c .before .before .before .before .before .before .before .before .before .before .before .before .keep-front .ensures in
-    let stop = full _ _ _ _ _ _ _ _ _ _ _ (i .inv .1) (put (c .before)) (next (c .before .before .before .before .before .before .before .before .before .before .before .before .before .before) .0) (stands (c .before)) (c .if1 .taken) in
+    let stop = full _ _ _ _ _ _ _ _ _ _ _ _ (i .inv .1) (put (c .before)) (next (c .before .before .before .before .before .before .before .before .before .before .before .before .before .before) .0) (stands (c .before)) (c .if1 .taken) in
     (omega arith, stop .0, record { size = kept .size; fronts = λ within. kept }, inr (refl, stop .1))
 
 reset-all-requires : tie.Need-reset-all-requires Inv-loop μ-loop
@@ -141,13 +147,13 @@ loop-again-2 c =
     let i = c .before .before .before .before .before .before .before .before .before .before .before .before .before .before .before .before .before .loop in
     let h = next (c .before .before .before .before .before .before .before .before .before .before .before .before .before .before .before .before) in
     let held = c .before .before .before .before .before .before .before .before .before .before .before .before .before .record-at .ensures in
-    let turned = turn _ _ _ _ _ _ _ _ _ _ _ (i .inv .1) (put (c .before .before .before)) (h .0) (stands (c .before .before .before)) (c .before .before .if1 .left) (h .2) in
+    let turned = turn _ _ _ _ _ _ _ _ _ _ _ _ (i .inv .1) (put (c .before .before .before)) (h .0) (stands (c .before .before .before)) (c .before .before .if1 .left) (h .2) in
     let stored =
     either-stored (i .bench) (c .before .if2 .bench) _ _ _ _ refl (held .at) (met (c .before .before .before)) (c .before .if2 .came)
     (λ p. (sym (held .reset) ∙ p .0 .taken, ap (λ (b : Bench). b .seats) (p .3) ∙ p .2 .ensures))
     (λ p. (sym (held .reset) ∙ p .0 .left, ap (λ (b : Bench). b .seats) (p .1))) in (
       omega (arith, c .before .before .before .before .before .before .before .before .before .before .before .before .before .before .before .before .loop-test .taken),
-      rw stored turned,
+      rw (stored, told (c .before .before .before) .0) turned,
       rw (← add-assoc (a .n) (i .k) 1) (fronts-stay _ _ _ (c .before .before .before .before .before .before .before .before .before .before .before .before .before .before .keep-front .ensures)),
       inl (until (c .before .before .before .before .before .before .before .before .before .before .before .before .before .before .before .before)),
     )
@@ -161,7 +167,7 @@ same-length c = c .before .before .loop .inv .1 .same
 returns : tie.Need-returns Inv-loop μ-loop
 returns c =
     let i = c .before .before .loop in
-    rw (c .used .ensures) (ended _ _ _ _ _ _ _ _ _ _ (i .inv .1) (i .inv .3) (i .inv .0) (c .before .loop-test .left))
+    rw (c .used .ensures) (ended _ _ _ _ _ _ _ _ _ _ _ (i .inv .1) (i .inv .3) (i .inv .0) (c .before .loop-test .left))
 
 pub run-spec : {M : Type 1} → statement M
 run-spec =

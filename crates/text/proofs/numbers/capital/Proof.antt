@@ -1,29 +1,23 @@
-use Rattle.base.specs.PickLaws.{pick-true, pick-false}
-use borrow.Author.Tests.{lt-ltb, le-ltb}
+use Prim.Native.Nat.{ℕ, _%_}
+use native.Mathlib.Omega.{arith}
+use lib.ListN.{getD}
+use Rattle.base.specs.Pick.{pick}
+use Rattle.base.specs.EveryLaws.{equal-at}
 use Rattle.text.specs.Line.{capital}
+use Rattle.text.specs.Quoted.{quoted}
 use borrow.Author.Needs.{needs}
 use Rattle.text.proofs.numbers.capital.Statement.{statement}
 use Rattle.text.proofs.numbers.capital.Tie as tie
 
-cast-digit : tie.Need-cast-digit
-cast-digit c = search needs
+cast-result : tie.Need-cast-result
+cast-result c = search needs
 
-add-result : tie.Need-add-result
-add-result c = search needs
+element-copy-out-result : tie.Need-element-copy-out-result
+element-copy-out-result c = search needs
 
 returns : tie.Need-returns
-unfolding capital
-returns c = simp (lt-ltb _ 10 (c .if1 .taken), pick-true)
-
-sub-result : tie.Need-sub-result
-sub-result c = search needs
-
-add-result-2 : tie.Need-add-result-2
-add-result-2 c = search needs
-
-returns-2 : tie.Need-returns-2
-unfolding capital
-returns-2 c = simp (le-ltb _ 10 (c .if1 .left), pick-false)
+unfolding capital pick
+returns c = equal-at 16 (λ (digit : ℕ). getD (quoted "0123456789ABCDEF") digit 0) capital tt (c .before .before .args .number % 16) (omega arith)
 
 pub capital-spec : {M : Type 1} → statement M
-capital-spec = tie.close (tie.spec cast-digit add-result returns sub-result add-result-2 returns-2)
+capital-spec = tie.close (tie.spec cast-result element-copy-out-result returns)

@@ -2,8 +2,9 @@ use mathlib.Core.Path.{sym}
 use native.Mathlib.Omega.{arith}
 use lib.Seq.{length-take-le}
 use borrow.Author.Needs.{needs}
-use Rattle.bench_main.proofs.timelines.remove.Statement.{statement}
-use Rattle.bench_main.proofs.timelines.remove.Tie as tie
+use Rattle.bench_main.proofs.timelines.leave.Statement.{statement}
+use Rattle.bench_main.proofs.timelines.leave.Tie as tie
+use Rattle.bench_main.proofs.timelines.leave.Reads as reads
 
 long-word-requires : tie.Need-long-word-requires
 long-word-requires c κs = search needs
@@ -41,20 +42,38 @@ put-name-requires c κs = search needs
 close-requires : tie.Need-close-requires
 close-requires c κs = search needs
 
+array-share-prefix-word-2 : tie.Need-array-share-prefix-word-2
+array-share-prefix-word-2 c = search needs
+
+slice-aggregate-rename : tie.Need-slice-aggregate-rename
+slice-aggregate-rename c = search needs
+
 array-share-prefix-name : tie.Need-array-share-prefix-name
 array-share-prefix-name c = search needs
 
-slice-aggregate-unlink : tie.Need-slice-aggregate-unlink
-slice-aggregate-unlink c = sym (length-take-le _ _ (omega (arith, c .before .before .before .put-name .ensures, c .before .before .before .put-name .kept)))
+slice-aggregate-rename-2 : tie.Need-slice-aggregate-rename-2
+slice-aggregate-rename-2 c = sym (length-take-le _ _ (omega (arith, c .before .before .before .before .before .put-name .ensures, c .before .before .before .before .before .put-name .kept)))
 
-unlink-requires : tie.Need-unlink-requires
-unlink-requires c κs = search needs
+rename-requires : tie.Need-rename-requires
+rename-requires c κs = search needs
 
 returns-2 : tie.Need-returns-2
 returns-2 c = search needs
 
-pub remove-spec : {M : Type 1} → statement M
-remove-spec =
+array-share-prefix-name-2 : tie.Need-array-share-prefix-name-2
+array-share-prefix-name-2 c = search needs
+
+slice-aggregate-unlink : tie.Need-slice-aggregate-unlink
+slice-aggregate-unlink c = sym (length-take-le _ _ (omega (arith, c .before .before .before .before .put-name .ensures, c .before .before .before .before .put-name .kept)))
+
+unlink-requires : tie.Need-unlink-requires
+unlink-requires c κs = search needs
+
+returns-3 : tie.Need-returns-3
+returns-3 c = search needs
+
+pub leave-spec : {M : Type 1} → statement M
+leave-spec =
     tie.close
     (tie.spec
     long-word-requires
@@ -69,7 +88,13 @@ remove-spec =
     slice-aggregate-put-name-2
     put-name-requires
     close-requires
+    array-share-prefix-word-2
+    slice-aggregate-rename
     array-share-prefix-name
+    slice-aggregate-rename-2
+    rename-requires
+    returns-2
+    array-share-prefix-name-2
     slice-aggregate-unlink
     unlink-requires
-    returns-2)
+    returns-3)
