@@ -1,4 +1,6 @@
 """What the scripts that run the programs share: the toolchain, and how its programs run on this machine."""
+import contextlib
+import fcntl
 import os
 import platform
 import subprocess
@@ -20,9 +22,21 @@ def find_rt():
     return Path(found.stdout.strip())
 
 
+@contextlib.contextmanager
+def turn(root):
+    """One build of a repository at a time, as take_turn of tools/shell.sh has it."""
+    folder = os.open(root / "crates", os.O_RDONLY)
+    try:
+        fcntl.flock(folder, fcntl.LOCK_EX)
+        yield folder
+    finally:
+        os.close(folder)
+
+
 def build(words, root=ROOT):
     """Has rt prove and build something of a repository."""
-    built = subprocess.run([find_rt(), *words], cwd=root, stdout=subprocess.PIPE, stderr=subprocess.STDOUT)
+    with turn(root) as held:
+        built = subprocess.run([find_rt(), *words], cwd=root, stdout=subprocess.PIPE, stderr=subprocess.STDOUT, pass_fds=[held])
     if built.returncode:
         sys.stderr.buffer.write(built.stdout)
         stop(f"rt {' '.join(words)} failed")

@@ -61,6 +61,13 @@ class Edits(Room):
             self.write(LOG, log)
             self.assertEqual(self.run_it(), (0, ""))
 
+    def test_a_text_is_a_value(self):
+        self.write(LOG, FALSE_LIST)
+        self.write("crates/lamp/proofs/Slips.antt", SLIPS.replace("0x200", "quoted word ∷ []"))
+        self.fails("names `is-lit`")
+        self.write("crates/lamp/proofs/Slips.antt", SLIPS.replace("0x200", 'quoted "lit" ∷ quoted "on" ∷ []'))
+        self.assertEqual(self.run_it(), (0, ""))
+
     def test_a_broken_proof_shows_nothing(self):
         self.write(LOG, BROKEN_SCRIPT)
         self.fails("is refused, but `is-lit` is not shown to be false")

@@ -85,6 +85,7 @@ class Speed(Room):
     def setUp(self):
         super().setUp()
         self.script("bin/rt", RT)
+        self.write("crates/lamp/src/lib.rt", "")
         self.script("bin/valgrind", VALGRIND)
         self.script("bin/x86_64-linux-gnu-gcc", '#!/bin/sh\nexec gcc "$@"\n')
         self.script(f"kit/on/{platform.machine()}/toolchain/bin/qemu-x86_64", EMULATOR)

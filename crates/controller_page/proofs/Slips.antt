@@ -1,4 +1,4 @@
--- Closed instances of laws, each false under a slip that no edit makes yet.
+-- A closed instance of a law, false under the slip of must-fail/.
 use Prim.Native.Nat.{ℕ}
 use mathlib.Core.List.{List, []}
 use mathlib.Core.Path.{_≡_, refl}
@@ -10,7 +10,7 @@ use Rattle.text.specs.Quoted.{quoted}
 use Rattle.page.specs.Pieces.{hex}
 use Rattle.names.specs.Words.{linesIn, lineList, linesSaid}
 use Rattle.controller.specs.declared.Controller.{Controller}
-use Rattle.controller.specs.State.{powerUp, emptyOperation, withOperation, withMask, withFirst}
+use Rattle.controller.specs.State.{powerUp, emptyOperation, withOperation, withMask}
 use Rattle.controller_page.specs.ControllerPages.{setupPieces, setWords, setPieces, rankWords, controllerPieces}
 
 -- a piece by its place
@@ -22,8 +22,3 @@ pieceAt c k = getD (controllerPieces c) k []
 mask-is-told : pieceAt (withOperation powerUp (withMask emptyOperation 0x08)) 4 ≡ quoted "mask 08: line 3"
 unfolding pieceAt
 mask-is-told = refl
-
--- `all-on` of `Examples`: line 3 ranks first
-rank-begins-with-the-first : pieceAt (withOperation powerUp (withFirst emptyOperation 3)) 6 ≡ quoted "rank 3 4 5 6 7 0 1 2"
-unfolding pieceAt
-rank-begins-with-the-first = refl
