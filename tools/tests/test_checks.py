@@ -35,14 +35,15 @@ class Checks(Room):
         self.assertEqual(self.run_it()[0], 0)
 
     def test_behind_a_failure_none_is_begun(self):
-        self.check("10-bad", "echo why; exit 3")
-        for other in range(1, PROCESSORS):
-            self.check(f"{20 + other}-under-way", "sleep 0.5; exit 4")
+        """It fails when as many others as there are processors are under way, which fail too."""
+        others = [f"{20 + other}-under-way" for other in range(1, PROCESSORS)]
+        self.check("10-bad", "".join(f"until [ -e {other} ]; do sleep 0.05; done; " for other in others) + "echo why; exit 3")
+        for other in others:
+            self.check(other, f"touch {other}; sleep 0.5; exit 4")
         self.check("90-not-begun", "touch begun")
-        status, said = self.run_it()
-        failed = " ".join(line.removeprefix("== ") for line in said if line.startswith("== "))
-        self.assertEqual((status, said[:2], said[-1]), (1, ["== some/10-bad", "why"], f"tools/checks: failed: {failed}"))
-        self.assertEqual(failed.count("some/"), PROCESSORS)
+        told = [f"some/{name}" for name in ("10-bad", *others)]
+        said = ["== some/10-bad", "why", *(f"== {name}" for name in told[1:]), f"tools/checks: failed: {' '.join(told)}"]
+        self.assertEqual(self.run_it(), (1, said))
         self.assertFalse((self.root / "begun").exists())
 
     def test_one_that_lost_its_execute_bit_is_told(self):
