@@ -24,7 +24,7 @@ tell_crates() {
         [[ $line =~ ^'rt: '([A-Za-z0-9_]+)' proved ('(.*)')'$ ]] || continue
         count=$((count + 1)) gone=$((SECONDS - began)) more=
         if [ "$count" -eq $((all - 1)) ]; then
-            more="; the last may take a minute"
+            more="; the last may take two minutes"
         elif [[ ${BASH_REMATCH[2]} = unchanged* ]]; then
             continue
         fi

@@ -25,6 +25,9 @@ FALSE_LIST = AT + """as printed, the two types differ only where one has `256 �
   computed as far as they go, the two types differ only where one has `[]`
   (expected) and the other has `768 ∷ []` (found)
 """
+FALSE_TEXT = AT + """as printed, the two types differ only where one has `quoted "lit"` (expected)
+  computed as far as they go, the two types first differ where one has `108` (expected) and the other has `100` (found)
+"""
 BROKEN_SCRIPT = """specs/LampLaws.antt:9:1: error: `lamp-lit`: expected type `lit ≡ on`, but this has type `on ≡ lit`
 fn lamp::shine: not proved
 """
@@ -57,7 +60,7 @@ class Edits(Room):
         self.assertIn(f"lamp/dark_twin {words}", said)
 
     def test_a_false_statement_counts(self):
-        for log in (FALSE, FALSE_TEST, FALSE_LIST, BROKEN_SCRIPT + FALSE + BROKEN_SCRIPT):
+        for log in (FALSE, FALSE_TEST, FALSE_LIST, FALSE_TEXT, BROKEN_SCRIPT + FALSE + BROKEN_SCRIPT):
             self.write(LOG, log)
             self.assertEqual(self.run_it(), (0, ""))
 

@@ -12,7 +12,7 @@ case $1 in
 version) echo kit 9 ;;
 fmt) [ -z "$UNTIDY" ] ;;
 ci)
-    echo proving; $SEEN; mkdir -p target/bin; : >target/bin/bench_main; : >target/bin/sheets_main
+    echo proving; echo "at once: $RT_JOBS"; $SEEN; mkdir -p target/bin; : >target/bin/bench_main; : >target/bin/sheets_main
     [ -z "$UNPROVED" ] && echo "{VERDICT}" || {{ echo "6 passed, 1 failed"; exit 1; }} ;;
 esac
 """
@@ -126,6 +126,12 @@ class Gate(Room):
             self.script(name, "#!/bin/sh\nturn\n")
         status, said = self.run_it(SEEN="turn")
         self.assertEqual((status, [line for line in said if line in ("free", "taken")]), (0, ["free", "taken", "free"]))
+
+    def test_two_proofs_for_each_processor_and_no_more_than_four(self):
+        for processors, jobs in (("1", "2"), ("2", "4"), ("16", "4")):
+            self.script("bin/nproc", f"#!/bin/sh\necho {processors}\n")
+            self.assertIn(f"at once: {jobs}", self.run_it(RT_JOBS="")[1])
+            self.assertIn("at once: 3", self.run_it(RT_JOBS="3")[1])
 
     def test_it_waits_for_another_build(self):
         with self.other_build():

@@ -9,7 +9,7 @@ from standins import LIMIT, Start
 
 ASKED = "staticlib embed"
 FIRST = "tools/install: the library is proved and built first: 3 crates, .*\n"
-PROGRESS = r"2 of 3: lamp, 0:\d\d; the last may take a minute\n"
+PROGRESS = r"2 of 3: lamp, 0:\d\d; the last may take two minutes\n"
 WAITING = "tools/install: another build is going on in this tree; waiting for its end\n"
 
 

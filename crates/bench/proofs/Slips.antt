@@ -1,13 +1,12 @@
 -- Closed runs from power-up: what they show is false under the slips of must-fail/.
 use Prim.Native.Nat.{ℕ}
-use mathlib.Core.List.{List, [], _∷_, _++_, map}
+use mathlib.Core.List.{List, [], _∷_, map}
 use mathlib.Core.Path.{_≡_, refl}
 use Rattle.base.specs.Bits as base-bits
 use Rattle.base.specs.Bits.{digit}
 use Rattle.base.specs.Answers.{refusalOf, valueOf}
 use Rattle.records.specs.Events.{Record, whole}
 use Rattle.records.proofs.Slips as records
-use Rattle.records.proofs.Slips.{rising}
 use Rattle.bench.specs.Seats as seats
 use Rattle.bench.specs.Refusals as refusals
 use Rattle.bench.specs.Steps as steps
@@ -44,11 +43,6 @@ refused-by-its-own-divisor = refl
 master-reset-is-000 : answers (whole 5 0 0 0 ∷ []) ≡ 0x000 ∷ []
 unfolding run
 master-reset-is-000 = refl
-
--- `hears`: the lines that fall by a master reset fall for the controller too
-master-reset-is-heard : outputs (rising ++ (whole 5 0 0 0 ∷ [])) ≡ 0 ∷ 0 ∷ 0 ∷ 0 ∷ 1 ∷ 0 ∷ []
-unfolding run
-master-reset-is-heard = refl
 
 -- `other-seat`: 41 arrives at seat 0, so one has arrived there, and none at seat 1
 tallies-of-its-own : map (λ n. talliesOf (afterAll seats.powerUp (whole 1 0 3 0x83 ∷ whole 1 0 0 0x0C ∷ whole 2 0 0 0x41 ∷ [])) n .five .arrived) (0 ∷ 1 ∷ []) ≡ 1 ∷ 0 ∷ []

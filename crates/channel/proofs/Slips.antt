@@ -5,7 +5,7 @@ use mathlib.Core.List.{List, [], _∷_}
 use mathlib.Core.Path.{_≡_, refl}
 use Rattle.base.specs.Pick.{pick}
 use Rattle.base.specs.Bits.{bit, digit, bits}
-use Rattle.base.specs.Answers.{valueOf, isLetter}
+use Rattle.base.specs.Answers.{valueOf}
 use Rattle.base.specs.Refusals.{firstOf, refusalBy}
 use Rattle.queue.specs.Queue.{room, entered, replaced, capacity, accepted, movedDown, taken, oldest, unmarked, anyMarked, marked}
 use Rattle.receiver.specs.Receiver.{noneQueued, received, got, shownMarks, someMarked, lsrSeen, cleared, afterModeChange, dataStands, timeoutStands, waited}
@@ -16,7 +16,7 @@ use Rattle.registers.specs.Modem.{msrOf, changesAfter, someChange}
 use Rattle.registers.specs.Loopback.{inputsOf}
 use Rattle.channel.specs.declared.Channel.{Channel}
 use Rattle.registers.specs.declared.SeatEvent.{SeatEvent}
-use Rattle.registers.specs.declared.SeatEvent.the-variants.{Read, Write, Arrival, Levels, Time}
+use Rattle.registers.specs.declared.SeatEvent.the-variants.{Read, Write, Arrival, Time}
 use Rattle.channel.specs.Parts.{powerUp, withSettings}
 use Rattle.status.specs.Status.{lsrOf, lineTrouble, causes, firstCause, causeOf, iirOf}
 use Rattle.channel.specs.Status.{lsr, msr, cause, iir}
@@ -57,11 +57,6 @@ mode-change-empties-the-transmit-queue : told powerUp (Write 0 0x41 ∷ Write 2 
 unfolding told
 mode-change-empties-the-transmit-queue = refl
 
--- ticket 6: "The RBR answer gains these figures": the divisor's low byte is no letter. Of `answers`
-dll-is-no-letter : isLetter (stepped (withSettings powerUp (record { ier = 0; fcr = 0; lcr = 0x83; mcr = 0; scratch = 0; dll = 12; dlm = 0 })) (Read 0) .answer) ≡ false
-unfolding told isLetter
-dll-is-no-letter = refl
-
 -- power-up with divisor 12, words of five bits, FIFO mode, and loopback
 abbrev looping : Channel
 looping = withSettings powerUp (record { ier = 0; fcr = 0x01; lcr = 0x00; mcr = 0x10; scratch = 0; dll = 12; dlm = 0 })
@@ -75,11 +70,6 @@ idle-time-receives-nothing = refl
 received-by-five-bits : told looping (Write 0 0x41 ∷ Time ∷ Time ∷ Read 0 ∷ []) ≡ 0x00 ∷ 0x100 ∷ 0x100 ∷ 0x01 ∷ []
 unfolding told
 received-by-five-bits = refl
-
--- ticket 7: "modem levels are only remembered": MSR shows nothing of CTS. Of `levels-remembered`
-levels-only-remembered : told looping (Levels 0x01 ∷ Read 6 ∷ []) ≡ 0x00 ∷ 0x00 ∷ []
-unfolding told
-levels-only-remembered = refl
 
 -- ticket 7: "also where a write of MCR enters or leaves": RTS feeds CTS, which has changed. Of `mcr-noticed`
 entering-is-noticed : told powerUp (Write 4 0x12 ∷ Read 6 ∷ []) ≡ 0x00 ∷ 0x11 ∷ []

@@ -46,25 +46,10 @@ number-sign-begins-a-comment : answer (48 ∷ 56 ∷ 35 ∷ []) ≡ 1 ∷ []
 unfolding answer
 number-sign-begins-a-comment = refl
 
--- `forgotten-byte`; 08, a line feed, 00
-forgotten-byte-is-found : answer (48 ∷ 56 ∷ 10 ∷ 48 ∷ 48 ∷ []) ≡ 1 ∷ 1 ∷ 30 ∷ 1 ∷ []
-unfolding answer
-forgotten-byte-is-found = refl
-
--- `wrong-character`; 0, a space, 8
-digits-stand-together : answer (48 ∷ 32 ∷ 56 ∷ []) ≡ 1 ∷ 1 ∷ 20 ∷ []
-unfolding answer
-digits-stand-together = refl
-
 -- `short-record`; a space, 08, a number sign, two line feeds, 00: told at the first line's second column, where the record begins
 short-record-is-told-at-its-start : answer (32 ∷ 48 ∷ 56 ∷ 35 ∷ 10 ∷ 10 ∷ 48 ∷ 48 ∷ []) ≡ 1 ∷ 2 ∷ 30 ∷ 1 ∷ []
 unfolding answer
 short-record-is-told-at-its-start = refl
-
--- `short-record`; 080000, a line feed, 0
-short-record-is-counted : answer (48 ∷ 56 ∷ 48 ∷ 48 ∷ 48 ∷ 48 ∷ 10 ∷ 48 ∷ []) ≡ 1 ∷ 1 ∷ 30 ∷ 3 ∷ []
-unfolding answer
-short-record-is-counted = refl
 
 -- the comment of a text's first record; it opens what finding it computes with
 unfoldable commentFound : List ℕ → List ℕ
@@ -75,8 +60,3 @@ commentFound text = commentOf text (placeAfter text 0 8)
 comment-stands-on-its-line : commentFound (48 ∷ 56 ∷ 48 ∷ 48 ∷ 48 ∷ 48 ∷ 48 ∷ 48 ∷ 10 ∷ 35 ∷ []) ≡ []
 unfolding commentFound
 comment-stands-on-its-line = refl
-
--- `reach-digits`; a number sign, 8, a line feed, 08000000, a number sign
-digits-of-comments-are-passed : commentFound (35 ∷ 56 ∷ 10 ∷ 48 ∷ 56 ∷ 48 ∷ 48 ∷ 48 ∷ 48 ∷ 48 ∷ 48 ∷ 35 ∷ []) ≡ 35 ∷ []
-unfolding commentFound
-digits-of-comments-are-passed = refl

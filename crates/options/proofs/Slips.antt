@@ -2,10 +2,6 @@
 use mathlib.Core.Bool.{Bool, true, false}
 use mathlib.Core.Path.{_≡_, refl}
 use Rattle.base.specs.Pick.{pick}
-use Rattle.text.specs.Hex.{digit as worth}
-use Rattle.text.specs.Quoted.{quoted}
-use Rattle.options.specs.Moments.{sameBytes, withDigit, numberFrom, numberOf, momentOf}
-use Rattle.options.specs.SaveMoments.{countOf}
 use Rattle.options.specs.Saves.{dueAt}
 use Rattle.options.specs.declared.Moment.the-variants as moment
 use Rattle.options.specs.declared.Now.the-variants as stands
@@ -16,11 +12,6 @@ abbrev isMissed : Due → Bool
 isMissed No = false
 isMissed Save = false
 isMissed Missed = true
-
--- `listed` of `MomentsRead`: the listing counts from 0, so that sixteen records are behind record 15
-record-15-is-the-sixteenth : countOf (momentOf (quoted "15")) ≡ 16
-unfolding pick worth sameBytes withDigit numberFrom numberOf momentOf
-record-15-is-the-sixteenth = refl
 
 -- `quiet` of `MadeOnce`: a save behind the last record is made there, and not missed at the end
 last-record-is-reached : isMissed (dueAt (moment.Behind 16) (stands.End 16)) ≡ false

@@ -6,7 +6,7 @@ use lib.ListN.{replicate}
 use Rattle.base.specs.Pick.{pick}
 use Rattle.queue.specs.declared.Character.{Character}
 use Rattle.queue.specs.declared.Queue.{Queue}
-use Rattle.queue.specs.Queue.{emptyQueue, room, entered, replaced, capacity, accepted, movedDown, taken, unmarked}
+use Rattle.queue.specs.Queue.{room, entered, replaced, capacity, accepted, movedDown, taken, unmarked}
 use Rattle.receiver.specs.declared.Receiver.{Receiver}
 use Rattle.receiver.specs.Receiver.{quiet, noneQueued, timeoutStands, received, got, lsrSeen, waited, afterModeChange}
 use Rattle.receiver.specs.Waiting.{waits}
@@ -61,21 +61,6 @@ late q = record { queue = q; overrun = false; kept = 0; timeout = 4; last = 0 }
 lost-after-a-time-out : received true (late (record { slots = replicate 16 (ch 0x41 0); count = 16 })) (ch 0x43 0) .timeout ≡ 4
 unfolding pick room entered capacity accepted timeoutStands received
 lost-after-a-time-out = refl
-
--- `lasting`: an LSR read
-lsr-after-a-time-out : lsrSeen true (waits true 4 two) .timeout ≡ 4
-unfolding pick room entered capacity accepted noneQueued timeoutStands received lsrSeen waited waits
-lsr-after-a-time-out = refl
-
--- `read-none`: a count to which no event leads, but which a wrong program could reach
-empty-read-after-a-time-out : got (late emptyQueue) .receiver .timeout ≡ 4
-unfolding pick noneQueued got
-empty-read-after-a-time-out = refl
-
--- ticket 6, `letters`: "in 16450 mode the marks it arrived with, even after LSR was read"
-own-marks-after-an-lsr-read : got (lsrSeen false (received false quiet (ch 0x41 1))) .figures .marks ≡ 1
-unfolding pick room entered capacity accepted movedDown taken noneQueued timeoutStands received lsrSeen got
-own-marks-after-an-lsr-read = refl
 
 -- ticket 6, `read-as`: "in FIFO mode marks that an LSR read cleared stay cleared"
 no-marks-after-an-lsr-read : got (lsrSeen true (received true quiet (ch 0x41 1))) .figures .marks ≡ 0

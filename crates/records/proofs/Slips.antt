@@ -66,11 +66,6 @@ seat-8-is-refused : numbers (whole 0 7 0 0 ∷ whole 0 8 0 0 ∷ []) ≡ 0 ∷ 1
 unfolding run
 seat-8-is-refused = refl
 
--- "The order is 4, 3, 1, 2": `early-seat`, whatever the register
-seat-before-register : numbers (whole 0 8 8 0 ∷ []) ≡ 1 ∷ []
-unfolding run
-seat-before-register = refl
-
 -- base 40, edge mode; the seat may raise its line, and its holding-empty flag is a cause
 abbrev pub rising : List Record
 rising = whole 7 0 0 0x13 ∷ whole 7 0 1 0x40 ∷ whole 7 0 1 0x01 ∷ whole 1 2 4 0x08 ∷ whole 1 2 1 0x02 ∷ []

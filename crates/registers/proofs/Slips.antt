@@ -41,20 +41,10 @@ five-bits-are-1f = refl
 abbrev arriving : ℕ → ℕ → ℕ → ℕ
 arriving lcr marks byte = refusal (record { ier = 0; fcr = 0; lcr = lcr; mcr = 0; scratch = 0; dll = 1; dlm = 0 }) (Arrival marks byte)
 
--- ticket 4: "6 is now marks above 7 only". Of `which-one`
-data-has-its-number : arriving 0 0 0x20 ≡ 16
-unfolding refusal grounds refusalBy firstOf pick bit
-data-has-its-number = refl
-
 -- ticket 4: "17 parity mark with parity off", and before a break. Of `which-one`
 parity-before-break : arriving 0 5 0x01 ≡ 17
 unfolding refusal grounds refusalBy firstOf pick bit
 parity-before-break = refl
-
--- ticket 4: "parity mark with parity off": with LCR bit 3 it is on. Of `accepted`
-parity-is-bit-3 : arriving 8 1 0x01 ≡ 0
-unfolding refusal grounds refusalBy firstOf pick bit
-parity-is-bit-3 = refl
 
 -- ticket 4: "break with data": with data 0 it is none. Of `accepted`
 break-alone-arrives : arriving 0 4 0x00 ≡ 0

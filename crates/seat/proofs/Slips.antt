@@ -1,13 +1,12 @@
 -- What is right where an edit of must-fail/ goes wrong: closed runs of a few events, each false under the edit that names it.
 use mathlib.Core.Path.{_≡_, refl}
 use Rattle.base.specs.Pick.{pick}
-use Rattle.base.specs.Bits.{bit, digit}
+use Rattle.base.specs.Bits.{bit}
 use Rattle.base.specs.Answers.{valueOf}
 use Rattle.base.specs.Refusals.{firstOf, refusalBy}
 use Rattle.queue.specs.Queue.{room, entered, accepted, capacity}
 use Rattle.receiver.specs.Receiver.{received}
 use Rattle.receiver.specs.Ledger.{after, arrivedIn, readIn, lostIn, droppedIn}
-use Rattle.transmitter.specs.Transmitter.{written}
 use Rattle.registers.specs.declared.SeatEvent.the-variants.{Read, Write, Arrival}
 use Rattle.registers.specs.Refusals as registers
 use Rattle.registers.specs.Registers.{plainRegister, registerAt}
@@ -16,7 +15,7 @@ use Rattle.channel.specs.Effects.{answerAt, afterRead, afterWrite, afterArrival
 use Rattle.channel.specs.Moments.{acceptedMoments, readMoments, writeMoments, arrivalMoments}
 use Rattle.channel.specs.Steps as channel
 use Rattle.seat.specs.declared.Seat.{Seat}
-use Rattle.seat.specs.Tallies.{tallied, addUp}
+use Rattle.seat.specs.Tallies.{tallied}
 use Rattle.seat.specs.Seats.{powerUp, reset, five}
 use Rattle.seat.specs.Steps.{refusal, effect, stepped}
 
@@ -37,16 +36,6 @@ reset-drops-what-is-queued = refl
 reset-forgets-nothing : reset heard .tallies .arrived ≡ 1
 unfolding stepped effect refusal channel.effect registers.grounds refusalBy firstOf pick bit registerAt plainRegister afterWrite afterArrival heardOutside receives received accepted entered room capacity tallied acceptedMoments writeMoments arrivalMoments after arrivedIn readIn lostIn droppedIn
 reset-forgets-nothing = refl
-
--- ticket 8: "tallies of received characters": of those to send none is counted
-nothing-sent-is-dropped : reset (stepped powerUp (Write 0 0x41) .seat) .tallies .dropped ≡ 0
-unfolding stepped effect refusal channel.effect registers.grounds refusalBy firstOf pick bit registerAt plainRegister afterWrite written accepted entered room capacity tallied acceptedMoments writeMoments arrivedIn readIn lostIn droppedIn
-nothing-sent-is-dropped = refl
-
--- ticket 8: "the other four add up to it": FFFFFFFF and 1 are 0 in 32 bits, and nobody arrived
-no-sum-wraps : digit (addUp (record { arrived = 0; read = 0xFFFFFFFF; lost = 1; dropped = 0 }) 0) ≡ 0
-unfolding addUp digit pick
-no-sum-wraps = refl
 
 -- ticket 8: "lost by overrun, dropped by emptying": each is handed out under its own name
 two-are-lost : five (record { tallies = record { arrived = 5; read = 0; lost = 2; dropped = 3 }; channel = powerUp .channel }) .lost ≡ 2

@@ -7,14 +7,8 @@ use Rattle.queue.specs.Queue.{capacity}
 use Rattle.registers.specs.Registers.{fcrKept}
 use Rattle.channel_image.specs.Allowed.{sixteenSmall, registersInRange, flagsInRange, marksInRange, queuesWithin, countAllowed, unusedZero, channelGood}
 use Rattle.seat.specs.Tallies.{addUp}
-use Rattle.seat_image.specs.Read.{talliesIn, talliesFrom, talliesGood, recordGood}
-use Rattle.seat_image.specs.Words.{wordBytes, wordAt}
-use Rattle.seat_image.specs.Written.{tallyBytes}
-
--- `older` (`read`): a record of version 1 with one character received
-one-queued-one-arrived : talliesFrom (talliesIn 1 (set (replicate 66 0) 33 1) 1) .arrived ≡ 1
-unfolding talliesIn talliesFrom tallyBytes wordBytes wordAt pick
-one-queued-one-arrived = refl
+use Rattle.seat_image.specs.Read.{talliesFrom, talliesGood, recordGood}
+use Rattle.seat_image.specs.Words.{wordAt}
 
 -- `exactly` (`queued`): one arrived and is said to be queued, and the queue is empty
 none-queued : digit (recordGood (set (set (replicate 86 0) 66 1) 82 1)) ≡ 0
