@@ -75,7 +75,7 @@ build() {
             refuse "$what is not built of these sources, and $top/target, where it would be, cannot be written"
         begin_build
         all=$(crates_needed "$crate")
-        tell "$what is proved and built first: $all crates, up to $minutes minutes on two processors where none is proved yet, and 2.5 GB of memory"
+        tell "$what is proved and built first: $all crates, up to $minutes minutes on two processors where none is proved yet, and 3.5 GB of memory"
         prove "$rt" "$verb" "$crate" "$log" "$all" || {
             tail -n 12 "$log" >&2
             refuse "$what could not be built; above are the last lines of $log"

@@ -6,7 +6,7 @@ DOCUMENT_01 = 0  # the source of a quotation; a ticket of document 02 is its num
 
 # The page that says every byte of what is told of a lesson, and who quotes it: rooms, and a file of another.
 TELLING = "docs/TELLING.md"
-TELLING_ROOMS = ("page", "names", "deeds", "moves", "account", "seat_page", "controller_page", "sight", "timeline")
+TELLING_ROOMS = ("page", "names", "deeds", "answers", "moves", "account", "seat_page", "controller_page", "sight", "timeline")
 TELLING_FILES = ("crates/lesson/specs/Comments.antt",)
 
 

@@ -9,7 +9,7 @@ from standins import LIMIT, PROGRAM, Start
 
 WAITING = "bench: another build is going on in this tree; waiting for its end\n"
 FIRST = ("bench: the program is proved and built first: 3 crates, up to 8 minutes on two processors where none is proved yet, "
-         "and 2.5 GB of memory\n")
+         "and 3.5 GB of memory\n")
 PROGRESS = r"2 of 3: lamp, 0:\d\d; the last may take two minutes\n3 of 3: bench_main, 0:\d\d\n"
 
 

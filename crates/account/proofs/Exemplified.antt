@@ -9,7 +9,7 @@ use Rattle.page.specs.Pages.{noPage, columnAfter, putByte, put, shown, headed, 
 use Rattle.page.specs.Notes.{plain, wordLength, passed, noteByte, noted, commented}
 use Rattle.names.specs.Words.{laterWords, refusalWords, nameRead, nameWritten, nameOf, nameAtDivisor, registerWords, causeSaid, iirWords, bitsSaid, lsrSaid, msrSaid, marksNamed, marksSaid, levelsSaid, linesIn, lineList, linesSaid}
 use Rattle.deeds.specs.Done.{seatWords, readDone, valueWritten, writeDone, arrivalDone, levelsDone, timeDone, controllerReadDone, wordAt0, wordAt1, wordWritten, controllerWriteDone, seatDone, otherDone, wholeDone, cutDone}
-use Rattle.deeds.specs.Came.{refusedCame, behindSaid, figuresSaid, letterCame, plainCame, registerCame, portName, portCame, byteCame, sentCame, vectorCame, spuriousCame}
+use Rattle.answers.specs.Came.{refusedCame, behindSaid, figuresSaid, letterCame, plainCame, registerCame, portName, portCame, byteCame, sentCame, vectorCame, spuriousCame}
 use Rattle.queue.specs.Queue as queue
 use Rattle.receiver.specs.Receiver as receiver
 use Rattle.receiver.specs.Ledger as ledger

@@ -16,7 +16,8 @@ use Rattle.bench.specs.declared.Bench.{Bench}
 use Rattle.bench.specs.Steps.{outcome}
 use Rattle.names.specs.Fits.{Fits, AllFit}
 use Rattle.names.specs.FitLaws.{fits-more, fits-append, fits-behind, fits-decimal, capital-one, all-fit-append}
-use Rattle.deeds.specs.DeedLaws.{done-fits, cut-fits, came-fits}
+use Rattle.deeds.specs.DeedLaws.{done-fits, cut-fits}
+use Rattle.answers.specs.CameLaws.{came-fits}
 use Rattle.moves.specs.Moved.{seatMoved}
 use Rattle.moves.specs.MovedLaws.{seat-fits, controller-fits}
 use Rattle.account.specs.Head.{figuresShown, blanks, headWords}

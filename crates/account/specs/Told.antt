@@ -16,7 +16,7 @@ use Rattle.bench.specs.Seats.{seat}
 use Rattle.bench.specs.Steps.{outcome}
 use Rattle.deeds.specs.Done.{recordDone}
 use Rattle.account.specs.Head.{headWords}
-use Rattle.deeds.specs.Came.{cameOf}
+use Rattle.answers.specs.Came.{cameOf}
 use Rattle.moves.specs.Moved.{seatMoved, controllerMoved}
 
 -- the channel of a seat

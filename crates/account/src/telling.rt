@@ -69,7 +69,7 @@ pub fn record(
     let selected = bench.controller.operation.selected;
     let empty = before.receiver.is_empty();
     let done = deeds::done(kind, seat, number, value, divisor, bench.controller);
-    let came = deeds::came(kind, number, divisor, selected, empty, answer);
+    let came = answers::came(kind, number, divisor, selected, empty, answer);
     let moved = moves::at_seat(
         head.join(done).join(came),
         before,
@@ -92,7 +92,7 @@ pub fn short(bench: Bench, n: u64) -> Told
     let next = stepped.bench;
     let answer = stepped.answer;
     let head = heads::begun(n, answer, stepped.output);
-    let came = deeds::came(Event::ACKNOWLEDGE, 0, false, false, false, answer);
+    let came = answers::came(Event::ACKNOWLEDGE, 0, false, false, false, answer);
     let all = moves::at_controller(
         head.join(deeds::cut()).join(came),
         bench.controller,

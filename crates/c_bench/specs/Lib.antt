@@ -1,4 +1,6 @@
 pub mod Told
 pub mod Parts
+pub mod Outputs
 pub mod NumberLaws
 pub mod OneLaws
+pub mod OutputsLaws

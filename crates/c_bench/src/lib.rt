@@ -1,6 +1,9 @@
-// What C does to a bench, by value, each with the word that tells of it: a record, on the parts that it can touch, a save, and a restore.
+// What C does to a bench, by value, each with the word that tells of it: a record, on the parts that it can touch, a save, and a restore; and the modem outputs that it asks for.
+mod outputs;
+
 use bench::Bench;
 use controller::Controller;
+pub use outputs::seat_outputs;
 use seat::Seat;
 ghost use mathlib.Core.Path.{_≡_};
 ghost use Rattle.records.specs.Events.{whole};

@@ -5,7 +5,7 @@ use Rattle.base.specs.Pick.{pick}
 use Rattle.base.specs.Bits.{bit}
 use Rattle.deeds.specs.Done.{wordAt0}
 
--- `selects` of `DoneExamples`: bit 3 makes it OCW3, where bit 4 is clear; by its last character
+-- `selects` of `Examples`: bit 3 makes it OCW3, where bit 4 is clear; by its last character
 bit-3-makes-it-ocw3 : getD (wordAt0 0x0B) 3 0 ≡ 51
 unfolding pick bit wordAt0
 bit-3-makes-it-ocw3 = refl

@@ -288,6 +288,7 @@ c-bench-once M =
       c-bench·parts = told _ refl (λ κ a r s v w p q. (parted-one _ r s p q, refl));
       c-bench·save = told _ refl (λ κ a r s v w p q. let same = saved-one _ _ _ _ _ r s p q in (same .0, λ i. (tt, (same .1 i, (tt, tt)))));
       c-bench·restore = told _ refl (λ κ a r s v w p q. (plays-one _ r s p q, refl));
+      c-bench·seat-outputs = told _ refl (λ κ a r s v w p q. (p .0 ∙ sym (q .0), refl));
     }
 
 pub embed-once : (M : Type 1) → EmbedOnce M

@@ -32,7 +32,6 @@ names-once M =
       names·levels = value _ refl (λ κ a v w. refl);
       names·register = value _ refl (λ κ a v w. refl);
       names·lines = value _ refl (λ κ a v w. refl);
-      names·refusal = value _ refl (λ κ a v w. refl);
       names·iir = value _ refl (λ κ a v w. refl);
     }
 
@@ -41,7 +40,7 @@ account-once M =
     record {
       deeds·done = value _ refl (λ κ a v w. refl);
       deeds·cut = value _ refl (λ κ a v w. refl);
-      deeds·came = value _ refl (λ κ a v w. refl);
+      answers·came = value _ refl (λ κ a v w. refl);
       moves·at-seat = value _ refl (λ κ a v w. refl);
       moves·at-controller = value _ refl (λ κ a v w. refl);
       account·record = told _ refl (λ κ a r s v w p q. (λ i. record { bench = (p .0 ∙ sym (q .0)) i; page = (p .1 ∙ sym (q .1)) i }, refl));

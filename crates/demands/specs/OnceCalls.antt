@@ -24,6 +24,7 @@ use Rattle.text.proofs as text
 use Rattle.page.proofs as page
 use Rattle.names.proofs as names
 use Rattle.deeds.proofs as deeds
+use Rattle.answers.proofs as answers
 use Rattle.moves.proofs as moves
 use Rattle.account.proofs as account
 use Rattle.seat_page.proofs as seat_page
@@ -278,7 +279,6 @@ pub record NamesOnce (M : Type 1) : Type 2 where
   pub names·levels : Once M names.levels.ended names.levels.clauses names.levels.spec
   pub names·register : Once M names.register.ended names.register.clauses names.register.spec
   pub names·lines : Once M names.lines.ended names.lines.clauses names.lines.spec
-  pub names·refusal : Once M names.refusal.ended names.refusal.clauses names.refusal.spec
   pub names·iir : Once M names.iir.ended names.iir.clauses names.iir.spec
 
 -- ---- deeds, moves and account: a record in words, and its page
@@ -286,7 +286,7 @@ pub record NamesOnce (M : Type 1) : Type 2 where
 pub record AccountOnce (M : Type 1) : Type 2 where
   pub deeds·done : Once M deeds.done.ended deeds.done.clauses deeds.done.spec
   pub deeds·cut : Once M deeds.cut.ended deeds.cut.clauses deeds.cut.spec
-  pub deeds·came : Once M deeds.came.ended deeds.came.clauses deeds.came.spec
+  pub answers·came : Once M answers.came.ended answers.came.clauses answers.came.spec
   pub moves·at-seat : Once M moves.at_seat.ended moves.at_seat.clauses moves.at_seat.spec
   pub moves·at-controller : Once M moves.at_controller.ended moves.at_controller.clauses moves.at_controller.spec
   pub account·record : Once M account.record.ended account.record.clauses account.record.spec
@@ -346,6 +346,7 @@ pub record CBenchOnce (M : Type 1) : Type 2 where
   pub c-bench·parts : Once M c_bench.parts.ended c_bench.parts.clauses c_bench.parts.spec
   pub c-bench·save : Once M c_bench.save.ended c_bench.save.clauses c_bench.save.spec
   pub c-bench·restore : Once M c_bench.restore.ended c_bench.restore.clauses c_bench.restore.spec
+  pub c-bench·seat-outputs : Once M c_bench.seat_outputs.ended c_bench.seat_outputs.clauses c_bench.seat_outputs.spec
 
 -- ---- embed: the C interface, with all that is lent back
 

@@ -6,4 +6,3 @@ mod Looking
 mod Places
 mod Restoring
 mod Storing
-pub mod Slips

@@ -1,10 +1,8 @@
 pub mod Bytes
 pub mod Version
-pub mod Outputs
 pub mod Tallies
 pub mod Settings
 pub mod NumberLaws
 pub mod OneLaws
-pub mod OutputsLaws
 pub mod SettingLaws
 pub mod VersionLaws

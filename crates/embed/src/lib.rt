@@ -3,13 +3,11 @@
 mod images;
 mod settings;
 
-use base::Answer;
 use bench::Bench;
 use controller::Controller;
 pub use images::hailstoat_restore;
 pub use images::hailstoat_save;
 use records::Event;
-use registers::Settings;
 use seat::Five;
 use seat::Seat;
 pub use settings::hailstoat_read_setting;
@@ -28,14 +26,12 @@ ghost use Rattle.bench.specs.Steps.{met, outcome};
 ghost use Rattle.bench.specs.Tallies.{talliesOf};
 ghost use Rattle.c_word.specs.Word.{Tells};
 ghost use Rattle.c_bench.specs.Told.{Told};
-ghost use Rattle.embed.specs.Outputs.{outputs, outputsOf, outputsAt};
+ghost use Rattle.c_bench.specs.Outputs.{outputsAt};
 ghost use Rattle.embed.specs.Tallies.{Counts};
 ghost use Rattle.embed.specs.Version.{version};
 ghost use Rattle.embed.specs.Bytes.{benchBytes};
 
 const MASTER_RESET: u32 = Event::MASTER_RESET as u32;
-
-const SEATS: u32 = records::SEATS as u32;
 
 const VERSION: u32 = 30100;
 
@@ -52,37 +48,6 @@ fn place_word(controller: Controller, line: u32) -> u64
 {
     let answer = controller.place(c_word::as_byte(line));
     c_word::word(answer, false)
-}
-
-// In loopback the terminals are inactive, whatever the MCR says (document 004, MCR bit 4).
-fn active_outputs(mcr: u8) -> u8
-    ensures { λ r. ⌜ r ≡ outputs mcr ⌝ }
-{
-    if base::bit(Settings::MCR_LOOP, mcr) {
-        return 0;
-    }
-    base::nibble(
-        base::bit(Settings::MCR_DTR, mcr),
-        base::bit(Settings::MCR_RTS, mcr),
-        base::bit(Settings::MCR_OUT1, mcr),
-        base::bit(Settings::MCR_OUT2, mcr),
-    )
-}
-
-// "seat (or line) above 7": refused.
-fn outputs_word(mcr: u8, n: u32) -> u64
-    ensures { λ r. ⌜ Tells r (outputsOf mcr n) false ⌝ }
-{
-    if n < SEATS {
-        return c_word::word(Answer::Byte(active_outputs(mcr)), false);
-    }
-    c_word::word(Answer::Refused(Answer::SEAT_ABOVE), false)
-}
-
-fn seat_outputs(held: Seat, n: u32) -> u64
-    ensures { λ r. ⌜ Tells r (outputsOf (held .channel .settings .mcr) n) false ⌝ }
-{
-    outputs_word(held.channel.settings.mcr, n)
 }
 
 fn seat_tallies(held: Seat, n: u32) -> Counted
@@ -197,7 +162,7 @@ pub extern "C" fn hailstoat_modem_outputs(bench: &Bench, seat: u32) -> u64
     ensures { λ r. ⌜ Tells r (outputsAt (now (bench .entry)) seat) false ⌝ }
 {
     let at = seat as usize % records::SEATS;
-    seat_outputs(bench.seats[at], seat)
+    c_bench::seat_outputs(bench.seats[at], seat)
 }
 
 // The five tallies of a seat, stored where the caller asks; nothing of the bench is moved.

@@ -67,8 +67,8 @@ use Rattle.bench.specs.OutcomeLaws.{outcome-output, outcome-refused}
 use Rattle.c_word.specs.Word.{answerIn, refusalIn, outputIn, marksIn, behindIn, Tells}
 use Rattle.c_bench.specs.Told.{Told}
 use Rattle.c_word.specs.WordLaws.{letter-back}
-use Rattle.embed.specs.Outputs.{outputs, outputsAt}
-use Rattle.embed.specs.OutputsLaws.{outputs-told, outputs-refused}
+use Rattle.c_bench.specs.Outputs.{outputs, outputsAt}
+use Rattle.c_bench.specs.OutputsLaws.{outputs-told, outputs-refused}
 use Rattle.embed_laws.specs.Zeroed.{zeroed}
 use Rattle.embed_laws.specs.ZeroedLaws.{power-up-zeroed}
 use Rattle.embed.proofs.hailstoat_power_up as power-up

@@ -1,4 +1,3 @@
-pub mod Tables
 pub mod Exemplified
 pub mod Differ
 pub mod Statements

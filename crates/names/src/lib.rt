@@ -13,4 +13,3 @@ pub use bits::word;
 pub use registers::register;
 pub use sets::lines;
 pub use words::iir;
-pub use words::refusal;

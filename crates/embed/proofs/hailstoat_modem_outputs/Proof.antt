@@ -1,5 +1,5 @@
 -- `hailstoat_modem_outputs`, walked by hand. It is found where the seat lies; the shared loan is looked into, the seat copied out and the loan shut; what
--- `seat_outputs` returns is returned.
+-- `c_bench::seat_outputs` returns is returned.
 use mathlib.Core.Path.{refl, sym}
 use mathlib.Core.Bool.{false}
 use Prim.Native.Nat.{ℕ, _+_, _<_, _^_}
@@ -44,15 +44,15 @@ use Rattle.bench.specs.declared.Bench.{Bench}
 use Rattle.bench.specs.Seats.{chair, seat}
 use Rattle.bench.proofs.Bench as B
 use Rattle.embed.specs.Bytes.{seatBytes}
-use Rattle.embed.specs.Outputs.{outputsAt}
+use Rattle.c_bench.specs.Outputs.{outputsAt}
 use Rattle.c_word.specs.Word.{Tells}
 use Rattle.embed.proofs.InPlace.{seat-val, seats-lie}
 use Rattle.embed.proofs.Looking.{KnownSeat, looks-at-seat, looks-away-seat}
 use Rattle.embed.proofs.Storing.{wide, chair-fits, offset-fits, cast-ok, rem-ok, mul-ok}
-use Rattle.embed.proofs.seat_outputs as asked
-use Rattle.embed.proofs.seat_outputs.Symbol as asked-def
-use Rattle.embed.proofs.seat_outputs.Symbol.{name as #embed·asked}
-use Rattle.embed.proofs.seat_outputs.Met as asked-thm
+use Rattle.c_bench.proofs.seat_outputs as asked
+use Rattle.c_bench.proofs.seat_outputs.Symbol as asked-def
+use Rattle.c_bench.proofs.seat_outputs.Symbol.{name as #embed·asked}
+use Rattle.c_bench.proofs.seat_outputs.Met as asked-thm
 use Rattle.embed.proofs.hailstoat_modem_outputs.Key.{name as #embed·self}
 use Rattle.embed.proofs.hailstoat_modem_outputs as f
 use Rattle.embed.proofs.hailstoat_modem_outputs.Statement as stated
@@ -145,4 +145,4 @@ hailstoat-modem-outputs-spec 𝓤 H 𝓜 𝓖 𝓡 =
     entered 𝓤 H (tripleOf 𝓤 H (𝓖 .A) f.signature (f.spec 𝓤 H (𝓖 .A) (𝓜 .mem) (𝓡 .run)))
     (tables 𝓤 H 𝓜 𝓡 code.env .C) (tables 𝓤 H 𝓜 𝓡 code.env .Λ) #embed·self code.function (code.unfolded 𝓤 H 𝓜 𝓡)
     (meets 𝓤 H (𝓖 .A) (givenOf 𝓤 H 𝓜 𝓖) (𝓜 .mem) (𝓡 .run) (tablesOf 𝓤 H 𝓜 (tables 𝓤 H 𝓜 𝓡 code.env))
-    (cited 𝓤 H (Asked 𝓤 H (𝓖 .A) (𝓜 .mem) (𝓡 .run)) 𝓜 𝓡 code.env #embed·asked asked-def.routine code.calls-embed·seat-outputs (asked-thm.met 𝓤 H 𝓜 𝓖 𝓡)))
+    (cited 𝓤 H (Asked 𝓤 H (𝓖 .A) (𝓜 .mem) (𝓡 .run)) 𝓜 𝓡 code.env #embed·asked asked-def.routine code.calls-c-bench·seat-outputs (asked-thm.met 𝓤 H 𝓜 𝓖 𝓡)))

@@ -1,0 +1,4 @@
+pub mod Tables
+pub mod Exemplified
+pub mod Statements
+pub mod Slips

@@ -1,0 +1,5 @@
+pub mod Came
+pub mod CameLaws
+pub mod Uncut
+pub mod Examples
+pub mod Statements

@@ -1,0 +1,5 @@
+// What came of a record, in words.
+mod refusals;
+mod words;
+
+pub use words::came;
