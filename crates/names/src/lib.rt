@@ -1,4 +1,4 @@
-// The words for registers, bits, causes and refusals: one table, for whoever tells a lesson.
+// The words for registers, bits and causes, for whoever tells a lesson. The one table of words is `specs/Names.antt`.
 mod bits;
 mod registers;
 mod sets;
