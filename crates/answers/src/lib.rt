@@ -1,4 +1,6 @@
 // What came of a record, in words.
+#![tactic(auto)]
+
 mod refusals;
 mod words;
 

@@ -1,4 +1,6 @@
 // Eight seats and the controller: one record at a time.
+#![tactic(auto)]
+
 use base::Answer;
 use controller::Controller;
 use records::SEATS;
@@ -15,13 +17,13 @@ pub use seats::{chair, reset_all};
 pub use tallies::tallies_by;
 
 #[repr(C)]
-#[derive(Drop)]
+#[derive(Clone, Copy)]
 pub struct Bench {
     pub seats: [Seat; SEATS],
     pub controller: Controller,
 }
 
-#[derive(Drop)]
+#[derive(Clone, Copy)]
 pub struct Outcome {
     pub bench: Bench,
     pub answer: Answer,
@@ -29,7 +31,7 @@ pub struct Outcome {
 }
 
 // The five tallies of a seat, which are 0 where the call is refused.
-#[derive(Drop)]
+#[derive(Clone, Copy)]
 pub struct Tallied {
     pub answer: Answer,
     pub five: Five,

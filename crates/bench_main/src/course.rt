@@ -11,7 +11,7 @@ use options::Now;
 const MOST: u64 = 16384;
 
 // How far a run has come: the bench behind so many records. It has failed where the listing could not be written.
-#[derive(Drop)]
+#[derive(Clone, Copy)]
 pub(crate) struct Course {
     pub(crate) bench: Bench,
     pub(crate) number: u64,

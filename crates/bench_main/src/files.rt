@@ -9,7 +9,7 @@ pub(crate) fn lines() -> [u8; 524288]
 }
 
 // A read that failed is told from the end of input, at which `end` does not move.
-#[derive(Drop)]
+#[derive(Clone, Copy)]
 pub(crate) struct Filled {
     pub(crate) failed: bool,
     pub(crate) end: usize,

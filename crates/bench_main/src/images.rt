@@ -3,7 +3,7 @@ use crate::{files, told, words};
 use bench::Bench;
 
 // Where it is not ready, what is wrong was told, and nothing is run.
-#[derive(Drop)]
+#[derive(Clone, Copy)]
 pub(crate) struct Start {
     pub(crate) bench: Bench,
     pub(crate) ready: bool,

@@ -1,5 +1,7 @@
 // The bench program: records from standard input, or the lesson that a word names; the listing to standard output, in words where they are asked for.
 // Images are read from files and written to files, states and tallies told, and a timeline written, as the words ask for them.
+#![tactic(auto)]
+
 mod course;
 mod files;
 mod images;

@@ -15,7 +15,7 @@ const DIGITS: usize = 8;
 const RECORD_BYTES: usize = 4;
 
 // What the words ask for; the place behind the last record in the lesson's text; the timeline's file, below 0 for none, and the seats that it tells of.
-#[derive(Drop)]
+#[derive(Clone, Copy)]
 pub(crate) struct Telling {
     pub(crate) explain: bool,
     pub(crate) each: bool,

@@ -1,4 +1,6 @@
 // What C does to a bench, by value, each with the word that tells of it: a record, on the parts that it can touch, a save, and a restore; and the modem outputs that it asks for.
+#![tactic(auto)]
+
 mod outputs;
 
 ghost use Rattle.std.specs.Prelude.{◌≡◌};
@@ -16,14 +18,14 @@ pub use outputs::seat_outputs;
 use seat::Seat;
 
 // A bench after what was done to it, and the word that tells of it.
-#[derive(Drop)]
+#[derive(Clone, Copy)]
 pub struct Played {
     pub bench: Bench,
     pub word: u64,
 }
 
 // A seat and the controller after a record, and the word that tells of it.
-#[derive(Drop)]
+#[derive(Clone, Copy)]
 pub struct PartsPlayed {
     pub seat: Seat,
     pub controller: Controller,

@@ -1,4 +1,6 @@
 // What C and the rooms have between them: C's numbers of 32 bits as the rooms take them, and the one word that C is answered with.
+#![tactic(auto)]
+
 ghost use Rattle.std.specs.Prelude.{◌≡◌, ◌≤◌};
 ghost use Rattle.c_word.specs.Word.{Tells};
 ghost use Rattle.c_word.specs.Numbers.{up_to, as_byte, as_divisor};

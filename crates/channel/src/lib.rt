@@ -1,4 +1,6 @@
 // One TL16C552A channel, register by register: the state, its parts, and one event at a time.
+#![tactic(auto)]
+
 use base::Answer;
 use receiver::Receiver;
 use registers::{SeatEvent, Settings};
@@ -15,14 +17,14 @@ ghost use Rattle.channel.specs.Steps.{stepped};
 
 // `levels` are the inputs last given, `changes` the bits 0 to 3 of the MSR.
 #[repr(C)]
-#[derive(Drop)]
+#[derive(Clone, Copy)]
 pub struct Modem {
     pub levels: u8,
     pub changes: u8,
 }
 
 #[repr(C)]
-#[derive(Drop)]
+#[derive(Clone, Copy)]
 pub struct Channel {
     pub settings: Settings,
     pub receiver: Receiver,
@@ -31,7 +33,7 @@ pub struct Channel {
 }
 
 // The channel after an event, and what the event was answered with.
-#[derive(Drop)]
+#[derive(Clone, Copy)]
 pub struct Stepped {
     pub channel: Channel,
     pub answer: Answer,

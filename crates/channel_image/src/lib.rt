@@ -1,4 +1,6 @@
 // A channel as bytes in a lent buffer, and back: the part of a seat's record that every version has.
+#![tactic(auto)]
+
 mod reading;
 mod tests;
 mod writing;
@@ -11,7 +13,7 @@ pub use writing::put;
 pub const LENGTH: usize = 66;
 
 // What the bytes say. Where they say no channel, `channel` is one at power-up.
-#[derive(Drop)]
+#[derive(Clone, Copy)]
 pub struct Found {
     pub channel: Channel,
     pub good: bool,

@@ -7,7 +7,7 @@ use channel::Channel;
 use queue::Queue;
 
 // The bytes of a queue's sixteen slots.
-#[derive(Drop)]
+#[derive(Clone, Copy)]
 pub struct QueueBytes {
     pub data: [u8; 16],
     pub marks: [u8; 16],

@@ -1,4 +1,6 @@
 // One 8259A. It knows the levels of eight lines, and no seats. A set of lines is a byte: line n is its bit n.
+#![tactic(auto)]
+
 use base::Answer;
 
 mod refusals;
@@ -13,7 +15,7 @@ ghost use Rattle.controller.specs.Steps.{step, placed};
 
 // The lines as they were last shown, and the edge latches.
 #[repr(C)]
-#[derive(Drop)]
+#[derive(Clone, Copy)]
 pub struct Lines {
     pub levels: u8,
     pub latches: u8,
@@ -21,7 +23,7 @@ pub struct Lines {
 
 // What the initialisation words settle.
 #[repr(C)]
-#[derive(Drop)]
+#[derive(Clone, Copy)]
 pub struct Setup {
     pub stage: u8,
     pub level: bool,
@@ -31,7 +33,7 @@ pub struct Setup {
 
 // What the operation words and the grants move. `first` is the first-ranked line; `selected` has port 0 read in-service.
 #[repr(C)]
-#[derive(Drop)]
+#[derive(Clone, Copy)]
 pub struct Operation {
     pub mask: u8,
     pub service: u8,
@@ -42,7 +44,7 @@ pub struct Operation {
 }
 
 #[repr(C)]
-#[derive(Drop)]
+#[derive(Clone, Copy)]
 pub struct Controller {
     pub lines: Lines,
     pub setup: Setup,
@@ -50,14 +52,14 @@ pub struct Controller {
 }
 
 // The controller after a signal, and what the signal was answered with.
-#[derive(Drop)]
+#[derive(Clone, Copy)]
 pub struct Signalled {
     pub controller: Controller,
     pub answer: Answer,
 }
 
 // A line, or nobody.
-#[derive(Drop)]
+#[derive(Clone, Copy)]
 pub enum Turn {
     Line(u8),
     Nobody,

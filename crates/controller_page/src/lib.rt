@@ -1,4 +1,6 @@
 // The state of the controller in words, as a page: its setup, its sets of lines, its rank and its modes.
+#![tactic(auto)]
+
 ghost use Rattle.std.specs.Prelude.{◌≡◌, ◌++◌};
 ghost use Rattle.base.specs.Pick.{pick};
 ghost use Rattle.text.specs.Line.{decimal};

@@ -1,4 +1,6 @@
 // What a record did, in words.
+#![tactic(auto)]
+
 mod deed;
 mod places;
 mod ports;

@@ -1,1 +1,2 @@
 // Theorems only: what the customer demands, over the definitions that the contracts cite.
+#![tactic(auto)]

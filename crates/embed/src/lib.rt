@@ -1,5 +1,7 @@
 // The bench for the control software, which is written in C: the caller holds a bench and lends it for a call.
 // A function over a lent bench copies out what its call touches, calls a function by value, stores what came back, and does nothing else.
+#![tactic(auto)]
+
 mod images;
 mod settings;
 
@@ -35,7 +37,7 @@ const VERSION: u32 = 30100;
 const BENCH_BYTES: usize = 812;
 
 // The five tallies of a seat, which are 0 where the seat is not there, and the word that tells which.
-#[derive(Drop)]
+#[derive(Clone, Copy)]
 pub struct Counted {
     pub five: Five,
     pub word: u64,

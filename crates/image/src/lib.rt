@@ -1,4 +1,6 @@
 // The whole bench as an image in a lent buffer, and back.
+#![tactic(auto)]
+
 mod reading;
 mod writing;
 
@@ -23,7 +25,7 @@ pub const LENGTH: usize = FRONT + SEATS * seat_image::LENGTH;
 pub(crate) const NEWEST: u16 = 2;
 
 // The bench after a restore, which is the one before it where that is refused.
-#[derive(Drop)]
+#[derive(Clone, Copy)]
 pub struct Restored {
     pub bench: Bench,
     pub answer: Answer,

@@ -18,14 +18,14 @@ use records::SEATS;
 use seat::Seat;
 
 // The seats of an image, and whether each record says one.
-#[derive(Drop)]
+#[derive(Clone, Copy)]
 pub struct Records {
     pub seats: [Seat; SEATS],
     pub good: bool,
 }
 
 // The bench of an image, and whether it may be.
-#[derive(Drop)]
+#[derive(Clone, Copy)]
 pub struct Body {
     pub bench: Bench,
     pub good: bool,

@@ -1,4 +1,6 @@
 // A channel lent by `&mut` to one function, which calls the by-value step: the late and thin form.
+#![tactic(auto)]
+
 ghost use Rattle.std.specs.Prelude.{◌≡◌};
 ghost use Rattle.channel.specs.Steps.{stepped};
 

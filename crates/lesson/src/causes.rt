@@ -9,14 +9,14 @@ use crate::{Cause, characters};
 use text::NO_DIGIT;
 
 // A fault as it is told: how many characters stand before it, and its cause.
-#[derive(Drop)]
+#[derive(Clone, Copy)]
 pub(crate) struct Finding {
     pub(crate) at: usize,
     pub(crate) cause: Cause,
 }
 
 // Where reading stands behind some characters, and how many of them stand before the record that was begun last.
-#[derive(Drop)]
+#[derive(Clone, Copy)]
 struct Behind {
     reading: Reading,
     begun: usize,

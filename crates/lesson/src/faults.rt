@@ -8,7 +8,7 @@ use text::NO_DIGIT;
 
 // Where reading stands: how many digits of the record are read, whether a line has ended since its first, and whether a comment
 // goes on.
-#[derive(Drop)]
+#[derive(Clone, Copy)]
 pub(crate) struct Reading {
     pub(crate) digits: u8,
     pub(crate) cut: bool,
@@ -24,7 +24,7 @@ pub(crate) const START: Reading = Reading {
     comment: false,
 };
 
-#[derive(Drop)]
+#[derive(Clone, Copy)]
 pub(crate) enum Found {
     At(usize),
     Nowhere,

@@ -1,4 +1,6 @@
 // Lessons as text: what a teacher writes in an editor goes in, the bytes of its records come out, or its first fault.
+#![tactic(auto)]
+
 mod bytes;
 mod causes;
 mod characters;
@@ -14,7 +16,7 @@ use faults::Found;
 // Of a text that is not longer, every line and column is a number that there is.
 const LONGEST: usize = 4294967295;
 
-#[derive(Drop)]
+#[derive(Clone, Copy)]
 pub enum Lesson {
     // So many bytes stand at the start of the buffer.
     Bytes(usize),
@@ -26,7 +28,7 @@ pub enum Lesson {
     NoRoom,
 }
 
-#[derive(Drop)]
+#[derive(Clone, Copy)]
 pub enum Cause {
     NoDigit,
     OneDigit,
@@ -37,7 +39,7 @@ pub enum Cause {
 }
 
 // The part of a text that a comment is: from its number sign on, up to its end. Where both are the same there is none.
-#[derive(Drop)]
+#[derive(Clone, Copy)]
 pub struct Comment {
     pub from: usize,
     pub end: usize,

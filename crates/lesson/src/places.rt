@@ -3,7 +3,7 @@ ghost use Rattle.std.specs.Prelude.{◌≡◌, ◌≤◌, length};
 ghost use Rattle.lesson.specs.Place.{place_behind};
 ghost use Rattle.lesson.specs.Place.{onward as Place·onward};
 
-#[derive(Drop)]
+#[derive(Clone, Copy)]
 pub(crate) struct Place {
     pub(crate) line: usize,
     pub(crate) column: usize,

@@ -11,7 +11,7 @@ use records::{Event, Touched};
 use seat::Seat;
 
 // A record taken out of the input: its bytes, or that it is short; whether it is a master reset, and the chair of its seat.
-#[derive(Drop)]
+#[derive(Clone, Copy)]
 pub(crate) struct Held {
     pub(crate) short: bool,
     pub(crate) resets: bool,

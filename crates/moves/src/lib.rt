@@ -1,4 +1,6 @@
 // What a record moved, in words: each thing that is other behind it than before.
+#![tactic(auto)]
+
 mod changes;
 mod places;
 mod signals;

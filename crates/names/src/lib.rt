@@ -1,4 +1,6 @@
 // The words for registers, bits and causes, for whoever tells a lesson. The one table of words is `specs/Names.antt`.
+#![tactic(auto)]
+
 mod bits;
 mod registers;
 mod sets;

@@ -1,10 +1,12 @@
 // The program's words, read one after the other: each option with the words that follow it, a lesson's name, and when a save is due.
+#![tactic(auto)]
+
 mod moments;
 mod reading;
 mod saves;
 
 // When a save is due: behind so many records, or at the end.
-#[derive(Drop)]
+#[derive(Clone, Copy)]
 pub enum Moment {
     Behind(u64),
     End,
@@ -12,14 +14,14 @@ pub enum Moment {
 }
 
 // Where a run stands: behind so many records, or at its end, with so many behind it.
-#[derive(Drop)]
+#[derive(Clone, Copy)]
 pub enum Now {
     Behind(u64),
     End(u64),
 }
 
 // Whether the next word is the file of a save that is due now, or of one that can no more be.
-#[derive(Drop)]
+#[derive(Clone, Copy)]
 pub enum Due {
     No,
     Save,
@@ -46,7 +48,7 @@ pub(crate) const ASKED: usize = 7;
 
 // The words as far as they are read: what the next one is, and the moment of the save that was read last; where each thing is asked for that may be
 // once, 0 for nowhere; `wrong` is the place of a word that is not understood.
-#[derive(Drop)]
+#[derive(Clone, Copy)]
 pub struct Words {
     pub(crate) awaited: u8,
     pub(crate) moment: Moment,

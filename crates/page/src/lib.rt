@@ -1,17 +1,19 @@
 // Text for a class: pieces of words, and pages that they fill, in lines that fit a terminal.
+#![tactic(auto)]
+
 mod notes;
 mod pages;
 mod pieces;
 
 // What is said in one go. No line is broken within it.
-#[derive(Drop)]
+#[derive(Clone, Copy)]
 pub struct Piece {
     pub(crate) bytes: [u8; 68],
     pub(crate) count: usize,
 }
 
 // Lines as far as they are filled: the column behind the last byte, and whether nothing but the head stands there.
-#[derive(Drop)]
+#[derive(Clone, Copy)]
 pub struct Page {
     pub bytes: [u8; 4096],
     pub count: usize,

@@ -1,4 +1,6 @@
 // The divisor list: eighteen rates, a divisor for each at the first clock, and for all but the last at the other two.
+#![tactic(auto)]
+
 ghost use Rattle.std.specs.Prelude.{◌≡◌, ◌≤◌};
 ghost use Rattle.rates.specs.Rates.{divisor_of, rates_of, rate_in, rate_of};
 ghost use Rattle.rates.specs.Row.{row_of};
@@ -66,7 +68,7 @@ pub fn divisor(rate: u32, clock: u8) -> Answer
 }
 
 // A rate in tenths of a baud, or the refusal, with the rate 0.
-#[derive(Drop)]
+#[derive(Clone, Copy)]
 pub struct Found {
     pub answer: Answer,
     pub rate: u32,

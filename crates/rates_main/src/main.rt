@@ -1,5 +1,7 @@
 // Asks the divisor list for every rate of document 01 and its two neighbours, at the three clocks and one more, and for the
 // edges of both numbers. A line each: clock, rate in tenths of a baud, refusal number, answer in three hex capitals.
+#![tactic(auto)]
+
 use libc::STDOUT_FILENO;
 
 const CLOCKS: u8 = 4;

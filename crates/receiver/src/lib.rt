@@ -1,5 +1,7 @@
 // The receive side of a channel: the queue, overrun, kept marks, the time-out count and the last byte read.
 // `fifo` is the mode in every call; the channel has it in its FCR.
+#![tactic(auto)]
+
 ghost use Rattle.std.specs.Prelude.{◌≡◌};
 ghost use Rattle.receiver.specs.Receiver.{quiet, none_queued, received, got, shown_marks, some_marked, troubled, lsr_seen, waited, cleared, after_mode_change, fcr_heard, restarted, data_stands, timeout_stands};
 
@@ -7,7 +9,7 @@ use base::Figures;
 use queue::{Character, Queue};
 
 #[repr(C)]
-#[derive(Drop)]
+#[derive(Clone, Copy)]
 pub struct Receiver {
     pub queue: Queue,
     pub overrun: bool,
@@ -16,7 +18,7 @@ pub struct Receiver {
     pub last: u8,
 }
 
-#[derive(Drop)]
+#[derive(Clone, Copy)]
 pub struct Got {
     pub receiver: Receiver,
     pub byte: u8,

@@ -1,4 +1,6 @@
 // A record of four bytes, and what it makes of the seat that it names and the controller.
+#![tactic(auto)]
+
 use base::Answer;
 use controller::Controller;
 use registers::SeatEvent;
@@ -12,7 +14,7 @@ pub use parts::{short_parts, step_parts};
 // The number of seats stands here, and in the definitions as `seat_count`.
 pub const SEATS: usize = 8;
 
-#[derive(Drop)]
+#[derive(Clone, Copy)]
 pub enum Event {
     OfSeat(u8, SeatEvent),
     MasterReset,
@@ -43,14 +45,14 @@ impl Event {
 }
 
 // A record, decoded: its event, or the number of the refusal.
-#[derive(Drop)]
+#[derive(Clone, Copy)]
 pub enum Decoded {
     Taken(Event),
     NoEvent(u8),
 }
 
 // A record works on these parts alone, but a master reset, which touches the other seats too.
-#[derive(Drop)]
+#[derive(Clone, Copy)]
 pub struct Touched {
     pub seat: Seat,
     pub controller: Controller,

@@ -1,4 +1,6 @@
 // The settings of a channel: its registers by name, the mode, the trigger, the divisor and the word length.
+#![tactic(auto)]
+
 use base::Answer;
 
 mod arrivals;
@@ -16,7 +18,7 @@ pub use loopback::inputs;
 pub use modem::{any_change, changes_after, modem_status};
 
 #[repr(C)]
-#[derive(Drop)]
+#[derive(Clone, Copy)]
 pub struct Settings {
     pub ier: u8,
     pub fcr: u8,
@@ -28,7 +30,7 @@ pub struct Settings {
 }
 
 // A register by what it is; its number depends on LCR bit 7.
-#[derive(Drop)]
+#[derive(Clone, Copy)]
 pub enum Register {
     RbrThr,
     Ier,
@@ -43,7 +45,7 @@ pub enum Register {
 }
 
 // What can happen to a seat.
-#[derive(Drop)]
+#[derive(Clone, Copy)]
 pub enum SeatEvent {
     Read(u8),
     Write(u8, u8),

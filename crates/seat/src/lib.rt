@@ -1,4 +1,6 @@
 // One seat of the bench: a channel, and beside it the tallies of what it received. The rooms above deal in seats and open none.
+#![tactic(auto)]
+
 use base::Answer;
 use channel::Channel;
 
@@ -10,7 +12,7 @@ ghost use Rattle.seat.specs.Seats.{power_up, reset, line, five};
 
 // "five 32-bit tallies of received characters since power-up"
 #[repr(C)]
-#[derive(Drop)]
+#[derive(Clone, Copy)]
 pub struct Tallies {
     pub arrived: u32,
     pub read: u32,
@@ -20,7 +22,7 @@ pub struct Tallies {
 
 // All five, as they are handed out.
 #[repr(C)]
-#[derive(Drop)]
+#[derive(Clone, Copy)]
 pub struct Five {
     pub arrived: u32,
     pub read: u32,
@@ -30,14 +32,14 @@ pub struct Five {
 }
 
 #[repr(C)]
-#[derive(Drop)]
+#[derive(Clone, Copy)]
 pub struct Seat {
     pub tallies: Tallies,
     pub channel: Channel,
 }
 
 // The seat after an event, and what the event was answered with.
-#[derive(Drop)]
+#[derive(Clone, Copy)]
 pub struct Replied {
     pub seat: Seat,
     pub answer: Answer,

@@ -1,4 +1,6 @@
 // A seat as a record of bytes in a lent buffer, and back: its channel's bytes, and its tallies behind them.
+#![tactic(auto)]
+
 mod reading;
 mod tallies;
 mod writing;
@@ -14,7 +16,7 @@ pub const LENGTH: usize = channel_image::LENGTH + TALLIES;
 pub(crate) const TALLIES: usize = 20;
 
 // What a record says. Where it says no seat, `seat` is one at power-up.
-#[derive(Drop)]
+#[derive(Clone, Copy)]
 pub struct Found {
     pub seat: Seat,
     pub good: bool,

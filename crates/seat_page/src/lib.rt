@@ -1,4 +1,6 @@
 // The state of a seat in words: whether it is in use, and its page.
+#![tactic(auto)]
+
 mod queues;
 mod seats;
 mod using;

@@ -3,7 +3,7 @@ ghost use Rattle.std.specs.Prelude.{◌≡◌, ◌+◌, ◌-◌, ◌≤◌, leng
 ghost use Rattle.text.specs.FormLaws.{denoted};
 ghost use Rattle.setting_lines.specs.Guess.{behind_rate, halved, code_by, lcr_guess, rate_guess, guess_at, guessed};
 
-#[derive(Drop)]
+#[derive(Clone, Copy)]
 pub(crate) struct Guess {
     pub(crate) rate: u32,
     pub(crate) lcr: u8,

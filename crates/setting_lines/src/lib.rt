@@ -1,4 +1,6 @@
 // Settings lines of the control sheets: `9600,E,7,2` into a divisor and an LCR byte, and back.
+#![tactic(auto)]
+
 mod guesses;
 mod lines;
 
@@ -11,7 +13,7 @@ use base::Answer;
 use rates::Found;
 
 // What a line says, or the refusal, with both numbers 0.
-#[derive(Drop)]
+#[derive(Clone, Copy)]
 pub struct Setting {
     pub answer: Answer,
     pub divisor: u16,
@@ -19,7 +21,7 @@ pub struct Setting {
 }
 
 // How long the line is, or the refusal, with the length 0.
-#[derive(Drop)]
+#[derive(Clone, Copy)]
 pub struct Written {
     pub answer: Answer,
     pub length: usize,

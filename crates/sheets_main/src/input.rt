@@ -16,7 +16,7 @@ fn answers() -> [u8; 1048576]
 }
 
 // The line that a block ends in, its number, and where the answers end.
-#[derive(Drop)]
+#[derive(Clone, Copy)]
 struct Walked {
     sheet: Sheet,
     number: u64,

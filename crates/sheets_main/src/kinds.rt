@@ -4,7 +4,7 @@ ghost use Rattle.std.specs.Prelude.{◌≡◌, ◌≤◌, length};
 use sheets::{Line, Numbers};
 
 // The line that is being read: by its numbers in a sheet of numbers, by its bytes in the other.
-#[derive(Drop)]
+#[derive(Clone, Copy)]
 pub(crate) struct Sheet {
     numbered: bool,
     clock: u8,

@@ -1,4 +1,6 @@
 // The settings program: lines of a control sheet from standard input, their answers to standard output.
+#![tactic(auto)]
+
 mod input;
 mod kinds;
 mod told;

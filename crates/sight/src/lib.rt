@@ -1,4 +1,6 @@
 // What a timeline shows of a bench, and of which seats.
+#![tactic(auto)]
+
 ghost use Rattle.std.specs.Prelude.{◌≡◌, get_or};
 ghost use Rattle.base.specs.ListLaws.{listed};
 ghost use Rattle.seat.specs.Seats.{no_seat};
@@ -10,14 +12,14 @@ use records::{Event, SEATS};
 use seat::Seat;
 
 // What is seen of a seat.
-#[derive(Drop)]
+#[derive(Clone, Copy)]
 pub struct Look {
     pub lsr: u8,
     pub queued: u8,
 }
 
 // What is seen of a bench. A set of lines is a byte: line n is its bit n.
-#[derive(Drop)]
+#[derive(Clone, Copy)]
 pub struct Sight {
     pub output: bool,
     pub levels: u8,

@@ -1,4 +1,6 @@
 // What a channel shows of its settings and its two sides: the cause of an interrupt, by the table of causes, the IIR, the line and the LSR.
+#![tactic(auto)]
+
 use receiver::Receiver;
 use registers::Settings;
 use transmitter::Transmitter;
@@ -11,7 +13,7 @@ ghost use Rattle.status.specs.Status.{lsr_of, cause_of, iir_of, line_of};
 use standing::{Standing, When};
 
 // A row of the table: the code that the IIR names, the IER bit that enables it, and when it stands.
-#[derive(Drop)]
+#[derive(Clone, Copy)]
 struct Row(u8, u8, When);
 
 // "IIR names the first enabled cause": in order of priority, so the first row counts that is enabled and stands.

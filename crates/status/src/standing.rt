@@ -3,7 +3,7 @@ ghost use Rattle.std.specs.Prelude.{◌≡◌};
 ghost use Rattle.status.specs.Table.{holds};
 
 // A row of the table stands when there is:
-#[derive(Drop)]
+#[derive(Clone, Copy)]
 pub(crate) enum When {
     // "any of LSR 1-4"
     Trouble,
@@ -18,7 +18,7 @@ pub(crate) enum When {
 }
 
 // Which of these there are.
-#[derive(Drop)]
+#[derive(Clone, Copy)]
 pub(crate) struct Standing {
     pub(crate) trouble: bool,
     pub(crate) data: bool,

@@ -1,7 +1,7 @@
 // A row of the table taken apart to its columns.
 ghost use Rattle.std.specs.Prelude.{◌<◌};
 
-#[derive(Drop)]
+#[derive(Clone, Copy)]
 pub(crate) struct Row {
     pub kind: u8,
     pub number: u8,

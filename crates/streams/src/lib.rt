@@ -1,5 +1,7 @@
 // The streams of events that second/TRIALS.md describes, written from that page alone, and the digests of what a bench answers
 // to them. A stream does not look at the bench.
+#![tactic(auto)]
+
 mod asked;
 mod columns;
 mod digest;
@@ -16,7 +18,7 @@ pub use draws::{advance, pick};
 pub use rows::script_rows;
 pub use sets::SETS;
 
-#[derive(Drop)]
+#[derive(Clone, Copy)]
 pub struct Record {
     pub kind: u8,
     pub seat: u8,
@@ -24,7 +26,7 @@ pub struct Record {
     pub value: u8,
 }
 
-#[derive(Drop)]
+#[derive(Clone, Copy)]
 pub struct Stream {
     pub x: u32,
     pub set: u8,
@@ -35,7 +37,7 @@ pub struct Stream {
     pub left: u8,
 }
 
-#[derive(Drop)]
+#[derive(Clone, Copy)]
 pub struct Made {
     pub stream: Stream,
     pub record: Record,

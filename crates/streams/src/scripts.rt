@@ -12,7 +12,7 @@ const FIRST_ROWS: [u16; SCRIPTS + 1] = [
 ];
 
 // A script's first row, and the first row after it.
-#[derive(Drop)]
+#[derive(Clone, Copy)]
 pub(crate) struct Span {
     pub row: u16,
     pub stop: u16,

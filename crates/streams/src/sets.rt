@@ -67,7 +67,7 @@ const PICKS: [[u8; 8]; HALVES * 2] = [
     [60, 8, 7, 28, 51, 26, 69, 0],
 ];
 
-#[derive(Drop)]
+#[derive(Clone, Copy)]
 pub(crate) struct Spoil {
     pub which: u8,
     pub base: u8,

@@ -7,7 +7,7 @@ use Rattle.base.specs.PickLaws.{pick_true, pick_false, either_way}
 use Rattle.base.specs.Answers.{refusal_of}
 use Rattle.base.specs.declared.Answer.{Answer}
 use Rattle.text.specs.Line.{decimal, line, longest, Put, Puts}
-use Rattle.text.specs.Front.{front, line_after_lem, rest}
+use Rattle.text.specs.Front.{front, line_after, rest}
 use Rattle.text.specs.DecimalLaws.{decimal_length, decimal_front, front_length}
 
 pub line_length : (n : ℕ) (a : Answer) (o : Bool) → length (line n a o) ≡ length (decimal n) + length (decimal (refusal_of a)) + 8
@@ -19,11 +19,11 @@ line_some n a o = omega (arith, line_length n a o)
 
 -- ---- by the digits before the last
 
-pub after_length : (l : List ℕ) (n : ℕ) (a : Answer) (o : Bool) → length (line_after_lem l n a o) ≡ length l + length (decimal (refusal_of a)) + 9
-unfolding line_after_lem
+pub after_length : (l : List ℕ) (n : ℕ) (a : Answer) (o : Bool) → length (line_after l n a o) ≡ length l + length (decimal (refusal_of a)) + 9
+unfolding line_after
 after_length l n a o = simp length-append (omega arith)
 
-pub after_short : (l : List ℕ) (n : ℕ) (a : Answer) (o : Bool) → refusal_of a < 10 ^ 3 → length (line_after_lem l n a o) ≤ length l + rest
+pub after_short : (l : List ℕ) (n : ℕ) (a : Answer) (o : Bool) → refusal_of a < 10 ^ 3 → length (line_after l n a o) ≤ length l + rest
 after_short l n a o byte = omega (arith, after_length l n a o, decimal_length 2 (refusal_of a) byte)
 
 -- the room that is left holds so many bytes exactly if they end inside
@@ -37,21 +37,21 @@ room_left at m size inside =
     (either_way (leb (at + m) size))
 
 pub room_after : (at size r : ℕ) (l : List ℕ) (n : ℕ) (a : Answer) (o : Bool) → r ≡ refusal_of a → at ≤ size
-    → leb (length l + length (decimal r) + 9) (size - at) ≡ leb (at + length (line_after_lem l n a o)) size
+    → leb (length l + length (decimal r) + 9) (size - at) ≡ leb (at + length (line_after l n a o)) size
 room_after at size r l n a o is inside =
     room_left at (length l + length (decimal r) + 9) size inside
     ∙ ap (λ (m : ℕ). leb (at + m) size)
     (ap (λ (x : ℕ). length l + length (decimal x) + 9) is ∙ sym (after_length l n a o))
 
-line_after_lem : (n : ℕ) (a : Answer) (o : Bool) → line_after_lem (front n) n a o ≡ line n a o
-unfolding line line_after_lem
+line_after_lem : (n : ℕ) (a : Answer) (o : Bool) → line_after (front n) n a o ≡ line n a o
+unfolding line line_after
 line_after_lem n a o = rw (decimal_front n, append_assoc)
 
 -- so the line of a 64-bit number is put by putting what follows those of its own
 pub puts_after : (l : List ℕ) (n : ℕ) (a : Answer) (o : Bool) (d d' : List ℕ) (place r : ℕ) → l ≡ front n → n < 10 ^ 20
-    → Put (line_after_lem l n a o) (length l + rest) d d' place r → Puts n a o d d' place r
+    → Put (line_after l n a o) (length l + rest) d d' place r → Puts n a o d d' place r
 puts_after l n a o d d' place r is small p =
-    let same : line_after_lem l n a o ≡ line n a o = ap (λ (x : List ℕ). line_after_lem x n a o) is ∙ line_after_lem n a o in
+    let same : line_after l n a o ≡ line n a o = ap (λ (x : List ℕ). line_after x n a o) is ∙ line_after_lem n a o in
     let few : length l + 1 ≤ 20 = omega (arith, ap length is, front_length n, decimal_length 19 n small) in
     let q : Put (line n a o) (length l + rest) d d' place r = subst (λ (x : List ℕ). Put x (length l + rest) d d' place r) same p in
     record { next = q.next; bytes = q.bytes; short = omega (arith, q.short, few) }

@@ -1,4 +1,6 @@
 // One line of the listing as text, put into a lent buffer.
+#![tactic(auto)]
+
 mod hex;
 mod lines;
 mod numbers;

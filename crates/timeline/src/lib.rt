@@ -1,4 +1,6 @@
 // The timeline of a lesson, for a wave viewer: a value change dump. The bench behind each record is seen, and what has changed is told.
+#![tactic(auto)]
+
 mod heads;
 mod steps;
 mod values;

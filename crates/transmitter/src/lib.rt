@@ -1,12 +1,14 @@
 // The send side of a channel: the transmit queue, the shift register, and the holding-empty flag.
 // An empty shift register holds the byte 0, so that equal sides have equal fields.
+#![tactic(auto)]
+
 ghost use Rattle.std.specs.Prelude.{◌≡◌};
 ghost use Rattle.transmitter.specs.Transmitter.{still, none_waiting, all_sent, flag_set_if, flag_cleared, written, emptied, next, shifted, enabled, loaded, iir_seen, ier_sent, fcr_sent};
 
 use queue::{Character, Queue};
 
 #[repr(C)]
-#[derive(Drop)]
+#[derive(Clone, Copy)]
 pub struct Transmitter {
     pub queue: Queue,
     pub busy: bool,

@@ -9,7 +9,7 @@ pub(crate) fn fresh() -> [u8; ROOM] {
     [FRESH; ROOM]
 }
 
-#[derive(Drop)]
+#[derive(Clone, Copy)]
 pub(crate) struct Kept {
     pub buffer: [u8; ROOM],
     pub sum: u32,

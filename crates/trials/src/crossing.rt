@@ -16,14 +16,14 @@ const LATCHES: usize = 15;
 const SPOILT: u8 = 255;
 
 // "v is 0", w and p.
-#[derive(Drop)]
+#[derive(Clone, Copy)]
 pub(crate) struct Picked {
     pub old: bool,
     pub way: u8,
     pub at: u8,
 }
 
-#[derive(Drop)]
+#[derive(Clone, Copy)]
 pub(crate) struct Crossed {
     pub left: Side,
     pub right: Side,
@@ -140,7 +140,7 @@ fn read(side: Side, sum: u32, image: [u8; ROOM], at: u8, n: u8) -> Given {
 }
 
 // A side at a stop, with the buffer that its bench was saved into and the one seat's record there.
-#[derive(Drop)]
+#[derive(Clone, Copy)]
 struct Saved {
     side: Side,
     buffer: [u8; ROOM],

@@ -12,7 +12,7 @@ const LOOKED_AT: u8 = 8;
 const LATER: u64 = 100;
 
 // The picker's x, the other bench, and the digest.
-#[derive(Drop)]
+#[derive(Clone, Copy)]
 pub(crate) struct Damaged {
     pub x: u32,
     pub other: Bench,

@@ -10,7 +10,7 @@ use streams::{advance, pick};
 const BETWEEN_STOPS: u64 = 100;
 
 // The stream with its bench, the other bench, and the picker's x.
-#[derive(Drop)]
+#[derive(Clone, Copy)]
 struct Trial {
     run: Run,
     other: Bench,

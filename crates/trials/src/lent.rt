@@ -16,7 +16,7 @@ const FAR: usize = 65536;
 
 const NEAR_END: usize = 752;
 
-#[derive(Drop)]
+#[derive(Clone, Copy)]
 pub(crate) struct Lent {
     pub length: usize,
     pub at: usize,

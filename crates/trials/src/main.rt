@@ -1,6 +1,8 @@
 // Runs streams of events over the proved bench and prints a line for each: seed and count in decimal, the digest, the letter digest and
 // the tally digest in eight hex capitals each; of a pair, the digest and both sights. With no argument, the three lists of second/TRIALS.md; with SEED and
 // COUNT, and SET and START where they are not 0, that stream alone; with `images` before them, as a trial of saved benches, with `pairs` as a pair.
+#![tactic(auto)]
+
 use libc::{STDERR_FILENO, STDOUT_FILENO};
 use streams::SETS;
 use words::Number;

@@ -16,7 +16,7 @@ const QUARTER: u32 = 1073741824;
 const HALF: u32 = 2147483648;
 
 // The seat's own stream, the two lessons, the picker's x, the digest, and the record on the shelf.
-#[derive(Drop)]
+#[derive(Clone, Copy)]
 struct Pair {
     own: Stream,
     left: Side,

@@ -13,7 +13,7 @@ pub(crate) const ASKED_LINES: u8 = 9;
 const ASKED_SEATS: u8 = 16;
 
 // A stream, the bench that its events were given to, the digest, the letter digest and the tally digest, at some point of a trial.
-#[derive(Drop)]
+#[derive(Clone, Copy)]
 pub(crate) struct Run {
     pub stream: Stream,
     pub bench: Bench,

@@ -9,7 +9,7 @@ const SEATS: u8 = 8;
 
 const OTHERS: u8 = 7;
 
-#[derive(Drop)]
+#[derive(Clone, Copy)]
 pub(crate) struct Side {
     pub beside: Stream,
     pub bench: Bench,
@@ -17,7 +17,7 @@ pub(crate) struct Side {
 }
 
 // The side after an event, the digest, and what the event was answered with.
-#[derive(Drop)]
+#[derive(Clone, Copy)]
 pub(crate) struct Given {
     pub side: Side,
     pub sum: u32,

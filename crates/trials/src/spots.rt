@@ -1,7 +1,7 @@
 // A spot in an image. A picker is its x: "a state as in State, of which only x is used".
 use streams::{advance, pick};
 
-#[derive(Drop)]
+#[derive(Clone, Copy)]
 pub(crate) struct Spotted {
     pub x: u32,
     pub at: u16,

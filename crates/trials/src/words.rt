@@ -1,6 +1,6 @@
 // The words that the program is given, and the numbers among them.
 
-#[derive(Drop)]
+#[derive(Clone, Copy)]
 pub(crate) enum Number {
     Whole(u64),
     Unread,

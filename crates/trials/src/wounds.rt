@@ -8,7 +8,7 @@ use streams::{advance, pick};
 const ROWS: usize = 56;
 
 // What the picker's x was at each pick, and the spot.
-#[derive(Drop)]
+#[derive(Clone, Copy)]
 pub(crate) struct Picks {
     pub a: u32,
     pub b: u16,
