@@ -47,7 +47,7 @@ run_in_order s ms sound =
     let waiting = waiting_in s first ms in
     let now : bytes (arrived_as leaving ++ arrived_as waiting) ≡ bytes (characters (read_in s ms)) ++ queued (after_all s ms)
     = map-append (λ ch. ch.«data») (arrived_as leaving) (arrived_as waiting)
-    ∙ ap₂ (λ (h k : List ℕ). h ++ k) (sym (ap (λ h. bytes (characters h)) l.given-as ∙ read_bytes (leaving_in s first ms)))
+    ∙ ap₂ (λ (h k : List ℕ). h ++ k) (sym (ap (λ h. bytes (characters h)) l.given_as ∙ read_bytes (leaving_in s first ms)))
     (sym (ap bytes l.left_as ∙ left_bytes waiting)) in
     subst (λ (k : List ℕ). Subsequence k (queued s ++ bytes (arrived_in ms))) now
     (subst (Subsequence (bytes (arrived_as leaving ++ arrived_as waiting))) (map-append (λ ch. ch.«data») (held s) (arrived_in ms))
