@@ -74,7 +74,7 @@ module _ (t v : ℕ) (s : Setup) (up : ready s ≡ true) (lt : t < 8) (c : Contr
   granting_one : Granting t v c → Run s t v (answers c (acknowledge ∷ rest))
   granting_one g =
       ⊎_elim (λ (z : eqb g.line t ≡ true). its_own g.line g.grants (eqb-true g.line t z))
-      (λ (z : eqb g.line t ≡ false). another_line g.line g.grants g.small g.no-later (eqb-false g.line t z))
+      (λ (z : eqb g.line t ≡ false). another_line g.line g.grants g.small g.no_later (eqb-false g.line t z))
       (either_way (eqb g.line t))
 
 held_settled : (owed : Bool) (v high : ℕ) (c : Controller) → Held owed v c.operation → Held owed v (settled c high).operation

@@ -74,7 +74,7 @@ waits_by : (more : Signal) (t : ℕ) (owed : Bool) (c : Controller) (ms : List M
 waits_by more t owed c [] e = tt
 waits_by more t owed c (m ∷ rest) e =
     let p = both_hold (comes t owed m) _ e in
-    (move_may more t owed m p.0, inr (waits_by more t _ _ rest p.1))
+    (move_may more t owed m p.0, inr (waits_by more t (owes c owed (signal more m)) (after c (signal more m)) rest p.1))
 
 abbrev pub tells : ℕ → Answer → Bool
 tells v (Byte b) = false
