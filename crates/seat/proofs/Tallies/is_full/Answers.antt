@@ -3,8 +3,7 @@ use borrow.Author.Tests.{eqb-false, lt-leb}
 use Rattle.base.specs.PickLaws.{either_way}
 use Rattle.seat.specs.Tallies.{largest}
 use Rattle.base.specs.PickLaws.{tests}
-use Rattle.seat.proofs.Tallies.is_full.Statement.{statement}
-use Rattle.seat.proofs.Tallies.is_full.Tie as tie
+use Rattle.seat.proofs.Tallies.is_full.Goals as goal
 
 -- no number of 32 bits is above the largest
 at_largest : (a : ℕ) → a ≤ largest → eqb a largest ≡ leb largest a
@@ -14,10 +13,6 @@ at_largest a most =
     (λ (other : eqb a largest ≡ false). let apart = eqb-false a largest other in other ∙ sym (lt-leb largest a (omega (arith, most, apart))))
     (either_way (eqb a largest))
 
-returns : tie.Need-returns
-returns c =
-    let a = c.before.args.self.arrived in
+pub returns : goal.returns
+returns c = let a = c.args.self.arrived in
     at_largest a (omega arith)
-
-pub is-full-spec : {M : Type 1} → statement M
-is-full-spec = tie.close (tie.spec returns)
