@@ -33,7 +33,7 @@ divisor_of b short = false
 abbrev pub came : Bench → Record → List ℕ
 came b (whole kind n number value) =
     came_of kind number (divisor_at b n) b.controller.operation.selected (none_queued (channel_at b n).receiver) (outcome b (whole kind n number value)).answer
-came b short = came_of kinds.Acknowledge 0 false false false (outcome b short).answer
+came b short = came_of kinds.acknowledge_kind 0 false false false (outcome b short).answer
 
 -- between two benches
 abbrev pub moved : Bench → Bench → Record → List (List ℕ)

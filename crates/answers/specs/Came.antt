@@ -49,7 +49,7 @@ port_came port selected byte = port_name port selected ++ (hex byte ++ (quoted "
 -- a byte that was read: of a register, or "the controller, port 0 or 1"
 unfoldable pub byte_came : ℕ → ℕ → Bool → Bool → ℕ → List ℕ
 byte_came kind number divisor selected byte =
-    pick (eqb kind kinds.ReadController) (port_came number selected byte) (register_came number divisor byte)
+    pick (eqb kind kinds.read_controller_kind) (port_came number selected byte) (register_came number divisor byte)
 
 -- "`sent L`, a letter"
 unfoldable pub sent_came : ℕ → List ℕ

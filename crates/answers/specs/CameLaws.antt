@@ -51,7 +51,7 @@ port_fits port selected byte =
 byte_fits : (kind number : ℕ) (divisor selected : Bool) (byte : ℕ) → number < 256 → Fits 68 (byte_came kind number divisor selected byte)
 unfolding byte_came
 byte_fits kind number divisor selected byte small =
-    fits_pick (eqb kind kinds.ReadController) (fits_more (port_fits number selected byte) (omega arith)) (register_came_fits number divisor byte small)
+    fits_pick (eqb kind kinds.read_controller_kind) (fits_more (port_fits number selected byte) (omega arith)) (register_came_fits number divisor byte small)
 
 sent_fits : (byte : ℕ) → Fits 11 (sent_came byte)
 unfolding sent_came

@@ -47,10 +47,10 @@ module _ (seat number value : ℕ) (byte-seat : seat < 256) (byte-number : numbe
   seat_fits : (kind : ℕ) (divisor : Bool) → Fits 52 (seat_done kind seat number value divisor)
   unfolding seat_done
   seat_fits kind divisor =
-      fits_pick (eqb kind kinds.ReadRegister) (fits_more (read_fits divisor) (omega arith))
-      (fits_pick (eqb kind kinds.WriteRegister) (fits_more (write_fits divisor) (omega arith))
-      (fits_pick (eqb kind kinds.Arrival) arrival_fits
-      (fits_pick (eqb kind kinds.ModemInputs) (fits_more levels_done_fit (omega arith))
+      fits_pick (eqb kind kinds.read_register_kind) (fits_more (read_fits divisor) (omega arith))
+      (fits_pick (eqb kind kinds.write_register_kind) (fits_more (write_fits divisor) (omega arith))
+      (fits_pick (eqb kind kinds.arrival_kind) arrival_fits
+      (fits_pick (eqb kind kinds.modem_inputs_kind) (fits_more levels_done_fit (omega arith))
       (fits_more time_fits (omega arith)))))
 
   port_read_fits : (selected : Bool) → Fits 27 (controller_read_done number selected)
@@ -84,16 +84,16 @@ module _ (seat number value : ℕ) (byte-seat : seat < 256) (byte-number : numbe
   other_fits : (kind : ℕ) (c : Controller) → kind < 256 → Fits 31 (other_done kind number value c)
   unfolding other_done
   other_fits kind c byte =
-      fits_pick (eqb kind kinds.MasterReset) (fits_quoted (quoted "master reset of all eight seats") refl)
-      (fits_pick (eqb kind kinds.ReadController) (fits_more (port_read_fits c.operation.selected) (omega arith))
-      (fits_pick (eqb kind kinds.WriteController) (fits_more (port_write_fits c.setup.stage) (omega arith))
-      (fits_pick (eqb kind kinds.Acknowledge) (fits_more (fits_quoted (quoted "acknowledge") refl) (omega arith))
+      fits_pick (eqb kind kinds.master_reset_kind) (fits_quoted (quoted "master reset of all eight seats") refl)
+      (fits_pick (eqb kind kinds.read_controller_kind) (fits_more (port_read_fits c.operation.selected) (omega arith))
+      (fits_pick (eqb kind kinds.write_controller_kind) (fits_more (port_write_fits c.setup.stage) (omega arith))
+      (fits_pick (eqb kind kinds.acknowledge_kind) (fits_more (fits_quoted (quoted "acknowledge") refl) (omega arith))
       (fits_more (fits_behind (quoted "a record of kind ") refl (fits_byte kind byte)) (omega arith)))))
 
   pub done_fits : (kind : ℕ) (divisor : Bool) (c : Controller) → kind < 256 → Fits 52 (whole_done kind seat number value divisor c)
   unfolding whole_done
   done_fits kind divisor c byte =
-      fits_pick (ltb kind kinds.MasterReset) (seat_fits kind divisor) (fits_more (other_fits kind c byte) (omega arith))
+      fits_pick (ltb kind kinds.master_reset_kind) (seat_fits kind divisor) (fits_more (other_fits kind c byte) (omega arith))
 
 pub cut_fits : Fits 16 cut_done
 unfolding cut_done

@@ -73,24 +73,24 @@ controller_write_done port value stage = quoted "controller writes " ++ (word_wr
 -- of the kinds that use a seat
 unfoldable pub seat_done : ℕ → ℕ → ℕ → ℕ → Bool → List ℕ
 seat_done kind seat number value divisor =
-    pick (eqb kind kinds.ReadRegister) (read_done seat number divisor)
-    (pick (eqb kind kinds.WriteRegister) (write_done seat number value divisor)
-    (pick (eqb kind kinds.Arrival) (arrival_done seat number value)
-    (pick (eqb kind kinds.ModemInputs) (levels_done seat value)
+    pick (eqb kind kinds.read_register_kind) (read_done seat number divisor)
+    (pick (eqb kind kinds.write_register_kind) (write_done seat number value divisor)
+    (pick (eqb kind kinds.arrival_kind) (arrival_done seat number value)
+    (pick (eqb kind kinds.modem_inputs_kind) (levels_done seat value)
     (time_done seat))))
 
 -- of the others; "above 8": "a record of kind K"
 unfoldable pub other_done : ℕ → ℕ → ℕ → Controller → List ℕ
 other_done kind number value c =
-    pick (eqb kind kinds.MasterReset) (quoted "master reset of all eight seats")
-    (pick (eqb kind kinds.ReadController) (controller_read_done number c.operation.selected)
-    (pick (eqb kind kinds.WriteController) (controller_write_done number value c.setup.stage)
-    (pick (eqb kind kinds.Acknowledge) (quoted "acknowledge")
+    pick (eqb kind kinds.master_reset_kind) (quoted "master reset of all eight seats")
+    (pick (eqb kind kinds.read_controller_kind) (controller_read_done number c.operation.selected)
+    (pick (eqb kind kinds.write_controller_kind) (controller_write_done number value c.setup.stage)
+    (pick (eqb kind kinds.acknowledge_kind) (quoted "acknowledge")
     (quoted "a record of kind " ++ decimal kind))))
 
 unfoldable pub whole_done : ℕ → ℕ → ℕ → ℕ → Bool → Controller → List ℕ
 whole_done kind seat number value divisor c =
-    pick (ltb kind kinds.MasterReset) (seat_done kind seat number value divisor) (other_done kind number value c)
+    pick (ltb kind kinds.master_reset_kind) (seat_done kind seat number value divisor) (other_done kind number value c)
 
 -- "cut off at the end": "a record cut off"
 unfoldable pub cut_done : List ℕ

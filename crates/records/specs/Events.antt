@@ -20,12 +20,12 @@ seat_count = 8
 
 -- "kind above 8"
 abbrev pub kind_above : ℕ → Bool
-kind_above kind = ltb kinds.Acknowledge kind
+kind_above kind = ltb kinds.acknowledge_kind kind
 
 -- the kinds that use the seat, which stand before master reset: "read register", "write register", "character arrives", "modem inputs",
 -- "one character time passes"
 abbrev pub uses_seat : ℕ → Bool
-uses_seat kind = ltb kind kinds.MasterReset
+uses_seat kind = ltb kind kinds.master_reset_kind
 
 -- "seat (or line) above 7": a number that no seat has
 abbrev pub seat_above : ℕ → Bool
@@ -48,14 +48,14 @@ early r = refusal_by (early_grounds r)
 -- "6 read controller -, port the byte"; "7 write controller -, port, byte 000"; "8 acknowledge none the vector; 100 + vector if spurious"
 unfoldable pub event_of : ℕ → ℕ → ℕ → ℕ → Event
 event_of kind seat number value =
-    pick (eqb kind kinds.ReadRegister) (OfSeat seat (Read number))
-    (pick (eqb kind kinds.WriteRegister) (OfSeat seat (Write number value))
-    (pick (eqb kind kinds.Arrival) (OfSeat seat (Arrival number value))
-    (pick (eqb kind kinds.ModemInputs) (OfSeat seat (Levels value))
-    (pick (eqb kind kinds.CharacterTime) (OfSeat seat Time)
-    (pick (eqb kind kinds.MasterReset) MasterReset
-    (pick (eqb kind kinds.ReadController) (ReadController number)
-    (pick (eqb kind kinds.WriteController) (WriteController number value)
+    pick (eqb kind kinds.read_register_kind) (OfSeat seat (Read number))
+    (pick (eqb kind kinds.write_register_kind) (OfSeat seat (Write number value))
+    (pick (eqb kind kinds.arrival_kind) (OfSeat seat (Arrival number value))
+    (pick (eqb kind kinds.modem_inputs_kind) (OfSeat seat (Levels value))
+    (pick (eqb kind kinds.character_time_kind) (OfSeat seat Time)
+    (pick (eqb kind kinds.master_reset_kind) MasterReset
+    (pick (eqb kind kinds.read_controller_kind) (ReadController number)
+    (pick (eqb kind kinds.write_controller_kind) (WriteController number value)
     Acknowledge)))))))
 
 -- the event of a record; of a short one there is none, and the one named here is never asked for
@@ -79,5 +79,5 @@ seat_named short = 0
 
 -- a record that is a master reset
 abbrev pub resets : Record → Bool
-resets (whole kind seat number value) = eqb kind kinds.MasterReset
+resets (whole kind seat number value) = eqb kind kinds.master_reset_kind
 resets short = false

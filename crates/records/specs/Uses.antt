@@ -6,12 +6,12 @@ use Rattle.records.specs.Events.{uses_seat}
 -- "0 read register seat, register, - the byte"; "1 write register seat, register, byte 000"; "2 character arrives seat, marks (1 parity, 2
 -- framing, 4 break), data 000"; "6 read controller -, port the byte"; "7 write controller -, port, byte 000"
 abbrev pub uses_number : ℕ → Bool
-uses_number kind = eqb kind kinds.ReadRegister || eqb kind kinds.WriteRegister || eqb kind kinds.Arrival || eqb kind kinds.ReadController || eqb kind kinds.WriteController
+uses_number kind = eqb kind kinds.read_register_kind || eqb kind kinds.write_register_kind || eqb kind kinds.arrival_kind || eqb kind kinds.read_controller_kind || eqb kind kinds.write_controller_kind
 
 -- "1 write register seat, register, byte 000"; "2 character arrives seat, marks (1 parity, 2 framing, 4 break), data 000"; "3 modem inputs
 -- seat, -, levels (1 CTS, 2 DSR, 4 RI, 8 DCD; set = active) 000"; "7 write controller -, port, byte 000"
 abbrev pub uses_value : ℕ → Bool
-uses_value kind = eqb kind kinds.WriteRegister || eqb kind kinds.Arrival || eqb kind kinds.ModemInputs || eqb kind kinds.WriteController
+uses_value kind = eqb kind kinds.write_register_kind || eqb kind kinds.arrival_kind || eqb kind kinds.modem_inputs_kind || eqb kind kinds.write_controller_kind
 
 -- "Bytes that a kind does not use are not looked at.": two records of a kind agree on the bytes that it uses
 pub record Agree (kind s n v s' n' v' : ℕ) : Type 0 where

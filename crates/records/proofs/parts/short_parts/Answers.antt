@@ -3,12 +3,8 @@ use Rattle.base.specs.Pick.{pick}
 use Rattle.base.specs.Refusals.{first_of, refusal_by}
 use Rattle.records.specs.Events.{early, decoded}
 use Rattle.records.specs.Parts.{dealt_parts}
-use Rattle.records.proofs.parts.short_parts.Statement.{statement}
-use Rattle.records.proofs.parts.short_parts.Tie as tie
+use Rattle.records.proofs.parts.short_parts.Goals as goal
 
-returns : tie.Need-returns
+pub returns : goal.returns
 unfolding dealt_parts decoded early refusal_by first_of pick
 returns c = refl
-
-pub short-parts-spec : {M : Type 1} → statement M
-short-parts-spec = tie.close (tie.spec returns)
