@@ -82,7 +82,7 @@ fn record_of(part: &[u8]) -> [u8; 66]
     ensures { result ≡ take 66 part.now }
 {
     let mut b = [0u8; 66];
-    bytes::copy(&part[..crate::LENGTH], &mut b);
+    b.copy_from_slice(&part[..crate::LENGTH]);
     b
 }
 

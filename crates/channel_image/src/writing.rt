@@ -57,7 +57,7 @@ fn put_at(out: &mut [u8], place: usize, bytes: &[u8])
     requires { place + length bytes.now ≤ length out.old }
     ensures { out.new ≡ sets out.old place bytes.now }
 {
-    bytes::copy(bytes, &mut out[place..]);
+    out[place..place + bytes.len()].copy_from_slice(bytes);
 }
 
 fn put_channel(out: &mut [u8], c: Channel)

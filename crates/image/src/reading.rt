@@ -92,7 +92,7 @@ fn controller_block(p: &[u8]) -> [u8; 11]
     ensures { result ≡ controller_part p.now }
 {
     let mut b = [0u8; crate::CONTROLLER];
-    bytes::copy(&p[crate::HEADER..crate::FRONT], &mut b);
+    b.copy_from_slice(&p[crate::HEADER..crate::FRONT]);
     b
 }
 

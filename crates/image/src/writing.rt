@@ -38,7 +38,7 @@ fn put_front(out: &mut [u8], at: usize, c: Controller)
     ensures { out.new ≡ sets out.old at (header ++ controller_bytes c) }
 {
     let front = front_of(c);
-    bytes::copy(&front, &mut out[at..]);
+    out[at..at + front.len()].copy_from_slice(&front);
 }
 
 // "Each seat record goes into its own stretch of the buffer": the part that starts at the seat's offset is lent to the writer of its record.

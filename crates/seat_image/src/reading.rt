@@ -20,7 +20,7 @@ fn tally_block(part: &[u8]) -> [u8; 20]
     ensures { result ≡ tally_part part.now }
 {
     let mut b = [0u8; crate::TALLIES];
-    bytes::copy(&part[channel_image::LENGTH..crate::LENGTH], &mut b);
+    b.copy_from_slice(&part[channel_image::LENGTH..crate::LENGTH]);
     b
 }
 

@@ -13,7 +13,7 @@ fn put_tallies(out: &mut [u8], seat: Seat)
 {
     let t = seat.tallies;
     let block = tallies::tally_bytes(t, seat.channel.receiver.queue.count);
-    bytes::copy(&block, &mut out[channel_image::LENGTH..]);
+    out[channel_image::LENGTH..channel_image::LENGTH + block.len()].copy_from_slice(&block);
 }
 
 // Puts the record of a seat at the start of a lent part, and says whether there was room for it.

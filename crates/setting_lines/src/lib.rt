@@ -78,7 +78,7 @@ fn write_found(found: Found, lcr: u8, out: &mut [u8]) -> Written
         let mut own = [0u8; 20];
         let length = lines::put_line(&mut own, found.rate, lcr);
         if length <= out.len() {
-            bytes::copy(&own[..length], &mut *out);
+            out[..length].copy_from_slice(&own[..length]);
             return Written {
                 answer: Answer::Done,
                 length,
