@@ -40,8 +40,15 @@ module _ (own own' line : List ℕ) (n : ℕ) (m : Made own own' line n) where
   made_length = m.size ∙ ap length (sym made_is)
 
 -- a copy of it into a buffer, where it has room
-pub put_done : (f : Found) (src line d d' : List ℕ) (n : ℕ) → refusal_of f.answer ≡ 0 → src ≡ line → n ≡ length line → n ≤ length d
+put_done : (f : Found) (src line d d' : List ℕ) (n : ℕ) → refusal_of f.answer ≡ 0 → src ≡ line → n ≡ length line → n ≤ length d
     → d' ≡ take (length src) src ++ drop (length src) d → left (record { answer = Done; length = n }) d' ≡ written_by f line d
 put_done f src line d d' n none is size room copied =
     rw (none, pick_true, le-leb (length line) (length d) (omega arith), pick_true, ← size)
     (ap (left (record { answer = Done; length = n })) (copied ∙ rw (is, take-length line, size)))
+
+-- the same of a copy into the front of the buffer
+pub put_part : (f : Found) (src line d d' : List ℕ) (n : ℕ) → refusal_of f.answer ≡ 0 → src ≡ line → n ≡ length line → n ≤ length d
+    → d' ≡ src ++ drop n d → left (record { answer = Done; length = n }) d' ≡ written_by f line d
+put_part f src line d d' n none is size room copied =
+    let all : length src ≡ n = ap length is ∙ sym size in
+    put_done f src line d d' n none is size room (copied ∙ sym (rw (take-length src, all)))

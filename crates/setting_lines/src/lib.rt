@@ -52,7 +52,7 @@ pub fn read(line: &[u8], clock: u8) -> Setting
     let guess = guesses::guess_line(line);
     let mut own = [0u8; 20];
     let length = lines::put_line(&mut own, guess.rate, guess.lcr);
-    if check::same(line, &own[..length]) {
+    if line == &own[..length] {
         return setting_by(rates::divisor(guess.rate, clock), guess.lcr);
     }
     setting_by(Answer::Refused(Answer::NO_SETTING), 0)

@@ -50,6 +50,7 @@ change_other name other all was is x plain differs =
 -- ---- many
 
 passes : (test : Variable → Bool) (v : Variable) (vs : List Variable) → Memᴰ v vs → all_of test vs ≡ true → test v ≡ true
+passes test v [] x all = elim x [ ]
 passes test v (u ∷ vs) (Memᴰ.head e) all = ap test e ∙ (both_hold (test u) (all_of test vs) all).0
 passes test v (u ∷ vs) (Memᴰ.tail m) all = passes test v vs m (both_hold (test u) (all_of test vs) all).1
 
@@ -84,6 +85,7 @@ module _ (all : Bool) (before now : Sight) where
   told_own : (v : Variable) (vs : List Variable) (x : ℕ) → Memᴰ v vs → (all ≡ true) ⊎ (x ≡ digit (v.value before))
       → all_of plain vs ≡ true → all_apart vs ≡ true → Reads v.name (told all before now vs) x (digit (v.value now))
   unfolding told
+  told_own v [] x m known = elim m [ ]
   told_own v (u ∷ vs) x (Memᴰ.head e) known =
       subst
       (λ (w : Variable). all_of plain (w ∷ vs) ≡ true → all_apart (w ∷ vs) ≡ true

@@ -1,0 +1,7 @@
+use Rattle.channel_image.specs.Allowed.{registers_in_range}
+use borrow.Author.Rules.{rules}
+use Rattle.channel_image.proofs.tests.registers_in_range.Goals as goal
+
+pub returns : goal.returns
+unfolding registers_in_range
+returns c = simp (← c.fcr_kept.ensures)

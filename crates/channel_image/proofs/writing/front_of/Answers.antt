@@ -1,0 +1,8 @@
+use Rattle.base.specs.Bits.{digit}
+use Rattle.channel_image.specs.Written.{front_bytes}
+use borrow.Author.Rules.{rules}
+use Rattle.channel_image.proofs.writing.front_of.Goals as goal
+
+pub returns : goal.returns
+unfolding front_bytes digit
+returns c = simp (← c.pick_byte-4.ensures, ← c.pick_byte-3.ensures, ← c.pick_byte-2.ensures, ← c.pick_byte.ensures)

@@ -1,0 +1,13 @@
+use Rattle.base.specs.PickLaws.{pick_true, pick_false}
+use borrow.Author.Tests.{eq-eqb, ne_eqb}
+use Rattle.options.specs.Moments.{number_of}
+use borrow.Author.Rules.{rules}
+use Rattle.options.proofs.moments.number.Goals as goal
+
+pub returns-then-word-eq0 : goal.returns-then-word-eq0
+unfolding number_of
+returns-then-word-eq0 c = simp (eq-eqb _ _ c.if-word-eq0.true, pick_true)
+
+pub returns : goal.returns
+unfolding number_of
+returns c = simp (← c.counted.ensures, ne_eqb _ _ c.if-word-eq0.false, pick_false)

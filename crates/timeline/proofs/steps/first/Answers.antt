@@ -1,0 +1,10 @@
+use Rattle.page.specs.Pages.{put}
+use Rattle.page.specs.PageLaws.{put_append}
+use Rattle.timeline.proofs.Behind.{in_one}
+use Rattle.timeline.specs.Dump.{first_words}
+use borrow.Author.Rules.{rules}
+use Rattle.timeline.proofs.steps.first.Goals as goal
+
+pub returns : goal.returns
+unfolding first_words
+returns c = in_one put put_append c.at.ensures c.tell.ensures
