@@ -76,10 +76,10 @@ spelled_read clock divisor lent small digits some all =
     (decimal_word clock) (decimal_word divisor) (hex_word small digits some all) (decimal_word lent) in
     record {
       all = w.all;
-      clock_read = w.clock-read ∙ ap (up_to 255) (decimal_valued clock);
-      divisor_read = w.divisor-read ∙ ap (up_to 65535) (decimal_valued divisor);
-      lcr_read = w.lcr-read ∙ ap (up_to 255) (hex_valued small 0 digits all);
-      room_read = w.room-read ∙ ap (up_to 13) (decimal_valued lent);
+      clock_read = w.clock_read ∙ ap (up_to 255) (decimal_valued clock);
+      divisor_read = w.divisor_read ∙ ap (up_to 65535) (decimal_valued divisor);
+      lcr_read = w.lcr_read ∙ ap (up_to 255) (hex_valued small 0 digits all);
+      room_read = w.room_read ∙ ap (up_to 13) (decimal_valued lent);
     }
 
 -- the LCR byte as an answer tells it is read as that byte

@@ -20,7 +20,7 @@ use Rattle.listing.proofs.Turn.{Turn, Until, told_put, start, turn, full, going,
 use mathlib.Core.Bool.{true, false}
 use mathlib.Core.List.{map}
 use Rattle.records.specs.Events.{resets}
-use Rattle.bench.specs.Seats.{reset}
+use Rattle.seat.specs.Seats.{reset}
 use Rattle.listing.proofs.runs.run.Goals as goal
 use Rattle.listing.proofs.runs.run.Goals.{then-held, else-held}
 
@@ -108,7 +108,10 @@ loop-k-preserved c = let a = c.args in
     let turned = turn _ _ _ _ _ _ _ _ _ _ _ _ i.invariant.1 (told_put _ _ _ _ _ _ _ _ _ _ c.keep_front-digits.ensures.shown (ahead c.args.last c.args.input.now c.args.n c.loop-k.end c.loop-k.k (going _ _ _ _ _ _ c.loop-k.invariant.3 c.loop-k-test.true) c.loop-k-test.true).2 (parts_told _ _ _ _ _ _ refl c.record_at-held.ensures.at (c.meet-met.ensures ∙ ap (parted _ _) c.record_at-held.ensures.is) c.output-high.ensures) c.put_after-next.ensures) h.0 (record_place_lem c.args.last c.args.input.now _ (ahead c.args.last c.args.input.now c.args.n c.loop-k.end c.loop-k.k (going _ _ _ _ _ _ c.loop-k.invariant.3 c.loop-k-test.true) c.loop-k-test.true).0) c.if-next-place.false h.2 in
     let stored =
     either_stored i.bench c.if-held.bench (record_at a.input.now (4 * i.k)) _ _ _ refl held.at (c.meet-met.ensures ∙ ap (parted _ _) c.record_at-held.ensures.is)
-    (elim c.if-held.branch [ then-held w ↦ ? | else-held w ↦ ? ])
+    (elim c.if-held.branch [
+      then-held w ↦ inl (sym held.reset ∙ w.if-held.true, ap (λ (b : Bench). b.seats) w.bench-is ∙ w.reset_all-bench.ensures)
+      | else-held w ↦ inr (sym held.reset ∙ w.if-held.false, ap (λ (b : Bench). b.seats) w.bench-is)
+    ])
     (λ (p : (resets (record_at a.input.now (4 * i.k)) ≡ true) × (c.if-held.bench.seats ≡ map reset i.bench.seats)). p)
     (λ (p : (resets (record_at a.input.now (4 * i.k)) ≡ false) × (c.if-held.bench.seats ≡ i.bench.seats)). p) in (
       omega (arith, c.loop-k-test.true),
