@@ -1,0 +1,7 @@
+use Rattle.channel.specs.Status.{lsr}
+use borrow.Author.Rules.{rules}
+use Rattle.moves.proofs.places.lsr.Goals as goal
+
+pub returns : goal.returns
+unfolding lsr
+returns c = simp (← c.lsr.ensures, ← c.is_fifo.ensures)

@@ -1,0 +1,7 @@
+use Rattle.moves.specs.Moved.{ready_moved}
+use borrow.Author.Rules.{rules}
+use Rattle.moves.proofs.signals.ready.Goals as goal
+
+pub returns : goal.returns
+unfolding ready_moved
+returns c = simp c.flag.ensures
