@@ -18,13 +18,13 @@ pub loop-k-init : goal.loop-k-init
 loop-k-init c = (omega arith, (refl, refl))
 
 pub slice_bounds-get-count : goal.slice_bounds-get-count
-slice_bounds-get-count c = omega (arith, within c.args.p.now c.version_of-version.result c.IsPlace-in.result c.loop-k.k c.version_of-version.ensures c.IsPlace-in.ensures (omega arith) (omega arith))
+slice_bounds-get-count c = omega (arith, within c.args.p.now c.version_of-version.result c.place_in-place.result c.loop-k.k c.version_of-version.ensures c.place_in-place.ensures (omega arith) (omega arith))
 
 pub slice_bounds-get-start : goal.slice_bounds-get-start
-slice_bounds-get-start c = omega (arith, within c.args.p.now c.version_of-version.result c.IsPlace-in.result c.loop-k.k c.version_of-version.ensures c.IsPlace-in.ensures (omega arith) (omega arith))
+slice_bounds-get-start c = omega (arith, within c.args.p.now c.version_of-version.result c.place_in-place.result c.loop-k.k c.version_of-version.ensures c.place_in-place.ensures (omega arith) (omega arith))
 
 pub slice_bounds-get-end : goal.slice_bounds-get-end
-slice_bounds-get-end c = omega (arith, within c.args.p.now c.version_of-version.result c.IsPlace-in.result c.loop-k.k c.version_of-version.ensures c.IsPlace-in.ensures (omega arith) (omega arith))
+slice_bounds-get-end c = omega (arith, within c.args.p.now c.version_of-version.result c.place_in-place.result c.loop-k.k c.version_of-version.ensures c.place_in-place.ensures (omega arith) (omega arith))
 
 pub get-found-requires : goal.get-found-requires
 get-found-requires c = tt
@@ -33,8 +33,8 @@ pub loop-k-preserved : goal.loop-k-preserved
 loop-k-preserved c = (
   omega arith,
   (
-    seat_turn c.args.p.now c.loop-k.k c.version_of-version.result c.IsPlace-in.result c.version_of-version.ensures c.IsPlace-in.ensures c.get-found.result c.get-found.ensures _ c.loop-k.seats c.loop-k.invariant.1.0,
-    good_turn c.args.p.now c.loop-k.k c.version_of-version.result c.IsPlace-in.result c.version_of-version.ensures c.IsPlace-in.ensures c.get-found.result c.get-found.ensures c.loop-k.good c.loop-k.invariant.1.1,
+    seat_turn c.args.p.now c.loop-k.k c.version_of-version.result c.place_in-place.result c.version_of-version.ensures c.place_in-place.ensures c.get-found.result c.get-found.ensures _ c.loop-k.seats c.loop-k.invariant.1.0,
+    good_turn c.args.p.now c.loop-k.k c.version_of-version.result c.place_in-place.result c.version_of-version.ensures c.place_in-place.ensures c.get-found.result c.get-found.ensures c.loop-k.good c.loop-k.invariant.1.1,
   ),
 )
 

@@ -1,13 +1,9 @@
-use Prim.Native.Nat.{◌≤◌, ◌-◌}
+use Prim.Native.Nat.{◌+◌}
 use native.Mathlib.Omega.{arith}
-use lib.ListN.{length, take, drop, length-take, length-drop}
-use Rattle.base.specs.StoreLaws.{lent_stored, copied}
-use borrow.Author.Rules.{rules}
+use Rattle.base.specs.StoreLaws.{copied_at}
 use Rattle.image.proofs.writing.put_front.Goals as goal
 
 pub returns : goal.returns
-returns c = let l : _ = c.args.out.now in
-    let at : _ = c.args.at in
+returns c =
     let front : _ = c.front_of-front.result in
-    let room : length front ≤ length (take (length l - at) (drop at l)) = simp (length-take, length-drop) (omega arith) in
-    rw (c.copy.ensures.1, copied front (take (length l - at) (drop at l)) room, ← c.front_of-front.ensures) (lent_stored at l front)
+    rw (c.copy_from_slice.ensures.after, ← c.front_of-front.ensures) (copied_at c.args.at (c.args.at + 16) c.args.out.now front (omega arith) (omega arith))

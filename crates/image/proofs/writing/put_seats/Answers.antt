@@ -20,7 +20,7 @@ loop-k-preserved c = (
   omega arith,
   (
     c.out-1.given.1 ∙ c.loop-k.invariant.1.0,
-    turn c.args.at c.loop-k.k c.args.seats c.args.out.now c.loop-k.out c.put.new.1.0
+    turn c.args.at c.loop-k.k c.args.seats c.args.out.now c.loop-k.out c.put.new.out
         c.loop-k.invariant.1.1 (omega arith) c.put.ensures.bytes,
   ),
 )

@@ -7,25 +7,12 @@ use Rattle.image.specs.declared.Restored.{Restored}
 use Rattle.c_word.specs.Word.{Tells}
 use Rattle.c_bench.specs.Told.{Told}
 use borrow.Author.Rules.{rules}
-use Rattle.c_bench.proofs.restore.Statement.{statement}
-use Rattle.c_bench.proofs.restore.Tie as tie
-
-restore-requires : tie.Need-restore-requires
-restore-requires c κs = search rules
-
-output-requires : tie.Need-output-requires
-output-requires c κs = search rules
-
-word-requires : tie.Need-word-requires
-word-requires c κs = search rules
+use Rattle.c_bench.proofs.restore.Goals as goal
 
 -- what was restored and the output, each by what it equals
 came : (w : ℕ) (o u : Restored) (high : Bool) → o ≡ u → high ≡ output_of o.bench.controller → Tells w o.answer high → (o.bench ≡ u.bench) × Told w (shown u.bench u.answer)
 came w o u high is shows told =
     (ap (λ (x : Restored). x.bench) is, subst (λ (x : Restored). Told w (shown x.bench x.answer)) is (subst (λ (y : Bool). Tells w o.answer y) shows told))
 
-returns : tie.Need-returns
-returns c = came c.word.result c.before.before.before.before.restore.result _ c.before.output.result c.before.before.before.before.restore.ensures c.before.output.ensures c.word.ensures
-
-pub restore-spec : {M : Type 1} → statement M
-restore-spec = tie.close (tie.spec restore-requires output-requires word-requires returns)
+pub returns : goal.returns
+returns c = came c.word-told.result c.restore-o.result _ c.output.result c.restore-o.ensures c.output.ensures c.word-told.ensures
