@@ -18,26 +18,28 @@ crates_needed() {
         }' "$top/crates.txt"
 }
 
-# Of all that rt says, a line for each crate that it proves, with the time gone by since the start. Of a crate that has not
-# changed since it was last proved it says nothing that counts. The last crate needs all the others, and the longest silence
-# comes before it.
+# Of all that rt says, a line for each crate that it proves, with the time gone by since the start; what has not changed since
+# it was last proved is not told. The last crate needs all the others, and the longest silence comes before it.
 tell_crates() {
-    local line crate='' count all began=$SECONDS gone more needed=("$@")
-    all=${#needed[@]}
+    local line crate checked count all began=$SECONDS gone more needed=("$@")
+    all=${#needed[@]} crate=
     while IFS= read -r line; do
         if [[ $line =~ ^'crate '([A-Za-z0-9_]+)': modules loaded='[0-9]+' checked='([0-9]+)$ ]]; then
-            crate=${BASH_REMATCH[1]}
-            [ "${BASH_REMATCH[2]}" != 0 ] || crate=
+            crate=${BASH_REMATCH[1]} checked=${BASH_REMATCH[2]}
             continue
         fi
         [[ $line = 'logic=proved '* && -n $crate ]] || continue
-        for ((count = 1; count <= all; count++)); do
+        for ((count = 1; count < all; count++)); do
             [ "${needed[count - 1]}" != "$crate" ] || break
         done
-        gone=$((SECONDS - began)) more=
-        [ "$count" -ne $((all - 1)) ] || more="; the last may take two minutes"
-        printf '%d of %d: %s, %d:%02d%s\n' "$count" "$all" "$crate" $((gone / 60)) $((gone % 60)) "$more" >&2
         crate=
+        gone=$((SECONDS - began)) more=
+        if [ "$count" -eq $((all - 1)) ]; then
+            more="; the last may take two minutes"
+        elif [ "$checked" -eq 0 ]; then
+            continue
+        fi
+        printf '%d of %d: %s, %d:%02d%s\n' "$count" "$all" "${needed[count - 1]}" $((gone / 60)) $((gone % 60)) "$more" >&2
     done
 }
 
