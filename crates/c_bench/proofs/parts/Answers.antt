@@ -11,27 +11,7 @@ use Rattle.c_word.specs.Numbers.{as_byte}
 use Rattle.c_bench.specs.NumberLaws.{past_a_byte}
 use Rattle.c_word.specs.Word.{Tells}
 use Rattle.c_bench.specs.Parts.{Parted}
-use borrow.Author.Rules.{rules}
-use Rattle.c_bench.proofs.parts.Statement.{statement}
-use Rattle.c_bench.proofs.parts.Tie as tie
-
-as-byte-requires : tie.Need-as-byte-requires
-as-byte-requires c κs = search rules
-
-as-byte-requires-2 : tie.Need-as-byte-requires-2
-as-byte-requires-2 c κs = search rules
-
-as-byte-requires-3 : tie.Need-as-byte-requires-3
-as-byte-requires-3 c κs = search rules
-
-step-parts-requires : tie.Need-step-parts-requires
-step-parts-requires c κs = search rules
-
-output-requires : tie.Need-output-requires
-output-requires c κs = search rules
-
-word-requires : tie.Need-word-requires
-word-requires c κs = search rules
+use Rattle.c_bench.proofs.parts.Goals as goal
 
 -- what was touched and the output, each by what it equals
 came : (w : ℕ) (t u : Touched) (high : Bool) → t ≡ u → high ≡ output_of t.controller → Tells w t.answer high → Parted (record { seat = t.seat; controller = t.controller; word = w }) u
@@ -43,12 +23,8 @@ came w t u high is shows told =
 as_bytes : (s : Seat) (c : Controller) (k n m v k' n' m' : ℕ) → k' ≡ as_byte k → n' ≡ as_byte n → m' ≡ as_byte m → parted s c (whole k' n' m' v) ≡ parted s c (whole k n m v)
 as_bytes s c k n m v k' n' m' ek en em = rw (ek, en, em) (sym (past_a_byte s c n v k m))
 
-returns : tie.Need-returns
-returns c =
-    came c.word.result c.before.before.before.before.step-parts.result _ c.before.output.result
-    (c.before.before.before.before.step-parts.ensures
-    ∙ as_bytes _ _ _ _ _ _ _ _ _ c.before.before.before.before.before.before.before.as_byte.ensures c.before.before.before.before.before.before.as-byte2.ensures c.before.before.before.before.before.as-byte3.ensures)
-    c.before.output.ensures c.word.ensures
-
-pub parts-spec : {M : Type 1} → statement M
-parts-spec = tie.close (tie.spec as-byte-requires as-byte-requires-2 as-byte-requires-3 step-parts-requires output-requires word-requires returns)
+pub returns : goal.returns
+returns c = came c.word-told.result c.step_parts-t.result _ c.output.result
+    (c.step_parts-t.ensures
+    ∙ as_bytes _ _ _ _ _ _ _ _ _ c.as_byte.ensures c.as_byte-2.ensures c.as_byte-3.ensures)
+    c.output.ensures c.word-told.ensures
