@@ -7,6 +7,7 @@ self=${self#"$top/"}
 
 bench_main=$top/target/bin/bench_main
 sheets_main=$top/target/bin/sheets_main
+library=$top/target/staticlib/libembed.a
 
 tell() {
     printf '%s: %s\n' "$self" "$*" >&2
@@ -41,9 +42,9 @@ end_turn() {
     exec 9>&-
 }
 
-# The sources by name and content, as a number.
+# The sources by name and content, as a number. What rt leaves in out/ is none of them.
 sum_sources() {
-    (cd "$top" && find crates crates.txt -type f -print0 | LC_ALL=C sort -z | xargs -0 sha256sum | sha256sum)
+    (cd "$top" && find crates crates.txt -name out -prune -o -type f -print0 | LC_ALL=C sort -z | xargs -0 sha256sum | sha256sum)
 }
 
 # Sets what a build of the sources as they are now is recorded by.
@@ -72,7 +73,7 @@ recall_build() {
 fresh() {
     local file=$1
     [ -f "$file" ] || return
-    [ -n "$(find "$top/crates" "$top/crates.txt" -newer "$file" -print -quit)" ] || return 0
+    [ -n "$(find "$top/crates" "$top/crates.txt" -name out -prune -o -newer "$file" -print -quit)" ] || return 0
     recall_build "$file" && [ "${made[2]:-}" = "$(sum_sources)" ]
 }
 

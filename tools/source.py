@@ -68,6 +68,12 @@ def known(root):
     return {room: set(others.split()) for room, others in lines}
 
 
+def archives(root):
+    """The rooms that crates.txt has as archives, which no other room can know."""
+    page = root / "crates.txt"
+    return set(re.findall(r"(?m)^[ \t]*(\w+)[ \t]+staticlib[ \t]*:", page.read_text("utf-8") if page.exists() else ""))
+
+
 def definitions(path):
     """A file of definitions or proofs without its comments."""
     return re.sub(r" *--.*", "", re.sub(r"(?s)\{-.*?-\}", "", path.read_text("utf-8")))

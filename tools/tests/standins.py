@@ -25,26 +25,25 @@ case $* in *lesson*) ;; *) cat ;; esac
 RT = """\
 #!/bin/sh
 [ "$1" = version ] && { echo kit 9; exit; }
-echo "$*" >>asked
+crate=${PWD##*/}
+cd ../..
+echo "$1 $crate" >>asked
 room=$(mktemp -d)
-echo "rt: base proved (unchanged since it was last proved)"
+echo "library base: modules loaded=9 checked=0"
 echo "fn lamp::on: proved"
-echo "rt: lamp proved (${STANDS:-11 s})"
+echo "crate lamp: modules loaded=0 checked=${CHECKED:-9}"
+echo "logic=proved functions=1"
 (while [ -n "$GATE" ] && [ ! -e "$GATE" ]; do sleep 0.1; done) & echo $! >worker
 wait
-[ -z "$UNPROVED" ] || { echo "rt: $2 NOT PROVED (exit 1, 2 s)"; echo "rt: FAILED: $2"; exit 1; }
-mkdir -p target/bin target/staticlib
+[ -z "$UNPROVED" ] || { echo "fn $crate::on: no proof"; echo "logic=not-proved"; exit 1; }
+mkdir -p "crates/$crate/out"
 case $1 in
-check)
-    cp program "target/bin/$2"
-    echo "rt: $2 proved (47 s)"
-    echo "rt: $2 ran, and wrote what its file 'stdout' has (1 s)" ;;
-staticlib)
-    echo built >target/staticlib/libembed.a
-    echo "rt: target/staticlib/libembed.a has the functions of embed that are marked" ;;
+run) cp program "crates/$crate/out/$crate" ;;
+lib) echo built >"crates/$crate/out/lib$crate.a" ;;
 esac
+echo "crate $crate: modules loaded=0 checked=9"
+echo "logic=proved functions=3"
 rm -r "$room"
-echo "rt: ok, 3 crates proved"
 """
 
 
@@ -74,8 +73,9 @@ class Start(Room):
         self.copy("bench", "tools/shell.sh", "tools/build.sh", "tools/find-rt", "VERSION", "docs/kit")
         self.script("bin/rt", RT)
         self.script(f"on/{platform.machine()}/toolchain/bin/qemu-x86_64", '#!/bin/sh\nshift 3\nexec "$@"\n')
-        self.write("crates.txt", "# a comment: none\nbase:\nlamp: base io\nbell: lamp\nbench_main: lamp io\nsheets_main: io\nembed: lamp\n")
-        self.write("crates/lamp/src/lib.rt", "")
+        self.write("crates.txt", "# a comment: none\nbase:\nlamp: base io\nbell: lamp\nbench_main: lamp io\nsheets_main: io\nembed_c staticlib: lamp\n")
+        for room in ("lamp", "bench_main", "sheets_main", "embed_c"):
+            self.write(f"crates/{room}/src/lib.rt", "")
         self.script("program", PROGRAM)
         self.write("lesson.hex", LESSON)
         (self.root / "temporary").mkdir()

@@ -22,7 +22,7 @@ class Building(Start):
         self.assertEqual((len(log), log[1]), (6, "fn lamp::on: proved"))
 
     def test_silence_before_the_last_crate_is_told_where_the_others_stand(self):
-        said = self.run_it("lesson.hex", settings={"STANDS": "unchanged since it was last proved"})[2]
+        said = self.run_it("lesson.hex", settings={"CHECKED": "0"})[2]
         self.assertRegex(said, f"^{FIRST}{PROGRESS}$")
 
     def test_input_is_the_programs(self):
@@ -33,7 +33,7 @@ class Building(Start):
         for text, times in (("", 1), ("", 1), ("// changed", 2), ("// changed", 2), ("", 3)):
             self.change(text)
             self.assertEqual(self.run_it("lesson.hex")[0], 0)
-            self.assertEqual(self.asked(), times * ["check bench_main"])
+            self.assertEqual(self.asked(), times * ["run bench_main"])
 
     def test_program_that_was_built_by_other_means_is_not_taken_for_the_recorded(self):
         self.run_it("lesson.hex")
@@ -44,7 +44,7 @@ class Building(Start):
     def test_failure_names_the_log_and_leaves_nothing_behind(self):
         status, listing, said = self.run_it("lesson.hex", settings={"UNPROVED": "1"})
         self.assertEqual((status, listing), (2, ""))
-        self.assertEqual(said.splitlines()[-2:], ["rt: FAILED: bench_main", "bench: the program could not be built; above are "
+        self.assertEqual(said.splitlines()[-2:], ["logic=not-proved", "bench: the program could not be built; above are "
                                                   f"the last lines of {self.root}/target/bench-build.log"])
         self.assertEqual(os.listdir(self.root / "temporary"), [])
 
@@ -59,7 +59,7 @@ class Building(Start):
         self.write("gate", "")
         self.assertEqual(running.communicate(timeout=LIMIT)[0], b"given lesson.hex\n")
         self.run_it("lesson.hex")
-        self.assertEqual(self.asked(), 2 * ["check bench_main"])
+        self.assertEqual(self.asked(), 2 * ["run bench_main"])
 
     def test_build_waits_where_target_is_removed(self):
         """As rt ci does under the lock."""
@@ -83,7 +83,7 @@ class Building(Start):
         for running, said in ((first, FIRST.encode()), (second, b"")):
             listing, told = running.communicate(timeout=LIMIT)
             self.assertEqual((running.returncode, listing, told[:len(FIRST)]), (0, b"given lesson.hex\n", said))
-        self.assertEqual(self.asked(), ["check bench_main"])
+        self.assertEqual(self.asked(), ["run bench_main"])
 
     def test_waiting_one_builds_where_the_other_was_interrupted(self):
         first = self.started("lesson.hex", settings={"GATE": "never"})
@@ -93,7 +93,7 @@ class Building(Start):
         first.send_signal(signal.SIGTERM)
         self.assertEqual(second.communicate(timeout=LIMIT)[0], b"given lesson.hex\n")
         first.communicate(timeout=LIMIT)
-        self.assertEqual(self.asked(), 2 * ["check bench_main"])
+        self.assertEqual(self.asked(), 2 * ["run bench_main"])
 
     def test_running_program_keeps_nobody_from_building(self):
         running = self.started(stdin=subprocess.PIPE)

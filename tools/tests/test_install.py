@@ -7,9 +7,9 @@ import unittest
 
 from standins import LIMIT, Start
 
-ASKED = "staticlib embed"
+ASKED = "lib embed_c"
 FIRST = "tools/install: the library is proved and built first: 3 crates, .*\n"
-PROGRESS = r"2 of 3: lamp, 0:\d\d; the last may take two minutes\n"
+PROGRESS = r"2 of 3: lamp, 0:\d\d; the last may take two minutes\n3 of 3: embed_c, 0:\d\d\n"
 WAITING = "tools/install: another build is going on in this tree; waiting for its end\n"
 
 
@@ -77,7 +77,7 @@ class Install(Start):
     def test_a_library_that_is_not_proved(self):
         complaint = self.refused("tools/install: the library could not be built; above are the last lines of "
                                  f"{re.escape(str(self.root))}/target/library-build.log", "a/b", settings={"UNPROVED": "1"})
-        self.assertIn("\nrt: FAILED: embed\n", complaint)
+        self.assertIn("\nlogic=not-proved\n", complaint)
 
     def test_a_bad_prefix_asks_nothing_of_rt(self):
         self.refused("tools/install: a pkg-config file cannot name a folder with a blank in its path: a b", "a b")
@@ -102,11 +102,11 @@ class Install(Start):
         self.until(lambda: (self.root / "worker").exists())
         library = self.started("a")
         self.says(library, WAITING)
-        self.assertEqual(self.asked(), ["check bench_main"])
+        self.assertEqual(self.asked(), ["run bench_main"])
         self.write("gate", "")
         self.assertEqual(program.communicate(timeout=LIMIT)[0], b"given lesson.hex\n")
         library.communicate(timeout=LIMIT)
-        self.assertEqual((library.returncode, self.asked()), (0, ["check bench_main", ASKED]))
+        self.assertEqual((library.returncode, self.asked()), (0, ["run bench_main", ASKED]))
 
     def test_wrong_words(self):
         for words in ([], [""], ["--help"], ["a", "b"]):

@@ -2,7 +2,7 @@
 import unittest
 
 from room import Room
-from source import declared, functions, known
+from source import archives, declared, functions, known
 
 SOURCE = """impl Cup {
     pub fn fill(mut self, mark: u8) -> Cup
@@ -55,6 +55,11 @@ class Source(Room):
     def test_the_rooms_that_a_room_knows(self):
         self.write("crates.txt", "# NAME: the rooms it knows.\nbase:\ncups: base\n  table : base cups\n")
         self.assertEqual(known(self.root), {"base": set(), "cups": {"base"}, "table": {"base", "cups"}})
+
+    def test_the_rooms_that_are_archives(self):
+        self.assertEqual(archives(self.root), set())
+        self.write("crates.txt", "base:\ncups: base\n  cups_c staticlib : base cups\n")
+        self.assertEqual(archives(self.root), {"cups_c"})
 
     def test_the_files_that_a_folder_declares(self):
         self.write("Lib.antt", "pub mod Cups\nmod Plates -- kept\n-- pub mod Forks\n{-\npub mod Knives\n-}\npub mod Gone\n")

@@ -48,7 +48,7 @@ class Streams(Start):
 
     def test_standard_error_that_is_closed(self):
         self.assertEqual(self.closed("2>&-", "lesson.hex"), (0, "given lesson.hex\n", ""))
-        self.assertEqual(self.asked(), ["check bench_main"])
+        self.assertEqual(self.asked(), ["run bench_main"])
         self.script("target/bin/bench_main", "#!/bin/sh\nprintf '\\001a fault\\n' >&2\n")
         self.assertEqual(self.closed("2>&-", "lesson.hex"), (1, "", ""))
         self.assertEqual(self.closed("<&- >&- 2>&-"), (1, "", ""))
@@ -194,14 +194,14 @@ class Sheets(Start):
         for words in SHEETS:
             status, answers, _ = self.run_it(*words, given="9600,E,7,2")
             self.assertEqual((status, answers), (0, f"given {' '.join(words)}\n9600,E,7,2"))
-        self.assertEqual(self.asked(), ["check sheets_main"])
+        self.assertEqual(self.asked(), ["run sheets_main"])
         self.run_it("lesson.hex")
-        self.assertEqual(self.asked(), ["check sheets_main", "check bench_main"])
+        self.assertEqual(self.asked(), ["run sheets_main", "run bench_main"])
 
     def test_what_is_built_is_told(self):
         said = self.run_it("--settings", "0", given="")[2]
         self.assertTrue(said.startswith("bench: the program is proved and built first: 1 crates, up to 2 minutes on two processors"), said)
-        self.assertEqual((self.root / "target/sheets-build.log").read_text("utf-8").splitlines()[-1], "rt: ok, 3 crates proved")
+        self.assertEqual((self.root / "target/sheets-build.log").read_text("utf-8").splitlines()[-1], "logic=proved functions=3")
 
     def test_failure_names_its_log(self):
         status, answers, said = self.run_it("--settings-write", given="", settings={"UNPROVED": "1"})

@@ -1,7 +1,7 @@
 -- No number of C is cut: one that is past a byte has, as 255, the outcome that it has as it is.
 use Rattle.std.specs.Prelude.{ℕ, ◌≤◌, Bool, ◌≡◌, eqb, ltb}
 use Rattle.std.proofs.Math.Bool.{true, false}
-use Rattle.std.proofs.Common.{⊎_elim, ◌∙◌, arith, lt-ltb, ltb-true, ltb-false}
+use Rattle.std.proofs.Common.{⊎_elim, ◌∙◌, arith, lt-ltb, ltb-true}
 use Rattle.std.proofs.Math.Path.{refl, ap, sym}
 use Rattle.base.specs.Pick.{pick}
 use Rattle.base.specs.PickLaws.{pick_true, pick_false, not_both, either_way}

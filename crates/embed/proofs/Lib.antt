@@ -1,8 +1,2 @@
--- What the walks share.
-mod Handing
-mod InPlace
-mod Leaving
-mod Looking
-mod Places
-mod Restoring
-mod Storing
+-- The door to a seat as code has it: a seat that an index takes out of the array.
+mod Chairs

@@ -1,5 +1,5 @@
 -- No number of C is cut where it names a setting; and every line's length fits a byte.
-use Rattle.std.specs.Prelude.{ℕ, zero, suc, ◌<◌, ◌≤◌, Bool, true, ◌&&◌, List, [], ◌∷◌, ◌≡◌, refl, ltb, length, get_or}
+use Rattle.std.specs.Prelude.{ℕ, zero, suc, ◌<◌, ◌≤◌, Bool, true, ◌&&◌, List, [], ◌∷◌, ◌≡◌, refl, ltb, get_or}
 use Rattle.std.proofs.Common.{inl, inr, ⊎_elim, ap, sym, subst, ◌∙◌, arith, ltb-true, ltb-false}
 use Rattle.base.specs.PickLaws.{both_hold, either_way}
 use Rattle.base.specs.declared.Answer.{Answer}
@@ -17,7 +17,6 @@ use Rattle.setting_lines.specs.Writing.{Left, left, written_by, NoShape, Writes}
 use Rattle.setting_lines.specs.CaseLaws.{WriteCase, no_shape, unrated, short, lined, write_case}
 use Rattle.setting_lines.specs.LineLaws.{line_short}
 use Rattle.setting_lines.specs.RateLaws.{listed_rated}
-use Rattle.setting_lines.specs.SettingRefusals.{Lined, line_with}
 use Rattle.setting_lines.specs.ShapeLaws.{lcr_good}
 use Rattle.setting_lines.specs.declared.Setting.{Setting}
 use Rattle.setting_lines.specs.declared.Written.{Written}

@@ -68,32 +68,28 @@ fn output_byte(controller: Controller) -> u8
 }
 
 // The version, to compare with the header's.
-#[unsafe(no_mangle)]
-pub extern "C" fn hailstoat_version() -> u32
+pub fn hailstoat_version() -> u32
     ensures { result ≡ version }
 {
     VERSION
 }
 
 // The bytes that the caller's bench must have.
-#[unsafe(no_mangle)]
-pub extern "C" fn hailstoat_size() -> usize
+pub fn hailstoat_size() -> usize
     ensures { result ≡ bench_bytes }
 {
     BENCH_BYTES
 }
 
 // The divisor for a rate in tenths of a baud.
-#[unsafe(no_mangle)]
-pub extern "C" fn hailstoat_divisor(rate: u32, clock: u32) -> u64
+pub fn hailstoat_divisor(rate: u32, clock: u32) -> u64
     ensures { Tells result (divisor_of rate clock) false }
 {
     let answer = rates::divisor(rate, c_word::as_byte(clock));
     c_word::word(answer, false)
 }
 
-#[unsafe(no_mangle)]
-pub extern "C" fn hailstoat_power_up(bench: &mut Bench)
+pub fn hailstoat_power_up(bench: &mut Bench)
     ensures { bench.new ≡ power_up }
 {
     *bench = Bench::power_up();
@@ -123,14 +119,7 @@ fn seat_event(bench: &mut Bench, kind: u32, seat: u32, number: u32, value: u8) -
 }
 
 // One record; the word has its refusal, its answer with the figures of a character that was read, and the output after it.
-#[unsafe(no_mangle)]
-pub extern "C" fn hailstoat_event(
-    bench: &mut Bench,
-    kind: u32,
-    seat: u32,
-    number: u32,
-    value: u8,
-) -> u64
+pub fn hailstoat_event(bench: &mut Bench, kind: u32, seat: u32, number: u32, value: u8) -> u64
     ensures { (bench.new ≡ (outcome bench.old (whole kind seat number value)).bench)
         × Told result (outcome bench.old (whole kind seat number value)) }
 {
@@ -141,24 +130,21 @@ pub extern "C" fn hailstoat_event(
 }
 
 // The place in turn of a line.
-#[unsafe(no_mangle)]
-pub extern "C" fn hailstoat_place(bench: &Bench, line: u32) -> u64
+pub fn hailstoat_place(bench: &Bench, line: u32) -> u64
     ensures { Tells result (placed bench.now.controller line) false }
 {
     place_word(bench.controller, line)
 }
 
 // 1 where the controller's output is high, else 0.
-#[unsafe(no_mangle)]
-pub extern "C" fn hailstoat_output(bench: &Bench) -> u8
+pub fn hailstoat_output(bench: &Bench) -> u8
     ensures { result ≡ digit (output_of bench.now.controller) }
 {
     output_byte(bench.controller)
 }
 
 // The modem outputs of a seat: DTR, RTS, OUT1 and OUT2 as bits 0 to 3.
-#[unsafe(no_mangle)]
-pub extern "C" fn hailstoat_modem_outputs(bench: &Bench, seat: u32) -> u64
+pub fn hailstoat_modem_outputs(bench: &Bench, seat: u32) -> u64
     ensures { Tells result (outputs_at bench.now seat) false }
 {
     let at = seat as usize % records::SEATS;
@@ -166,8 +152,7 @@ pub extern "C" fn hailstoat_modem_outputs(bench: &Bench, seat: u32) -> u64
 }
 
 // The five tallies of a seat, stored where the caller asks; nothing of the bench is moved.
-#[unsafe(no_mangle)]
-pub extern "C" fn hailstoat_tallies(bench: &Bench, seat: u32, out: &mut Five) -> u64
+pub fn hailstoat_tallies(bench: &Bench, seat: u32, out: &mut Five) -> u64
     ensures { (out.new ≡ (tallies_of bench.now seat).five) × Tells result (tallies_of bench.now seat).answer false }
 {
     let at = seat as usize % records::SEATS;

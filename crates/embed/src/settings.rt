@@ -16,8 +16,7 @@ fn given_word(answer: Answer, given: Answer) -> u64
 }
 
 // A line into the divisor, which is the answer, and the LCR byte, which is stored where the caller asks and is 0 where the line is refused.
-#[unsafe(no_mangle)]
-pub extern "C" fn hailstoat_read_setting(line: &[u8], clock: u32, lcr: &mut u8) -> u64
+pub fn hailstoat_read_setting(line: &[u8], clock: u32, lcr: &mut u8) -> u64
     ensures { ReadsTold line.now clock lcr.new result }
 {
     let setting = setting_lines::read(line, c_word::as_byte(clock));
@@ -27,13 +26,7 @@ pub extern "C" fn hailstoat_read_setting(line: &[u8], clock: u32, lcr: &mut u8) 
 }
 
 // The line of a divisor and an LCR byte, put at the start of the buffer; the answer is its length. In a refusal the buffer stays.
-#[unsafe(no_mangle)]
-pub extern "C" fn hailstoat_write_setting(
-    divisor: u32,
-    lcr: u32,
-    clock: u32,
-    buffer: &mut [u8],
-) -> u64
+pub fn hailstoat_write_setting(divisor: u32, lcr: u32, clock: u32, buffer: &mut [u8]) -> u64
     ensures { WritesTold clock divisor lcr buffer.old buffer.new result }
 {
     let written = setting_lines::write(

@@ -1,9 +1,9 @@
 -- What the contracts of a save and a restore for C require, told by what C sees of them: what was saved is restored, over whatever bench; a refused
 -- restore leaves the bench, and a refused save the buffer; and a save touches nothing outside its 704 bytes.
 use Prim.Native.Nat.{ℕ, ◌+◌, ◌<◌}
-use mathlib.Core.Bool.{Bool, true, false}
+use mathlib.Core.Bool.{true}
 use mathlib.Core.List.{List}
-use mathlib.Core.Path.{◌≡◌, refl, ap, sym, subst, ◌∙◌}
+use mathlib.Core.Path.{◌≡◌, ap, sym, ◌∙◌}
 use lib.ListN.{length, take, drop}
 use seplogic.Ra.Ura.{Ura}
 use base.Logic.{SProp, ent, id⊢}

@@ -1,5 +1,4 @@
 -- Closed instances of laws, each false under a slip of `must-fail`, which names it.
-use mathlib.Core.Bool.{false}
 use mathlib.Core.List.{◌∷◌}
 use mathlib.Core.Path.{◌≡◌, refl}
 use lib.ListN.{set, replicate}
@@ -7,9 +6,7 @@ use Rattle.base.specs.Bits.{bit, digit, bits}
 use Rattle.base.specs.Pick.{pick}
 use Rattle.queue.specs.Queue.{capacity}
 use Rattle.registers.specs.Registers.{fcr_kept}
-use Rattle.channel.specs.Status.{line}
 use Rattle.seat.specs.Tallies.{add_up}
-use Rattle.bench.specs.Seats.{lines}
 use Rattle.channel_image.specs.Allowed.{sixteen_small, registers_in_range, flags_in_range, marks_in_range, queues_within, count_allowed, unused_zero, channel_good}
 use Rattle.channel_image.specs.Read.{channel_from}
 use Rattle.seat_image.specs.Read.{found, new_record, tallies_in, tallies_from, tallies_good, seat_from, record_good}

@@ -1,0 +1,20 @@
+use Rattle.std.proofs.Common.{◌≡◌, ap₂, subst, length}
+use Rattle.seat.specs.declared.Seat.{Seat}
+use Rattle.controller.specs.declared.Controller.{Controller}
+use Rattle.records.specs.Events.{whole, seat_count}
+use Rattle.records.specs.Parts.{parted}
+use Rattle.bench.specs.Seats.{seat, with_seat, with_controller}
+use Rattle.c_bench.specs.Parts.{Parted}
+use Rattle.embed.proofs.Chairs.{held_is}
+use Rattle.embed.proofs.seat_event.Goals as goal
+
+pub returns : goal.returns
+unfolding with_seat
+returns c =
+    let b = c.args.bench.now in
+    let n = c.args.seat in
+    let record_lem = whole c.args.kind n c.args.number c.args.value in
+    let full : length b.seats ≡ seat_count = search in
+    let parts : Parted c.parts-p.result (parted (seat b n) b.controller record_lem) =
+    subst (λ (s : Seat). Parted c.parts-p.result (parted s b.controller record_lem)) (held_is b n _ full) c.parts-p.ensures in
+    (ap₂ (λ (s : Seat) (k : Controller). with_controller (with_seat b n s) k) parts.seat parts.controller, parts.told)
