@@ -8,21 +8,23 @@ mod words;
 
 use kinds::Sheet;
 use sheets::Clock;
+use std::env::Env;
+use std::io::Input;
 
-fn run_settings() {
-    match words::clock() {
-        Clock::Number(clock) => input::run(Sheet::of_lines(clock)),
-        Clock::NoNumber => told::usage(),
+fn run_settings(rt: &(impl Env + Input + Print + Eprint)) {
+    match words::clock(rt) {
+        Clock::Number(clock) => input::run(rt, Sheet::of_lines(clock)),
+        Clock::NoNumber => told::usage(rt),
     }
 }
 
-fn main() {
-    let words = os::arg_count();
-    if (words == 2) & words::is_word(b"--settings-write") {
-        input::run(Sheet::of_numbers());
-    } else if (words == 3) & words::is_word(b"--settings") {
-        run_settings();
+fn main(rt: HostRuntime) {
+    let words = words::count(&rt);
+    if (words == 2) & words::is_word(&rt, b"--settings-write") {
+        input::run(&rt, Sheet::of_numbers());
+    } else if (words == 3) & words::is_word(&rt, b"--settings") {
+        run_settings(&rt);
     } else {
-        told::usage();
+        told::usage(&rt);
     }
 }
