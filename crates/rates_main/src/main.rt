@@ -2,7 +2,7 @@
 // edges of both numbers. A line each: clock, rate in tenths of a baud, refusal number, answer in three hex capitals.
 #![tactic(auto)]
 
-use libc::STDOUT_FILENO;
+use std::io::Result;
 
 const CLOCKS: u8 = 4;
 
@@ -12,8 +12,9 @@ const EDGE_RATES: [u32; 11] = [
 
 const EDGE_CLOCKS: [u8; 11] = [0, 0, 0, 4, 255, 255, 1, 2, 0, 0, 255];
 
-fn ask(rate: u32, clock: u8) {
+fn ask(rt: &impl Print, rate: u32, clock: u8) -> Result<()> {
     let answer = rates::divisor(rate, clock);
+    let refusal = answer.refusal();
     let value = answer.value() as u32;
     let end = [
         b' ',
@@ -22,36 +23,34 @@ fn ask(rate: u32, clock: u8) {
         text::capital(value),
         b'\n',
     ];
-    io::print_decimal(STDOUT_FILENO, clock as u64);
-    io::write_all(STDOUT_FILENO, b" ");
-    io::print_decimal(STDOUT_FILENO, rate as u64);
-    io::write_all(STDOUT_FILENO, b" ");
-    io::print_decimal(STDOUT_FILENO, answer.refusal() as u64);
-    io::write_all(STDOUT_FILENO, &end);
+    print!(rt; "{clock} {rate} {refusal}")?;
+    rt.write_all(&end)
 }
 
 // Wrapping, since nothing here says that a listed rate has neighbours.
-fn ask_around(rate: u32, clock: u8) {
-    ask(std::num::wrapping_sub_u32(rate, 1), clock);
-    ask(rate, clock);
-    ask(std::num::wrapping_add_u32(rate, 1), clock);
+fn ask_around(rt: &impl Print, rate: u32, clock: u8) -> Result<()> {
+    ask(rt, std::num::wrapping_sub_u32(rate, 1), clock)?;
+    ask(rt, rate, clock)?;
+    ask(rt, std::num::wrapping_add_u32(rate, 1), clock)
 }
 
-fn ask_table(clock: u8) {
+fn ask_table(rt: &impl Print, clock: u8) -> Result<()> {
     for i in 0..rates::RATES.len() {
-        ask_around(rates::RATES[i], clock);
+        ask_around(rt, rates::RATES[i], clock)?;
     }
+    Ok(())
 }
 
-fn ask_edges() {
+fn ask_edges(rt: &impl Print) -> Result<()> {
     for i in 0..EDGE_RATES.len() {
-        ask(EDGE_RATES[i], EDGE_CLOCKS[i]);
+        ask(rt, EDGE_RATES[i], EDGE_CLOCKS[i])?;
     }
+    Ok(())
 }
 
-fn main() {
+fn main(rt: HostRuntime) -> Result<()> {
     for clock in 0..CLOCKS {
-        ask_table(clock);
+        ask_table(&rt, clock)?;
     }
-    ask_edges();
+    ask_edges(&rt)
 }

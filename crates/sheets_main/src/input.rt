@@ -3,7 +3,7 @@ ghost use Rattle.std.specs.Prelude.{◌≡◌, ◌+◌, ◌≤◌, length};
 
 use crate::kinds::Sheet;
 use crate::told;
-use libc::{STDIN_FILENO, STDOUT_FILENO};
+use std::io::{Input, Read, Result};
 
 // No loop here is endless. Each read but the last brings a byte, and the numbers of that many lines fit 64 bits.
 const READS: u64 = 140737488355328;
@@ -24,21 +24,21 @@ struct Walked {
 }
 
 // Puts a line's answer behind the others, or tells that it has none.
-fn answer(sheet: Sheet, number: u64, out: &mut [u8], end: usize) -> usize
+fn answer(rt: &impl Eprint, sheet: Sheet, number: u64, out: &mut [u8], end: usize) -> usize
     requires { end + 16 ≤ length out.old }
     ensures { result ≤ end + 16 }
 {
     let mut text = [0u8; 20];
     let length = sheet.reply(&mut text);
     if length == 0 {
-        told::not_four(number);
+        told::not_four(rt, number);
         return end;
     }
-    bytes::copy(&text[..length], &mut out[end..]);
+    out[end..end + length].copy_from_slice(&text[..length]);
     end + length
 }
 
-fn walk(block: &[u8], start: Sheet, first: u64, out: &mut [u8]) -> Walked
+fn walk(rt: &impl Eprint, block: &[u8], start: Sheet, first: u64, out: &mut [u8]) -> Walked
     requires { (length block.now ≤ 65536) × (length out.old ≡ 1048576) × (first + 65536 ≤ 18446744073709551615) }
     ensures { (result.number ≤ first + 65536) × (result.end ≤ 1048576) }
 {
@@ -50,56 +50,46 @@ fn walk(block: &[u8], start: Sheet, first: u64, out: &mut [u8]) -> Walked
             sheet = sheet.after(block[i]);
             continue;
         }
-        end = answer(sheet, number, &mut *out, end);
+        end = answer(rt, sheet, number, &mut *out, end);
         number += 1;
         sheet = sheet.next();
     }
     Walked { sheet, number, end }
 }
 
-fn write(answers: &[u8]) -> bool {
-    if io::write_all(STDOUT_FILENO, answers) {
-        return true;
-    }
-    told::write_failed();
-    false
-}
-
 // The last line, where it is not ended.
-fn finish(sheet: Sheet, number: u64) {
+fn finish(rt: &(impl Print + Eprint), sheet: Sheet, number: u64) -> Result<()> {
     if sheet.is_empty() {
-        return;
+        return Ok(());
     }
     let mut out = [0u8; 16];
-    let end = answer(sheet, number, &mut out, 0);
-    write(&out[..end]);
+    let end = answer(rt, sheet, number, &mut out, 0);
+    rt.write_all(&out[..end])
 }
 
-pub(crate) fn run(start: Sheet) {
-    let mut block = io::large_buffer();
+// Input that cannot be read is told, and what cannot be written is an error.
+pub(crate) fn run(rt: &(impl Input + Print + Eprint), start: Sheet) -> Result<()> {
+    let mut input = rt.reader();
+    let mut block = [0u8; 65536];
     let mut out = answers();
     let mut sheet = start;
     let mut number: u64 = 1;
     let mut reads: u64 = READS;
     while 0 < reads {
         reads -= 1;
-        let got = libc::read(STDIN_FILENO, &mut block);
-        if got < 0 {
-            told::read_failed();
-            return;
-        }
-        let count = io::count(got, &block);
+        let Ok(count) = input.read(&mut block) else {
+            told::read_failed(rt);
+            return Ok(());
+        };
         if count == 0 {
-            finish(sheet, number);
-            return;
+            return finish(rt, sheet, number);
         }
-        let walked = walk(&block[..count], sheet, number, &mut out);
+        let walked = walk(rt, &block[..count], sheet, number, &mut out);
         let end = walked.end;
-        if !write(&out[..end]) {
-            return;
-        }
+        rt.write_all(&out[..end])?;
         let begun = walked.sheet;
         sheet = begun;
         number = walked.number;
     }
+    Ok(())
 }

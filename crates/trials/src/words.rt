@@ -1,4 +1,7 @@
 // The words that the program is given, and the numbers among them.
+ghost use Rattle.std.specs.Prelude.{◌≤◌, length};
+
+use std::env::{Env, FillError};
 
 #[derive(Clone, Copy)]
 pub(crate) enum Number {
@@ -30,19 +33,36 @@ fn decimal(text: &[u8]) -> Number {
     Number::Whole(n)
 }
 
+// How many there are, the program's name among them.
+pub(crate) fn count(rt: &impl Env) -> usize {
+    for i in 0..usize::MAX {
+        if let Err(FillError::NotPresent) = rt.arg(i, &mut []) {
+            return i;
+        }
+    }
+    usize::MAX
+}
+
+// Puts a word at the start of a buffer. Its length; 0 where there is none, or where it is longer than the buffer.
+fn read(rt: &impl Env, i: usize, text: &mut [u8]) -> usize
+    ensures { result ≤ length text.new }
+{
+    rt.arg(i, text).unwrap_or(0)
+}
+
 // Whether the first word is this one.
-pub(crate) fn asks_for(word: &[u8]) -> bool {
+pub(crate) fn asks_for(rt: &impl Env, word: &[u8]) -> bool {
     let mut text = [0u8; 20];
-    let n = os::arg(1, &mut text);
-    check::same(&text[..n], word)
+    let n = read(rt, 1, &mut text);
+    &text[..n] == word
 }
 
 // One that is left out is 0. The words are those of the command line, the program's name among them.
-pub(crate) fn argument(i: usize, words: usize) -> Number {
+pub(crate) fn argument(rt: &impl Env, i: usize, words: usize) -> Number {
     if words <= i {
         return Number::Whole(0);
     }
     let mut text = [0u8; 20];
-    let n = os::arg(i, &mut text);
+    let n = read(rt, i, &mut text);
     decimal(&text[..n])
 }
