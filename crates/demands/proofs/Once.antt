@@ -20,7 +20,7 @@ Ensured M T =
     → Args T.signature κ → Res T.signature κ → AtExit T κ → SProp 𝓤
 
 abbrev pub clauses : {M : Type 1} (T : Ended) → Ensured M T → Written M T
-clauses T says 𝓤 𝓛 mem run κ a = record { ghost = Unit {0}; requires = λ g. emp 𝓤; ensures = λ g r e. says 𝓛 mem run κ a r e }
+clauses T says 𝓤 𝓛 mem run κ a = record { ghost = Unit {0}; requires = λ g. emp 𝓤; ensures = λ g r e. says 𝓤 𝓛 mem run κ a r e }
 
 abbrev pub closed : {M : Type 1} (T : Ended) → Ensured M T → Proved M T
 closed T says 𝓤 𝓛 mem run = closing 𝓛 T (clauses T says 𝓤 𝓛 mem run)

@@ -17,8 +17,8 @@ use Rattle.bench.specs.declared.Bench.{Bench}
 use Rattle.bench.specs.Seats.{power_up}
 use Rattle.bench.specs.Steps.{outcome}
 use Rattle.c_word.specs.Word.{word_of}
-use Rattle.embed.proofs as embed
-use Rattle.rates.proofs as rates
+use Rattle.embed.specs.contracts as embed
+use Rattle.rates.specs.contracts as rates
 use Rattle.demands.specs.Once.{Free, Once, Proved, Written}
 use Rattle.demands.proofs.Once.{Fact, clauses, closed, plainly}
 
@@ -53,7 +53,7 @@ power_up_is_power_up κ a r e = power_up ≡ power_up
 
 pub power_up_left_open : OnceSaid embed.hailstoat_power_up.ended power_up_is_power_up → ⊥
 power_up_left_open =
-    second embed.hailstoat_power_up.ended power_up_is_power_up ([], tt) (record { ref_ptr = (0, 0); now = power_up }, tt) tt tt
+    second embed.hailstoat_power_up.ended power_up_is_power_up ([], tt) (record { ref_ptr = (0, 0); ghost_name = 0; now = power_up }, tt) tt tt
     (power_up, tt) (no_seats, tt) refl refl
     (λ same. let seats : seat_count ≡ 0 = ap (λ (v : _). length v.0.seats) same.1 in omega arith)
 
@@ -64,7 +64,7 @@ word_alone κ (bench, (kind, (seat, (number, (value, _))))) r e =
 
 pub event_left_open : OnceSaid embed.hailstoat_event.ended word_alone → ⊥
 event_left_open =
-    second embed.hailstoat_event.ended word_alone ([], tt) (record { ref_ptr = (0, 0); now = power_up }, (0, (0, (0, (0, tt))))) _ _
+    second embed.hailstoat_event.ended word_alone ([], tt) (record { ref_ptr = (0, 0); ghost_name = 0; now = power_up }, (0, (0, (0, (0, tt))))) _ _
     (power_up, (tt, (tt, (tt, (tt, tt))))) (no_seats, (tt, (tt, (tt, (tt, tt))))) refl refl
     (λ same. let seats : seat_count ≡ 0 = ap (λ (v : _). length v.0.seats) same.1 in omega arith)
 

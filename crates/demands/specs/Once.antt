@@ -39,7 +39,7 @@ module _ {M : Type 1} (𝓤 : Ura M) (T : Ended) (clauses : Clauses 𝓤 T) wher
 -- Any caller may call it: there is no `requires`.
 pub record Free (M : Type 1) (T : Ended) (written : Written M T) (proved : Proved M T) : Type 2 where
   -- the contract of the function's theorem is these clauses and nothing else
-  pub theirs : proved ≡ (λ {𝓤 = 𝓤} 𝓛 mem run. closing 𝓛 T (written 𝓤 𝓛 mem run))
+  pub theirs : proved ≡ (λ 𝓤 𝓛 mem run. closing 𝓛 T (written 𝓤 𝓛 mem run))
   pub free : (𝓤 : Ura M) (𝓛 : Logic 𝓤) (mem : Memory → SProp 𝓤) (run : Routine → Fun 𝓤)
       → AsksNothing 𝓤 T (written 𝓤 𝓛 mem run)
 
