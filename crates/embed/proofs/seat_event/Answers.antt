@@ -13,8 +13,8 @@ unfolding with_seat
 returns c =
     let b = c.args.bench.now in
     let n = c.args.seat in
-    let record_lem = whole c.args.kind n c.args.number c.args.value in
+    let asked = whole c.args.kind n c.args.number c.args.value in
     let full : length b.seats ≡ seat_count = search in
-    let parts : Parted c.parts-p.result (parted (seat b n) b.controller record_lem) =
-    subst (λ (s : Seat). Parted c.parts-p.result (parted s b.controller record_lem)) (held_is b n _ full) c.parts-p.ensures in
+    let parts : Parted c.parts-p.result (parted (seat b n) b.controller asked) =
+    subst (λ (s : Seat). Parted c.parts-p.result (parted s b.controller asked)) (held_is b n _ full) c.parts-p.ensures in
     (ap₂ (λ (s : Seat) (k : Controller). with_controller (with_seat b n s) k) parts.seat parts.controller, parts.told)
