@@ -15,21 +15,21 @@ mod timelines;
 mod told;
 mod words;
 
-fn main() {
-    let words = words::read();
+fn main(rt: HostRuntime) {
+    let words = words::read(&rt);
     if !words.are_whole() {
-        told::wrong_words(words.wrong);
+        told::wrong_words(&rt, words.wrong);
         return;
     }
-    let start = images::open(words.place_of(options::IMAGE));
+    let start = images::open(&rt, words.place_of(options::IMAGE));
     if !start.ready {
         return;
     }
     let bench = start.bench;
     let lesson = words.place_of(options::LESSON);
     if lesson == 0 {
-        input::run(bench);
+        input::run(&rt, bench);
     } else {
-        lessons::run(lesson - 1, lesson, bench);
+        lessons::run(&rt, lesson - 1, lesson, bench);
     }
 }

@@ -1,7 +1,6 @@
 // The state of the bench, a page for each seat in use and one for the controller.
 use crate::telling::write;
 use bench::Bench;
-use libc::STDOUT_FILENO;
 use records::{Event, SEATS};
 
 // The seats in use, beside those that are named already.
@@ -17,14 +16,18 @@ pub(crate) fn in_use(bench: Bench, named: u8) -> u8 {
 }
 
 // Whether it could be written.
-pub(crate) fn show(bench: Bench) -> bool {
+pub(crate) fn show(rt: &HostRuntime, bench: Bench) -> bool {
     for n in 0..SEATS {
         let seat = bench.seats[n];
         if seat_page::is_in_use(seat) {
-            if !write(STDOUT_FILENO, seat_page::seat(seat, n as u8)) {
+            if write(&mut rt.stdout(), seat_page::seat(seat, n as u8)).is_err() {
                 return false;
             }
         }
     }
-    write(STDOUT_FILENO, controller_page::controller(bench.controller))
+    write(
+        &mut rt.stdout(),
+        controller_page::controller(bench.controller),
+    )
+    .is_ok()
 }
