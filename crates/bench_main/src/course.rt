@@ -1,11 +1,10 @@
 // A run: records in, lines or pages out, and between them the saves that are due.
 ghost use Rattle.std.specs.Prelude.{◌≡◌, ◌+◌, ◌-◌, ◌*◌, ◌%◌, ◌≤◌, ◌<◌, length};
 
-use crate::telling::Telling;
-use crate::{saves, states, tallies, telling, timelines, told};
+use crate::telling::{Telling, print};
+use crate::{saves, states, tallies, telling, timelines};
 use bench::Bench;
 use options::Now;
-use std::io::Print;
 
 // `files::lines` has room for as many lines.
 const MOST: u64 = 16384;
@@ -70,10 +69,7 @@ pub(crate) fn list(
     let bench = ran.bench;
     let written = ran.written;
     let number = start.number + ran.records as u64;
-    let failed = rt.write_all(&out[..written]).is_err();
-    if failed {
-        told::not_written(rt);
-    }
+    let failed = !print(rt, &out[..written]);
     Course {
         bench,
         number,
@@ -148,7 +144,6 @@ pub(crate) fn finish(rt: &HostRuntime, course: Course)
     timelines::finish(rt, telling.file, number);
     if last {
         if !states::show(rt, bench) {
-            told::not_written(rt);
             return;
         }
     }

@@ -1,5 +1,5 @@
 // The state of the bench, a page for each seat in use and one for the controller.
-use crate::telling::write;
+use crate::telling::print_page;
 use bench::Bench;
 use records::{Event, SEATS};
 
@@ -20,14 +20,10 @@ pub(crate) fn show(rt: &HostRuntime, bench: Bench) -> bool {
     for n in 0..SEATS {
         let seat = bench.seats[n];
         if seat_page::is_in_use(seat) {
-            if write(&mut rt.stdout(), seat_page::seat(seat, n as u8)).is_err() {
+            if !print_page(rt, seat_page::seat(seat, n as u8)) {
                 return false;
             }
         }
     }
-    write(
-        &mut rt.stdout(),
-        controller_page::controller(bench.controller),
-    )
-    .is_ok()
+    print_page(rt, controller_page::controller(bench.controller))
 }

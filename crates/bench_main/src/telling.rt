@@ -9,7 +9,7 @@ use page::Page;
 use sight::Sight;
 use std::fs::File;
 use std::io;
-use std::io::Write;
+use std::io::{Print, Write};
 
 // Eight digits are a record.
 const DIGITS: usize = 8;
@@ -47,10 +47,27 @@ pub(crate) fn begin(rt: &HostRuntime, bench: Bench, named: u8) -> Telling {
     }
 }
 
-pub(crate) fn write<W: Write>(to: &mut W, page: Page) -> io::Result<()> {
+// Whether bytes of the listing, or of what stands in its place, could be written; where they could not, it is told.
+pub(crate) fn print(rt: &HostRuntime, bytes: &[u8]) -> bool {
+    match rt.write_all(bytes) {
+        Ok(()) => true,
+        Err(error) => {
+            told::not_written(rt, error);
+            false
+        }
+    }
+}
+
+pub(crate) fn print_page(rt: &HostRuntime, page: Page) -> bool {
     let bytes = page.bytes;
     let length = page.length();
-    to.write_all(&bytes[..length])
+    print(rt, &bytes[..length])
+}
+
+pub(crate) fn write(file: &mut File, page: Page) -> io::Result<()> {
+    let bytes = page.bytes;
+    let length = page.length();
+    file.write_all(&bytes[..length])
 }
 
 // A record that the input cuts off has fewer bytes.
@@ -72,11 +89,8 @@ fn explain(rt: &HostRuntime, start: Course, one: &[u8], text: &[u8]) -> Course
     let end = comment.end;
     let told = account(start.bench, start.number, one, &text[from..end]);
     let bench = told.bench;
-    let written = write(&mut rt.stdout(), told.page).is_ok();
+    let written = print_page(rt, told.page);
     telling.place = place;
-    if !written {
-        told::not_written(rt);
-    }
     Course {
         bench,
         number: start.number + 1,
@@ -109,7 +123,6 @@ fn follow(rt: &HostRuntime, start: Course, before: Sight) -> Course
     let mut course = start;
     if course.telling.each {
         if !states::show(rt, course.bench) {
-            told::not_written(rt);
             course.failed = true;
             return course;
         }

@@ -1,12 +1,12 @@
-// What is said on standard error. A byte 1 stands before each fault, a byte 2 before words that are wrong, and none before a report: by these `bench`
-// knows its status.
+// What is said on standard error. A byte 1 stands before each fault, a byte 2 before words that are wrong, a byte 3 where nobody reads the listing any
+// more, and none before a report: by these `bench` knows its status.
 ghost use Rattle.std.specs.Prelude.{◌≤◌, length};
 
 use crate::words;
 use base::Answer;
 use lesson::Cause;
 use seat::Five;
-use std::io::{Error, Print, Write};
+use std::io::{Error, ErrorKind, Print, Write};
 
 // Where standard error cannot be written there is nowhere to say so.
 fn say(rt: &HostRuntime, words: &[u8]) {
@@ -49,8 +49,14 @@ pub(crate) fn failed(rt: &HostRuntime, what: &[u8], error: Error) {
     say(rt, b"\n");
 }
 
-pub(crate) fn not_written(rt: &HostRuntime) {
-    say_fault(rt, b"bench: the listing could not be written\n");
+// A listing whose reader went away is usual, and no fault where the system's signal ends a program for that.
+pub(crate) fn not_written(rt: &HostRuntime, error: Error) {
+    if error.kind() == ErrorKind::BrokenPipe {
+        say(rt, b"\x03");
+    } else {
+        say(rt, b"\x01");
+    }
+    say(rt, b"bench: the listing could not be written\n");
 }
 
 pub(crate) fn no_timeline(rt: &HostRuntime) {
