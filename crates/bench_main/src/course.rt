@@ -1,20 +1,22 @@
 // A run: records in, lines or pages out, and between them the saves that are due.
 ghost use Rattle.std.specs.Prelude.{◌≡◌, ◌+◌, ◌-◌, ◌*◌, ◌%◌, ◌≤◌, ◌<◌, length};
 
-use crate::telling::{Telling, print};
-use crate::{saves, states, tallies, telling, timelines};
+use crate::telling::Telling;
+use crate::{saves, states, tallies, telling, timelines, told};
 use bench::Bench;
 use options::Now;
+use std::io::{Error, Print};
+use std::process::ExitCode;
 
 // `files::lines` has room for as many lines.
 const MOST: u64 = 16384;
 
-// How far a run has come: the bench behind so many records. It has failed where the listing could not be written.
+// How far a run has come: the bench behind so many records. It has failed where the listing could not be written, by that error.
 #[derive(Drop)]
 pub(crate) struct Course {
     pub(crate) bench: Bench,
     pub(crate) number: u64,
-    pub(crate) failed: bool,
+    pub(crate) failed: Option<Error>,
     pub(crate) telling: Telling,
 }
 
@@ -26,7 +28,7 @@ pub(crate) fn begin(rt: &HostRuntime, bench: Bench, used: u8) -> Course
     Course {
         bench,
         number: 0,
-        failed: false,
+        failed: None,
         telling: telling::begin(rt, bench, used),
     }
 }
@@ -69,7 +71,7 @@ pub(crate) fn list(
     let bench = ran.bench;
     let written = ran.written;
     let number = start.number + ran.records as u64;
-    let failed = !print(rt, &out[..written]);
+    let failed = rt.write_all(&out[..written]).err();
     Course {
         bench,
         number,
@@ -113,7 +115,7 @@ pub(crate) fn play(
     while at < all {
         let end = part_end(rt, course.number, at, all);
         course = part(rt, course, &records[at..end], text, last, &mut *out);
-        if course.failed {
+        if course.failed.is_some() {
             return course;
         }
         let number = course.number;
@@ -129,12 +131,12 @@ pub(crate) fn abandon(rt: &HostRuntime, course: Course) {
     timelines::abandon(rt, telling.file);
 }
 
-pub(crate) fn finish(rt: &HostRuntime, course: Course)
+pub(crate) fn finish(rt: &HostRuntime, course: Course) -> ExitCode
     requires { course.number ≤ 1152921504606846976 }
 {
-    if course.failed {
+    if let Some(error) = course.failed {
         abandon(rt, course);
-        return;
+        return told::not_written(rt, error);
     }
     let number = course.number;
     let bench = course.bench;
@@ -143,9 +145,10 @@ pub(crate) fn finish(rt: &HostRuntime, course: Course)
     saves::make(rt, bench, Now::End(number), number);
     timelines::finish(rt, telling.file, number);
     if last {
-        if !states::show(rt, bench) {
-            return;
+        if let Err(error) = states::show(rt, bench) {
+            return told::not_written(rt, error);
         }
     }
     tallies::tell(rt, bench);
+    ExitCode::SUCCESS
 }

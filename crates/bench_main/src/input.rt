@@ -1,6 +1,7 @@
 // Records from standard input, in blocks.
 use crate::{course, files, told};
 use bench::Bench;
+use std::process::ExitCode;
 
 // No loop here is endless. Each read but the last brings a byte, and no more records than a save's number can have are read.
 const READS: u64 = 17592186044415;
@@ -10,7 +11,7 @@ const EVERY_SEAT: u8 = 255;
 
 // Bytes from `start` to `end` of `input` are read and not yet answered: at most three, of a record that is still to be completed.
 // A block holds whole records, so that such a record always has its room behind it.
-pub(crate) fn run(rt: &HostRuntime, bench: Bench) {
+pub(crate) fn run(rt: &HostRuntime, bench: Bench) -> ExitCode {
     let mut input = files::large_buffer();
     let mut out = files::lines();
     let mut course = course::begin(rt, bench, EVERY_SEAT);
@@ -22,14 +23,13 @@ pub(crate) fn run(rt: &HostRuntime, bench: Bench) {
         let Ok(filled) = files::fill(&mut rt.stdin(), &mut input, end) else {
             told::input_failed(rt);
             course::abandon(rt, course);
-            return;
+            return ExitCode::SUCCESS;
         };
         let last = filled == end;
         end = filled;
         course = course::play(rt, course, &input[start..end], b"", last, &mut out);
-        if last | course.failed {
-            course::finish(rt, course);
-            return;
+        if last | course.failed.is_some() {
+            return course::finish(rt, course);
         }
         start = end - (end - start) % 4;
         if start == end {
@@ -37,4 +37,5 @@ pub(crate) fn run(rt: &HostRuntime, bench: Bench) {
             end = 0;
         }
     }
+    ExitCode::SUCCESS
 }

@@ -8,6 +8,7 @@ use lesson::Lesson;
 use std::env::{Env, FillError};
 use std::fs::File;
 use std::io::Error;
+use std::process::ExitCode;
 
 // The system's number for a name that is too long.
 const NAME_TOO_LONG: i32 = 36;
@@ -38,56 +39,61 @@ fn named(records: &[u8]) -> u8 {
     used
 }
 
-fn play(rt: &HostRuntime, bench: Bench, text: &[u8], records: &[u8])
+fn play(rt: &HostRuntime, bench: Bench, text: &[u8], records: &[u8]) -> ExitCode
     requires { length records.now ≤ 1048576 }
 {
     let mut out = files::lines();
     let start = course::begin(rt, bench, named(records));
-    course::finish(rt, course::play(rt, start, records, text, true, &mut out));
+    course::finish(rt, course::play(rt, start, records, text, true, &mut out))
 }
 
 // Neither room for a text is larger than what the reader reads.
-fn play_text(rt: &HostRuntime, bench: Bench, path: &[u8], text: &[u8])
+fn play_text(rt: &HostRuntime, bench: Bench, path: &[u8], text: &[u8]) -> ExitCode
     requires { length text.now ≤ longest }
 {
     let mut records = records();
     match lesson::read(text, &mut records) {
-        Lesson::Bytes(count) => play(rt, bench, text, &records[..count]),
+        Lesson::Bytes(count) => return play(rt, bench, text, &records[..count]),
         Lesson::Fault(line, column, cause) => told::fault(rt, path, line, column, cause),
         Lesson::TooLong => told::too_long(rt, path),
         Lesson::NoRoom => told::too_many(rt, path),
     }
+    ExitCode::SUCCESS
+}
+
+fn failed(rt: &HostRuntime, path: &[u8], error: Error) -> ExitCode {
+    told::failed(rt, path, error);
+    ExitCode::SUCCESS
 }
 
 // A text of which no more was read than there was room for.
-fn play_long(rt: &HostRuntime, bench: Bench, path: &[u8], file: &mut File, read: &[u8])
+fn play_long(rt: &HostRuntime, bench: Bench, path: &[u8], file: &mut File, read: &[u8]) -> ExitCode
     requires { length read.now ≤ 65536 }
 {
     let mut text = long_text();
     text[..read.len()].copy_from_slice(read);
     match files::read_on(file, &mut text, read.len()) {
-        Err(error) => told::failed(rt, path, error),
+        Err(error) => failed(rt, path, error),
         Ok(end) => {
             if end == text.len() {
                 told::too_long(rt, path);
-                return;
+                return ExitCode::SUCCESS;
             }
-            play_text(rt, bench, path, &text[..end]);
+            play_text(rt, bench, path, &text[..end])
         }
     }
 }
 
 // The lesson in a file that is open.
-fn read(rt: &HostRuntime, bench: Bench, path: &[u8], file: &mut File) {
+fn read(rt: &HostRuntime, bench: Bench, path: &[u8], file: &mut File) -> ExitCode {
     let mut text = files::large_buffer();
     match files::read_on(&mut *file, &mut text, 0) {
-        Err(error) => told::failed(rt, path, error),
+        Err(error) => failed(rt, path, error),
         Ok(end) => {
             if end < text.len() {
-                play_text(rt, bench, path, &text[..end]);
-            } else {
-                play_long(rt, bench, path, file, &text);
+                return play_text(rt, bench, path, &text[..end]);
             }
+            play_long(rt, bench, path, file, &text)
         }
     }
 }
@@ -100,10 +106,10 @@ fn unnamed(why: FillError) -> Error {
     }
 }
 
-fn open(rt: &HostRuntime, bench: Bench, path: &[u8]) {
+fn open(rt: &HostRuntime, bench: Bench, path: &[u8]) -> ExitCode {
     match files::open(rt, path) {
         Ok(mut file) => read(rt, bench, path, &mut file),
-        Err(error) => told::failed(rt, path, error),
+        Err(error) => failed(rt, path, error),
     }
 }
 
@@ -111,18 +117,14 @@ fn open(rt: &HostRuntime, bench: Bench, path: &[u8]) {
 //
 // It calls itself, so the compiler does not put it into its caller, nor a function with a large room into it: the room for a long text is
 // taken where there is one, and none of this where records come from standard input.
-pub(crate) fn run(rt: &HostRuntime, place: usize, lesson: usize, bench: Bench) {
+pub(crate) fn run(rt: &HostRuntime, place: usize, lesson: usize, bench: Bench) -> ExitCode {
     let mut path = files::buffer();
     let length = match rt.arg(lesson, &mut path) {
         Ok(length) => length,
-        Err(why) => {
-            told::failed(rt, b"bench: the lesson's name", unnamed(why));
-            return;
-        }
+        Err(why) => return failed(rt, b"bench: the lesson's name", unnamed(why)),
     };
     if place < lesson {
-        run(rt, lesson, lesson, bench);
-        return;
+        return run(rt, lesson, lesson, bench);
     }
-    open(rt, bench, &path[..length]);
+    open(rt, bench, &path[..length])
 }

@@ -47,21 +47,10 @@ pub(crate) fn begin(rt: &HostRuntime, bench: Bench, named: u8) -> Telling {
     }
 }
 
-// Whether bytes of the listing, or of what stands in its place, could be written; where they could not, it is told.
-pub(crate) fn print(rt: &HostRuntime, bytes: &[u8]) -> bool {
-    match rt.write_all(bytes) {
-        Ok(()) => true,
-        Err(error) => {
-            told::not_written(rt, error);
-            false
-        }
-    }
-}
-
-pub(crate) fn print_page(rt: &HostRuntime, page: Page) -> bool {
+pub(crate) fn print(rt: &HostRuntime, page: Page) -> io::Result<()> {
     let bytes = page.bytes;
     let length = page.length();
-    print(rt, &bytes[..length])
+    rt.write_all(&bytes[..length])
 }
 
 pub(crate) fn write(file: &mut File, page: Page) -> io::Result<()> {
@@ -89,12 +78,12 @@ fn explain(rt: &HostRuntime, start: Course, one: &[u8], text: &[u8]) -> Course
     let end = comment.end;
     let told = account(start.bench, start.number, one, &text[from..end]);
     let bench = told.bench;
-    let written = print_page(rt, told.page);
+    let failed = print(rt, told.page).err();
     telling.place = place;
     Course {
         bench,
         number: start.number + 1,
-        failed: !written,
+        failed,
         telling,
     }
 }
@@ -122,8 +111,8 @@ fn follow(rt: &HostRuntime, start: Course, before: Sight) -> Course
 {
     let mut course = start;
     if course.telling.each {
-        if !states::show(rt, course.bench) {
-            course.failed = true;
+        if let Err(error) = states::show(rt, course.bench) {
+            course.failed = Some(error);
             return course;
         }
     }
@@ -159,11 +148,11 @@ pub(crate) fn tell(
         let end = record_end(at, records.len());
         let before = Sight::of(course.bench);
         course = answer(rt, course, &records[at..end], text, last, &mut *out);
-        if course.failed {
+        if course.failed.is_some() {
             return course;
         }
         course = follow(rt, course, before);
-        if course.failed {
+        if course.failed.is_some() {
             return course;
         }
         at = end;

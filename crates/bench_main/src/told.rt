@@ -1,5 +1,5 @@
-// What is said on standard error. A byte 1 stands before each fault, a byte 2 before words that are wrong, a byte 3 where nobody reads the listing any
-// more, and none before a report: by these `bench` knows its status.
+// What is said on standard error. A byte 1 stands before each fault, a byte 2 before words that are wrong, and none before a report: by these `bench`
+// knows its status.
 ghost use Rattle.std.specs.Prelude.{◌≤◌, length};
 
 use crate::words;
@@ -7,6 +7,10 @@ use base::Answer;
 use lesson::Cause;
 use seat::Five;
 use std::io::{Error, ErrorKind, Print, Write};
+use std::process::ExitCode;
+
+// What a shell shows where the signal of a pipe without a reader ends a program. The library holds that signal back.
+const NO_READER: u8 = 141;
 
 // Where standard error cannot be written there is nowhere to say so.
 fn say(rt: &HostRuntime, words: &[u8]) {
@@ -49,14 +53,13 @@ pub(crate) fn failed(rt: &HostRuntime, what: &[u8], error: Error) {
     say(rt, b"\n");
 }
 
-// A listing whose reader went away is usual, and no fault where the system's signal ends a program for that.
-pub(crate) fn not_written(rt: &HostRuntime, error: Error) {
+// That nobody reads the listing any more is usual, and not told. The status is told by the lines, but for that.
+pub(crate) fn not_written(rt: &HostRuntime, error: Error) -> ExitCode {
     if error.kind() == ErrorKind::BrokenPipe {
-        say(rt, b"\x03");
-    } else {
-        say(rt, b"\x01");
+        return ExitCode::from(NO_READER);
     }
-    say(rt, b"bench: the listing could not be written\n");
+    say_fault(rt, b"bench: the listing could not be written\n");
+    ExitCode::SUCCESS
 }
 
 pub(crate) fn no_timeline(rt: &HostRuntime) {
