@@ -4,31 +4,32 @@ ghost use Rattle.std.specs.Prelude.{◌≡◌, ◌+◌, ◌-◌, ◌*◌, ◌%�
 use crate::telling::Telling;
 use crate::{saves, states, tallies, telling, timelines, told};
 use bench::Bench;
-use libc::STDOUT_FILENO;
 use options::Now;
+use std::io::{Error, Print};
+use std::process::ExitCode;
 
 // `files::lines` has room for as many lines.
 const MOST: u64 = 16384;
 
-// How far a run has come: the bench behind so many records. It has failed where the listing could not be written.
-#[derive(Clone, Copy)]
+// How far a run has come: the bench behind so many records. It has failed where the listing could not be written, by that error.
+#[derive(Drop)]
 pub(crate) struct Course {
     pub(crate) bench: Bench,
     pub(crate) number: u64,
-    pub(crate) failed: bool,
+    pub(crate) failed: Option<Error>,
     pub(crate) telling: Telling,
 }
 
 // `used` are the seats that a timeline tells of, beside those in use already.
-pub(crate) fn begin(bench: Bench, used: u8) -> Course
+pub(crate) fn begin(rt: &HostRuntime, bench: Bench, used: u8) -> Course
     ensures { result.number ≡ 0 }
 {
-    saves::make(bench, Now::Behind(0), 0);
+    saves::make(rt, bench, Now::Behind(0), 0);
     Course {
         bench,
         number: 0,
-        failed: false,
-        telling: telling::begin(bench, used),
+        failed: None,
+        telling: telling::begin(rt, bench, used),
     }
 }
 
@@ -43,11 +44,11 @@ fn answered(bytes: usize, last: bool) -> usize
 }
 
 // Where a run stops that has come to byte `at` of `all`, behind so many records: at the next save, where the lines have no more room, or at the end.
-fn part_end(number: u64, at: usize, all: usize) -> usize
+fn part_end(rt: &HostRuntime, number: u64, at: usize, all: usize) -> usize
     requires { (at < all) × (number ≤ 1152921504606846976) }
     ensures { (at < result) × (result ≤ all) × (result ≤ at + 65536) }
 {
-    let part = 4 * (saves::stop(number, number + MOST) - number) as usize;
+    let part = 4 * (saves::stop(rt, number, number + MOST) - number) as usize;
     if all - at <= part {
         return all;
     }
@@ -55,7 +56,13 @@ fn part_end(number: u64, at: usize, all: usize) -> usize
 }
 
 // The listing of some records, for which `out` has room.
-pub(crate) fn list(start: Course, records: &[u8], last: bool, out: &mut [u8]) -> Course
+pub(crate) fn list(
+    rt: &HostRuntime,
+    start: Course,
+    records: &[u8],
+    last: bool,
+    out: &mut [u8],
+) -> Course
     requires { (length out.old ≡ 524288) × (start.number + length records.now ≤ 1152921504606846976) × (length records.now ≤ 65536) }
     ensures { result.number ≤ start.number + length records.now }
 {
@@ -64,10 +71,7 @@ pub(crate) fn list(start: Course, records: &[u8], last: bool, out: &mut [u8]) ->
     let bench = ran.bench;
     let written = ran.written;
     let number = start.number + ran.records as u64;
-    let failed = !io::write_all(STDOUT_FILENO, &out[..written]);
-    if failed {
-        told::not_written();
-    }
+    let failed = rt.write_all(&out[..written]).err();
     Course {
         bench,
         number,
@@ -76,19 +80,32 @@ pub(crate) fn list(start: Course, records: &[u8], last: bool, out: &mut [u8]) ->
     }
 }
 
-fn part(start: Course, records: &[u8], text: &[u8], last: bool, out: &mut [u8]) -> Course
+fn part(
+    rt: &HostRuntime,
+    start: Course,
+    records: &[u8],
+    text: &[u8],
+    last: bool,
+    out: &mut [u8],
+) -> Course
     requires { (length out.old ≡ 524288) × (start.number + length records.now ≤ 1152921504606846976) × (length records.now ≤ 65536) }
     ensures { result.number ≤ start.number + length records.now }
 {
-    let telling = start.telling;
-    if telling.is_plain() {
-        return list(start, records, last, &mut *out);
+    if start.telling.is_plain() {
+        return list(rt, start, records, last, &mut *out);
     }
-    telling::tell(start, records, text, last, &mut *out)
+    telling::tell(rt, start, records, text, last, &mut *out)
 }
 
 // Answers the records, and saves the bench behind each at which a save is due. `last` tells that the input ends there; `text` is the lesson's.
-pub(crate) fn play(start: Course, records: &[u8], text: &[u8], last: bool, out: &mut [u8]) -> Course
+pub(crate) fn play(
+    rt: &HostRuntime,
+    start: Course,
+    records: &[u8],
+    text: &[u8],
+    last: bool,
+    out: &mut [u8],
+) -> Course
     requires { (length out.old ≡ 524288) × (start.number + length records.now ≤ 1152921504606846976) }
     ensures { result.number ≤ start.number + length records.now }
 {
@@ -96,40 +113,42 @@ pub(crate) fn play(start: Course, records: &[u8], text: &[u8], last: bool, out: 
     let mut at: usize = 0;
     let all = answered(records.len(), last);
     while at < all {
-        let end = part_end(course.number, at, all);
-        course = part(course, &records[at..end], text, last, &mut *out);
-        if course.failed {
+        let end = part_end(rt, course.number, at, all);
+        course = part(rt, course, &records[at..end], text, last, &mut *out);
+        if course.failed.is_some() {
             return course;
         }
         let number = course.number;
-        saves::make(course.bench, Now::Behind(number), number);
+        saves::make(rt, course.bench, Now::Behind(number), number);
         at = end;
     }
     course
 }
 
 // The input could not be read on, or the listing not be written.
-pub(crate) fn abandon(course: Course) {
+pub(crate) fn abandon(rt: &HostRuntime, course: Course) {
     let telling = course.telling;
-    timelines::abandon(telling.file);
+    timelines::abandon(rt, telling.file);
 }
 
-pub(crate) fn finish(course: Course)
+pub(crate) fn finish(rt: &HostRuntime, course: Course) -> ExitCode
     requires { course.number ≤ 1152921504606846976 }
 {
-    if course.failed {
-        abandon(course);
-        return;
+    if let Some(error) = course.failed {
+        abandon(rt, course);
+        return told::not_written(rt, error);
     }
     let number = course.number;
+    let bench = course.bench;
     let telling = course.telling;
-    saves::make(course.bench, Now::End(number), number);
-    timelines::finish(telling.file, number);
-    if telling.last {
-        if !states::show(course.bench) {
-            told::not_written();
-            return;
+    let last = telling.last;
+    saves::make(rt, bench, Now::End(number), number);
+    timelines::finish(rt, telling.file, number);
+    if last {
+        if let Err(error) = states::show(rt, bench) {
+            return told::not_written(rt, error);
         }
     }
-    tallies::tell(course.bench);
+    tallies::tell(rt, bench);
+    ExitCode::SUCCESS
 }

@@ -1,5 +1,9 @@
-// What the program reads, and its room for what it writes.
-ghost use Rattle.std.specs.Prelude.{◌≡◌, ◌≤◌, length};
+// Files by the names that words give them, what the program reads, and its room for what it writes.
+ghost use Rattle.std.specs.Prelude.{◌≡◌, ◌≤◌, IfOk, length};
+
+use std::fs::{File, OpenOptions};
+use std::io::{Error, ErrorKind, Read};
+use std::{fs, io};
 
 // Room for the lines of 16384 records, 32 bytes for each.
 pub(crate) fn lines() -> [u8; 524288]
@@ -8,40 +12,68 @@ pub(crate) fn lines() -> [u8; 524288]
     [0u8; 524288]
 }
 
-// A read that failed is told from the end of input, at which `end` does not move.
-#[derive(Clone, Copy)]
-pub(crate) struct Filled {
-    pub(crate) failed: bool,
-    pub(crate) end: usize,
+// Room for any name, and for an image.
+pub(crate) fn buffer() -> [u8; 4096]
+    ensures { 4096 ≡ length result }
+{
+    [0u8; 4096]
 }
 
-// One read into the block behind `end`.
-pub(crate) fn fill(block: &mut [u8], end: usize, fd: i32) -> Filled
-    requires { end ≤ length block.old }
-    ensures { (end ≤ result.end) × (result.end ≤ length block.old) }
+pub(crate) fn large_buffer() -> [u8; 65536]
+    ensures { 65536 ≡ length result }
 {
-    let got = libc::read(fd, &mut block[end..]);
-    if got < 0 {
-        return Filled { failed: true, end };
+    [0u8; 65536]
+}
+
+// The library names a file by text alone.
+fn as_text(name: &[u8]) -> io::Result<&str> {
+    match std::str::from_utf8(name) {
+        Ok(text) => Ok(text),
+        Err(_) => Err(Error::from(ErrorKind::InvalidFilename)),
     }
-    Filled {
-        failed: false,
-        end: end + io::count(got, &block[end..]),
-    }
+}
+
+pub(crate) fn open(rt: &HostRuntime, name: &[u8]) -> io::Result<File> {
+    File::open(rt, as_text(name)?)
+}
+
+// A file that was not there before.
+pub(crate) fn create(rt: &HostRuntime, name: &[u8]) -> io::Result<File> {
+    OpenOptions::new()
+        .write(true)
+        .create_new(true)
+        .open(rt, as_text(name)?)
+}
+
+pub(crate) fn rename(rt: &HostRuntime, from: &[u8], to: &[u8]) -> io::Result<()> {
+    fs::rename(rt, as_text(from)?, as_text(to)?)
+}
+
+pub(crate) fn remove(rt: &HostRuntime, name: &[u8]) -> io::Result<()> {
+    fs::remove_file(rt, as_text(name)?)
+}
+
+// One read into the block behind `end`, and the end then. At the end of the input it does not move.
+pub(crate) fn fill<R: Read>(input: &mut R, block: &mut [u8], end: usize) -> io::Result<usize>
+    requires { end ≤ length block.old }
+    ensures { IfOk result (λ filled. (end ≤ filled) × (filled ≤ length block.old)) }
+{
+    let got = input.read(&mut block[end..])?;
+    Ok(end + got)
 }
 
 // Reads behind `start` until the file ends, the buffer is full or a read fails.
-pub(crate) fn read_on(fd: i32, text: &mut [u8], start: usize) -> Filled
+pub(crate) fn read_on(file: &mut File, text: &mut [u8], start: usize) -> io::Result<usize>
     requires { start ≤ length text.old }
-    ensures { result.end ≤ length text.old }
+    ensures { IfOk result (λ end. end ≤ length text.old) }
 {
     let mut end = start;
     while end < text.len() {
-        let filled = fill(&mut *text, end, fd);
-        if filled.failed | (filled.end == end) {
-            return filled;
+        let filled = fill(&mut *file, &mut *text, end)?;
+        if filled == end {
+            return Ok(end);
         }
-        end = filled.end;
+        end = filled;
     }
-    Filled { failed: false, end }
+    Ok(end)
 }

@@ -1,7 +1,7 @@
 // Records from standard input, in blocks.
 use crate::{course, files, told};
 use bench::Bench;
-use libc::STDIN_FILENO;
+use std::process::ExitCode;
 
 // No loop here is endless. Each read but the last brings a byte, and no more records than a save's number can have are read.
 const READS: u64 = 17592186044415;
@@ -11,27 +11,25 @@ const EVERY_SEAT: u8 = 255;
 
 // Bytes from `start` to `end` of `input` are read and not yet answered: at most three, of a record that is still to be completed.
 // A block holds whole records, so that such a record always has its room behind it.
-pub(crate) fn run(bench: Bench) {
-    let mut input = io::large_buffer();
+pub(crate) fn run(rt: &HostRuntime, bench: Bench) -> ExitCode {
+    let mut input = files::large_buffer();
     let mut out = files::lines();
-    let mut course = course::begin(bench, EVERY_SEAT);
+    let mut course = course::begin(rt, bench, EVERY_SEAT);
     let mut start: usize = 0;
     let mut end: usize = 0;
     let mut reads: u64 = READS;
     while 0 < reads {
         reads -= 1;
-        let filled = files::fill(&mut input, end, STDIN_FILENO);
-        if filled.failed {
-            told::input_failed();
-            course::abandon(course);
-            return;
-        }
-        let last = filled.end == end;
-        end = filled.end;
-        course = course::play(course, &input[start..end], b"", last, &mut out);
-        if last | course.failed {
-            course::finish(course);
-            return;
+        let Ok(filled) = files::fill(&mut rt.stdin(), &mut input, end) else {
+            told::input_failed(rt);
+            course::abandon(rt, course);
+            return ExitCode::SUCCESS;
+        };
+        let last = filled == end;
+        end = filled;
+        course = course::play(rt, course, &input[start..end], b"", last, &mut out);
+        if last | course.failed.is_some() {
+            return course::finish(rt, course);
         }
         start = end - (end - start) % 4;
         if start == end {
@@ -39,4 +37,5 @@ pub(crate) fn run(bench: Bench) {
             end = 0;
         }
     }
+    ExitCode::SUCCESS
 }

@@ -1,11 +1,20 @@
 // A lesson from a file: its text is read whole, and run only where it has no fault.
 ghost use Rattle.std.specs.Prelude.{◌≡◌, ◌≤◌, length};
-ghost use Rattle.std.proofs.lemmas.List.Edits.{sets};
 ghost use Rattle.lesson.specs.Lesson.{longest};
 
 use crate::{course, files, told};
 use bench::Bench;
 use lesson::Lesson;
+use std::env::{Env, FillError};
+use std::fs::File;
+use std::io::Error;
+use std::process::ExitCode;
+
+// The system's number for a name that is too long.
+const NAME_TOO_LONG: i32 = 36;
+
+// The system's number for a word that is not there.
+const INVALID: i32 = 22;
 
 // A lesson's text is shorter.
 fn long_text() -> [u8; 16777216]
@@ -30,85 +39,92 @@ fn named(records: &[u8]) -> u8 {
     used
 }
 
-fn play(bench: Bench, text: &[u8], records: &[u8])
+fn play(rt: &HostRuntime, bench: Bench, text: &[u8], records: &[u8]) -> ExitCode
     requires { length records.now ≤ 1048576 }
 {
     let mut out = files::lines();
-    let start = course::begin(bench, named(records));
-    course::finish(course::play(start, records, text, true, &mut out));
+    let start = course::begin(rt, bench, named(records));
+    course::finish(rt, course::play(rt, start, records, text, true, &mut out))
 }
 
 // Neither room for a text is larger than what the reader reads.
-fn play_text(bench: Bench, path: &[u8], text: &[u8])
+fn play_text(rt: &HostRuntime, bench: Bench, path: &[u8], text: &[u8]) -> ExitCode
     requires { length text.now ≤ longest }
 {
     let mut records = records();
     match lesson::read(text, &mut records) {
-        Lesson::Bytes(count) => play(bench, text, &records[..count]),
-        Lesson::Fault(line, column, cause) => told::fault(path, line, column, cause),
-        Lesson::TooLong => told::too_long(path),
-        Lesson::NoRoom => told::too_many(path),
+        Lesson::Bytes(count) => return play(rt, bench, text, &records[..count]),
+        Lesson::Fault(line, column, cause) => told::fault(rt, path, line, column, cause),
+        Lesson::TooLong => told::too_long(rt, path),
+        Lesson::NoRoom => told::too_many(rt, path),
     }
+    ExitCode::SUCCESS
 }
 
-fn copy(from: &[u8], to: &mut [u8])
-    requires { length from.now ≤ length to.old }
-    ensures { to.new ≡ sets to.old 0 from.now }
-{
-    for i in 0..from.len() {
-        to[i] = from[i];
-    }
+fn failed(rt: &HostRuntime, path: &[u8], error: Error) -> ExitCode {
+    told::failed(rt, path, error);
+    ExitCode::SUCCESS
 }
 
 // A text of which no more was read than there was room for.
-fn play_long(bench: Bench, path: &[u8], fd: i32, read: &[u8])
+fn play_long(rt: &HostRuntime, bench: Bench, path: &[u8], file: &mut File, read: &[u8]) -> ExitCode
     requires { length read.now ≤ 65536 }
 {
     let mut text = long_text();
-    copy(read, &mut text);
-    let filled = files::read_on(fd, &mut text, read.len());
-    let end = filled.end;
-    if filled.failed {
-        told::failed(path);
-        return;
+    text[..read.len()].copy_from_slice(read);
+    match files::read_on(file, &mut text, read.len()) {
+        Err(error) => failed(rt, path, error),
+        Ok(end) => {
+            if end == text.len() {
+                told::too_long(rt, path);
+                return ExitCode::SUCCESS;
+            }
+            play_text(rt, bench, path, &text[..end])
+        }
     }
-    if end == text.len() {
-        told::too_long(path);
-        return;
+}
+
+// The lesson in a file that is open.
+fn read(rt: &HostRuntime, bench: Bench, path: &[u8], file: &mut File) -> ExitCode {
+    let mut text = files::large_buffer();
+    match files::read_on(&mut *file, &mut text, 0) {
+        Err(error) => failed(rt, path, error),
+        Ok(end) => {
+            if end < text.len() {
+                return play_text(rt, bench, path, &text[..end]);
+            }
+            play_long(rt, bench, path, file, &text)
+        }
     }
-    play_text(bench, path, &text[..end]);
+}
+
+// Why the lesson's name could not be had.
+fn unnamed(why: FillError) -> Error {
+    match why {
+        FillError::TooLong => Error::from_raw_os_error(NAME_TOO_LONG),
+        FillError::NotPresent => Error::from_raw_os_error(INVALID),
+    }
+}
+
+fn open(rt: &HostRuntime, bench: Bench, path: &[u8]) -> ExitCode {
+    match files::open(rt, path) {
+        Ok(mut file) => read(rt, bench, path, &mut file),
+        Err(error) => failed(rt, path, error),
+    }
 }
 
 // The lesson whose name stands at place `lesson`. It is called with the place before it.
 //
 // It calls itself, so the compiler does not put it into its caller, nor a function with a large room into it: the room for a long text is
 // taken where there is one, and none of this where records come from standard input.
-pub(crate) fn run(place: usize, lesson: usize, bench: Bench) {
-    let mut path = io::buffer();
-    let mut text = io::large_buffer();
-    let length = os::arg(lesson, &mut path);
-    if os::errno() != 0 {
-        told::failed(b"bench: the lesson's name");
-        return;
-    }
+pub(crate) fn run(rt: &HostRuntime, place: usize, lesson: usize, bench: Bench) -> ExitCode {
+    let mut path = files::buffer();
+    let length = match rt.arg(lesson, &mut path) {
+        Ok(length) => length,
+        Err(why) => return failed(rt, b"bench: the lesson's name", unnamed(why)),
+    };
     if place < lesson {
-        run(lesson, lesson, bench);
-        return;
+        return run(rt, lesson, lesson, bench);
     }
-    let name = &path[..length];
-    let fd = os::open_read(name);
-    if fd < 0 {
-        told::failed(name);
-        return;
-    }
-    let filled = files::read_on(fd, &mut text, 0);
-    let end = filled.end;
-    if filled.failed {
-        told::failed(name);
-    } else if end < text.len() {
-        play_text(bench, name, &text[..end]);
-    } else {
-        play_long(bench, name, fd, &text);
-    }
-    libc::close(fd);
+    open(rt, bench, &path[..length])
 }

@@ -15,21 +15,22 @@ mod timelines;
 mod told;
 mod words;
 
-fn main() {
-    let words = words::read();
+use std::process::ExitCode;
+
+fn main(rt: HostRuntime) -> ExitCode {
+    let words = words::read(&rt);
     if !words.are_whole() {
-        told::wrong_words(words.wrong);
-        return;
+        told::wrong_words(&rt, words.wrong);
+        return ExitCode::SUCCESS;
     }
-    let start = images::open(words.place_of(options::IMAGE));
+    let start = images::open(&rt, words.place_of(options::IMAGE));
     if !start.ready {
-        return;
+        return ExitCode::SUCCESS;
     }
     let bench = start.bench;
     let lesson = words.place_of(options::LESSON);
     if lesson == 0 {
-        input::run(bench);
-    } else {
-        lessons::run(lesson - 1, lesson, bench);
+        return input::run(&rt, bench);
     }
+    lessons::run(&rt, lesson - 1, lesson, bench)
 }

@@ -1,8 +1,8 @@
 // The state of the bench, a page for each seat in use and one for the controller.
-use crate::telling::write;
+use crate::telling::print;
 use bench::Bench;
-use libc::STDOUT_FILENO;
 use records::{Event, SEATS};
+use std::io;
 
 // The seats in use, beside those that are named already.
 pub(crate) fn in_use(bench: Bench, named: u8) -> u8 {
@@ -16,15 +16,12 @@ pub(crate) fn in_use(bench: Bench, named: u8) -> u8 {
     used
 }
 
-// Whether it could be written.
-pub(crate) fn show(bench: Bench) -> bool {
+pub(crate) fn show(rt: &HostRuntime, bench: Bench) -> io::Result<()> {
     for n in 0..SEATS {
         let seat = bench.seats[n];
         if seat_page::is_in_use(seat) {
-            if !write(STDOUT_FILENO, seat_page::seat(seat, n as u8)) {
-                return false;
-            }
+            print(rt, seat_page::seat(seat, n as u8))?;
         }
     }
-    write(STDOUT_FILENO, controller_page::controller(bench.controller))
+    print(rt, controller_page::controller(bench.controller))
 }

@@ -3,13 +3,13 @@ use crate::{told, words};
 use bench::Bench;
 use records::SEATS;
 
-pub(crate) fn tell(bench: Bench) {
-    let words = words::read();
+pub(crate) fn tell(rt: &HostRuntime, bench: Bench) {
+    let words = words::read(rt);
     if words.place_of(options::TALLIES) == 0 {
         return;
     }
     for n in 0..SEATS {
         let tallied = bench.tallies(n as u8);
-        told::tallies(n as u8, tallied.five);
+        told::tallies(rt, n as u8, tallied.five);
     }
 }

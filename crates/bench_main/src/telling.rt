@@ -5,34 +5,36 @@ use crate::course::Course;
 use crate::{course, states, timelines, told, words};
 use account::Told;
 use bench::Bench;
-use libc::STDOUT_FILENO;
 use page::Page;
 use sight::Sight;
+use std::fs::File;
+use std::io;
+use std::io::{Print, Write};
 
 // Eight digits are a record.
 const DIGITS: usize = 8;
 
 const RECORD_BYTES: usize = 4;
 
-// What the words ask for; the place behind the last record in the lesson's text; the timeline's file, below 0 for none, and the seats that it tells of.
-#[derive(Clone, Copy)]
+// What the words ask for; the place behind the last record in the lesson's text; the timeline's file where there is one, and the seats that it tells of.
+#[derive(Drop)]
 pub(crate) struct Telling {
     pub(crate) explain: bool,
     pub(crate) each: bool,
     pub(crate) last: bool,
     pub(crate) place: usize,
-    pub(crate) file: i32,
+    pub(crate) file: Option<File>,
     pub(crate) used: u8,
 }
 
 impl Telling {
-    pub(crate) fn is_plain(self) -> bool {
-        !(self.explain | self.each) & (self.file < 0)
+    pub(crate) fn is_plain(&self) -> bool {
+        !(self.explain | self.each) & self.file.is_none()
     }
 }
 
-pub(crate) fn begin(bench: Bench, named: u8) -> Telling {
-    let words = words::read();
+pub(crate) fn begin(rt: &HostRuntime, bench: Bench, named: u8) -> Telling {
+    let words = words::read(rt);
     let each = words.place_of(options::EACH) != 0;
     let used = states::in_use(bench, named);
     Telling {
@@ -40,15 +42,21 @@ pub(crate) fn begin(bench: Bench, named: u8) -> Telling {
         each,
         last: (words.place_of(options::SHOW) != 0) & !each,
         place: 0,
-        file: timelines::begin(words.place_of(options::TIMELINE), used, bench),
+        file: timelines::begin(rt, words.place_of(options::TIMELINE), used, bench),
         used,
     }
 }
 
-pub(crate) fn write(fd: i32, page: Page) -> bool {
+pub(crate) fn print(rt: &HostRuntime, page: Page) -> io::Result<()> {
     let bytes = page.bytes;
     let length = page.length();
-    io::write_all(fd, &bytes[..length])
+    rt.write_all(&bytes[..length])
+}
+
+pub(crate) fn write(file: &mut File, page: Page) -> io::Result<()> {
+    let bytes = page.bytes;
+    let length = page.length();
+    file.write_all(&bytes[..length])
 }
 
 // A record that the input cuts off has fewer bytes.
@@ -59,7 +67,7 @@ fn account(bench: Bench, number: u64, one: &[u8], comment: &[u8]) -> Told {
     account::record(bench, number, one[0], one[1], one[2], one[3], comment)
 }
 
-fn explain(start: Course, one: &[u8], text: &[u8]) -> Course
+fn explain(rt: &HostRuntime, start: Course, one: &[u8], text: &[u8]) -> Course
     requires { start.number < 1152921504606846976 }
     ensures { result.number ≡ start.number + 1 }
 {
@@ -70,46 +78,45 @@ fn explain(start: Course, one: &[u8], text: &[u8]) -> Course
     let end = comment.end;
     let told = account(start.bench, start.number, one, &text[from..end]);
     let bench = told.bench;
-    let written = write(STDOUT_FILENO, told.page);
+    let failed = print(rt, told.page).err();
     telling.place = place;
-    if !written {
-        told::not_written();
-    }
     Course {
         bench,
         number: start.number + 1,
-        failed: !written,
+        failed,
         telling,
     }
 }
 
-fn answer(start: Course, one: &[u8], text: &[u8], last: bool, out: &mut [u8]) -> Course
+fn answer(
+    rt: &HostRuntime,
+    start: Course,
+    one: &[u8],
+    text: &[u8],
+    last: bool,
+    out: &mut [u8],
+) -> Course
     requires { (length out.old ≡ 524288) × (start.number + length one.now ≤ 1152921504606846976) × (0 < length one.now) × (length one.now ≤ 4) }
     ensures { result.number ≤ start.number + length one.now }
 {
-    let telling = start.telling;
-    if telling.explain {
-        return explain(start, one, text);
+    if start.telling.explain {
+        return explain(rt, start, one, text);
     }
-    course::list(start, one, last, &mut *out)
+    course::list(rt, start, one, last, &mut *out)
 }
 
 // What follows a record: the state, and the step of the timeline.
-fn follow(start: Course, before: Sight) -> Course
+fn follow(rt: &HostRuntime, start: Course, before: Sight) -> Course
     ensures { result.number ≡ start.number }
 {
     let mut course = start;
-    let mut telling = start.telling;
-    if telling.each {
-        if !states::show(course.bench) {
-            told::not_written();
-            course.failed = true;
+    if course.telling.each {
+        if let Err(error) = states::show(rt, course.bench) {
+            course.failed = Some(error);
             return course;
         }
     }
-    let file = timelines::step(telling, course.number, before, course.bench);
-    telling.file = file;
-    course.telling = telling;
+    timelines::step(rt, &mut course.telling, course.number, before, course.bench);
     course
 }
 
@@ -124,7 +131,14 @@ fn record_end(at: usize, all: usize) -> usize
 }
 
 // Some records, one by one.
-pub(crate) fn tell(start: Course, records: &[u8], text: &[u8], last: bool, out: &mut [u8]) -> Course
+pub(crate) fn tell(
+    rt: &HostRuntime,
+    start: Course,
+    records: &[u8],
+    text: &[u8],
+    last: bool,
+    out: &mut [u8],
+) -> Course
     requires { (length out.old ≡ 524288) × (start.number + length records.now ≤ 1152921504606846976) }
     ensures { result.number ≤ start.number + length records.now }
 {
@@ -133,12 +147,12 @@ pub(crate) fn tell(start: Course, records: &[u8], text: &[u8], last: bool, out: 
     while at < records.len() {
         let end = record_end(at, records.len());
         let before = Sight::of(course.bench);
-        course = answer(course, &records[at..end], text, last, &mut *out);
-        if course.failed {
+        course = answer(rt, course, &records[at..end], text, last, &mut *out);
+        if course.failed.is_some() {
             return course;
         }
-        course = follow(course, before);
-        if course.failed {
+        course = follow(rt, course, before);
+        if course.failed.is_some() {
             return course;
         }
         at = end;

@@ -2,130 +2,132 @@
 ghost use Rattle.std.specs.Prelude.{◌≤◌, length};
 
 use crate::telling::{Telling, write};
-use crate::{saves, told, words};
+use crate::{files, saves, told, words};
 use bench::Bench;
 use options::TIMELINE;
 use records::SEATS;
 use sight::Sight;
+use std::fs::File;
+use std::io;
 
-// No file is open.
-const NONE: i32 = -1;
-
-// Which variables there are.
-fn is_headed(file: i32, used: u8) -> bool {
-    if !write(file, timeline::head()) {
-        return false;
-    }
+// Writes which variables there are.
+fn head(file: &mut File, used: u8) -> io::Result<()> {
+    write(&mut *file, timeline::head())?;
     for n in 0..SEATS {
         if base::bit(n as u8, used) {
-            if !write(file, timeline::seat_head(n as u8)) {
-                return false;
-            }
+            write(&mut *file, timeline::seat_head(n as u8))?;
         }
     }
-    write(file, timeline::head_end())
+    write(&mut *file, timeline::head_end())
 }
 
-// What stands before the first record.
-fn is_begun(file: i32, used: u8, bench: Bench) -> bool {
-    if !is_headed(file, used) {
-        return false;
+// Writes what stands before the first record.
+fn first(file: &mut File, used: u8, bench: Bench) -> io::Result<()> {
+    head(&mut *file, used)?;
+    write(&mut *file, timeline::first(used, Sight::of(bench)))
+}
+
+// The new file that was opened, or none where it could not be begun.
+fn begun(rt: &HostRuntime, new: &[u8], mut file: File, used: u8, bench: Bench) -> Option<File> {
+    match first(&mut file, used, bench) {
+        Ok(()) => Some(file),
+        Err(error) => {
+            told::failed(rt, new, error);
+            let _ = files::remove(rt, new);
+            None
+        }
     }
-    write(file, timeline::first(used, Sight::of(bench)))
 }
 
 // The new file, or none where it could not be made.
-fn make(new: &[u8], used: u8, bench: Bench) -> i32 {
-    let file = os::create(new);
-    if file < 0 {
-        told::failed(new);
-        return NONE;
+fn make(rt: &HostRuntime, new: &[u8], used: u8, bench: Bench) -> Option<File> {
+    match files::create(rt, new) {
+        Ok(file) => begun(rt, new, file, used, bench),
+        Err(error) => {
+            told::failed(rt, new, error);
+            None
+        }
     }
-    if is_begun(file, used, bench) {
-        return file;
-    }
-    told::failed(new);
-    libc::close(file);
-    os::unlink(new);
-    NONE
 }
 
 // The file whose name stands at this place; 0 for none.
-pub(crate) fn begin(place: usize, used: u8, bench: Bench) -> i32 {
+pub(crate) fn begin(rt: &HostRuntime, place: usize, used: u8, bench: Bench) -> Option<File> {
     if place == 0 {
-        return NONE;
+        return None;
     }
     let mut word = words::long_word();
-    let length = os::arg(place, &mut word);
+    let length = words::at(rt, place, &mut word);
     if saves::LONGEST < length {
-        told::long_name();
-        return NONE;
+        told::long_name(rt);
+        return None;
     }
-    let mut name = io::buffer();
+    let mut name = files::buffer();
     let end = saves::put_name(&word[..length], &mut name);
-    make(&name[..end], used, bench)
+    make(rt, &name[..end], used, bench)
 }
 
-// The file is given its name where it is whole, and is removed where it is not.
-fn leave(file: i32, whole: bool) {
+// The file, which is closed, is given its name where it is whole, and is removed where it is not.
+fn leave(rt: &HostRuntime, whole: bool) {
     let mut word = words::long_word();
-    let mut name = io::buffer();
-    let words = words::read();
-    let length = os::arg(words.place_of(TIMELINE), &mut word);
+    let mut name = files::buffer();
+    let words = words::read(rt);
+    let length = words::at(rt, words.place_of(TIMELINE), &mut word);
     if saves::LONGEST < length {
         return;
     }
     let end = saves::put_name(&word[..length], &mut name);
-    libc::close(file);
     if whole {
-        saves::rename(&word[..length], &name[..end]);
+        saves::rename(rt, &word[..length], &name[..end]);
         return;
     }
-    os::unlink(&name[..end]);
+    let _ = files::remove(rt, &name[..end]);
 }
 
-// What a record changed, and the file to go on with.
-pub(crate) fn step(telling: Telling, number: u64, before: Sight, bench: Bench) -> i32 {
-    let file = telling.file;
-    if file < 0 {
-        return NONE;
-    }
-    if write(
-        file,
-        timeline::step(telling.used, number, before, Sight::of(bench)),
-    ) {
-        return file;
-    }
-    told::no_timeline();
-    leave(file, false);
-    NONE
-}
-
-pub(crate) fn abandon(file: i32) {
-    if file < 0 {
+// Writes what a record changed. A file that could not be written is none from then on.
+pub(crate) fn step(
+    rt: &HostRuntime,
+    telling: &mut Telling,
+    number: u64,
+    before: Sight,
+    bench: Bench,
+) {
+    let used = telling.used;
+    let Some(file) = &mut telling.file else {
+        return;
+    };
+    if write(file, timeline::step(used, number, before, Sight::of(bench))).is_ok() {
         return;
     }
-    leave(file, false);
+    told::no_timeline(rt);
+    telling.file = None;
+    leave(rt, false);
 }
 
-fn is_ended(file: i32, number: u64) -> bool
+pub(crate) fn abandon(rt: &HostRuntime, file: Option<File>) {
+    if file.is_none() {
+        return;
+    }
+    drop(file);
+    leave(rt, false);
+}
+
+fn end(file: &mut File, number: u64) -> io::Result<()>
     requires { number ≤ 1152921504606846976 }
 {
-    if !write(file, timeline::last(number + 1)) {
-        return false;
-    }
-    libc::fsync(file) == 0
+    write(&mut *file, timeline::last(number + 1))?;
+    file.sync_all()
 }
 
-pub(crate) fn finish(file: i32, number: u64)
+pub(crate) fn finish(rt: &HostRuntime, file: Option<File>, number: u64)
     requires { number ≤ 1152921504606846976 }
 {
-    if file < 0 {
+    let Some(mut file) = file else {
         return;
-    }
-    let whole = is_ended(file, number);
+    };
+    let whole = end(&mut file, number).is_ok();
     if !whole {
-        told::no_timeline();
+        told::no_timeline(rt);
     }
-    leave(file, whole);
+    drop(file);
+    leave(rt, whole);
 }
