@@ -84,7 +84,7 @@ prove() {
     wait "$group" || true
     trap - INT TERM HUP
     rm -rf "$room"
-    [ -f "$made" ] && mkdir -p "$(dirname "$file")" && cp "$made" "$file"
+    [ -f "$made" ] && keep "$made" "$file"
 }
 
 # The input is the program's, and standard output no place for what the build says. WHAT is spoken of, FILE is where that is
