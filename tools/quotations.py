@@ -39,7 +39,7 @@ def called(source):
 def crate_names(root):
     """The crates in the order of crates.txt."""
     lines = (line.split("#")[0] for line in (root / "crates.txt").read_text("utf-8").splitlines())
-    return [line.split(":")[0].strip() for line in lines if ":" in line]
+    return [line.split()[0].rstrip(":") for line in lines if ":" in line]
 
 
 def comments(lines):

@@ -7,14 +7,14 @@ from room import TOOLS, Room
 COSTS = TOOLS / "costs"
 
 FILES = {
-    "crates.txt": "upper: lower io # a program\nlower:\n",
+    "crates.txt": "upper staticlib: lower io # an archive\nlower:\n",
     "crates/lower/src/lib.rt": "// A comment.\npub fn one() -> u8 {\n    1\n}\n\nfn two() -> u8 { 2 }\n",
     "crates/lower/specs/Lib.antt": "pub mod One\n",
     "crates/lower/specs/One.antt": "-- one\nabbrev pub one : ℕ\none = 1\n",
     "crates/lower/specs/OneLaws.antt": "pub same : one ≡ 1\nsame = refl\n",
-    "crates/lower/proofs/one/Proof.antt": "a\nb\nc\nd\n",
+    "crates/lower/proofs/one/Answers.antt": "a\nb\nc\nd\n",
     "crates/lower/must-fail/two.edit": "file: src/lib.rt\n",
-    "crates/upper/src/main.rt": "fn main() {}\n",
+    "crates/upper/src/lib.rt": "fn main() {}\n",
 }
 
 
@@ -23,7 +23,7 @@ class Costs(Room):
         super().setUp()
         for name, text in FILES.items():
             self.write(name, text)
-        for name in ("costs", "machine.py"):
+        for name in ("costs", "machine.py", "prover.py"):
             self.script(f"tools/{name}", COSTS.with_name(name).read_text("utf-8"))
 
     def page(self):
