@@ -5,6 +5,7 @@
 import functools
 import importlib.machinery
 import importlib.util
+import os
 import subprocess
 import sys
 from pathlib import Path
@@ -32,16 +33,21 @@ def crate(name, root=ROOT):
     return rtlib().Crate(str(root / "crates" / name), str(root), {})
 
 
-def are_of_ci(libraries):
-    """Whether rt ci left all of them: any other command of rt leaves a stamp beside what it builds."""
-    return all(Path(each.rlib).is_dir() and not Path(each.rlib).with_name("stamp").exists() for each in libraries)
+def are_of_ci(root=ROOT):
+    """Whether the libraries of the tree are those that rt ci left: any other command of rt leaves a stamp beside what it builds."""
+    return not [*root.glob("crates/*/out/rlib/stamp")]
 
 
-def make_ready(one):
+def make_ready(one, root=ROOT):
     """The libraries below a crate stand, all of rt ci or none of it: what stands over one of rt ci's does not go with another."""
-    for library in [] if are_of_ci(one.below()) else one.below():
+    if are_of_ci(root) and all(Path(library.rlib).is_dir() for library in one.below()):
+        return
+    held = rtlib().lock(one.below())
+    for library in one.below():
         if library.build_rlib(ONE_JOB, anew=False):
             stop(f"{library.name} is not proved")
+    for each in held:
+        os.close(each)
 
 
 def run(verb, one, folder, *words):
