@@ -41,15 +41,15 @@ fn wipe() -> u8 {
 }
 """
 
-CALLS = """use Rattle.cups.proofs as cups
+CALLS = """use Rattle.cups.specs.contracts as cups
 use Rattle.demands.specs.Once.{Free, Once}
 
 pub record CupsOnce (M : Type 1) : Type 2 where
-  pub cups·Cup·filled_to : Once M cups.Cup.filled_to.ended cups.Cup.filled_to.clauses cups.Cup.filled_to.spec
-  pub cups·sip : Once M cups.sip.ended cups.sip.clauses cups.sip.spec
+  pub cups·Cup·filled_to : Once M cups.Cup.filled_to.ended (λ 𝓤. cups.Cup.filled_to.clauses) (λ 𝓤. cups.Cup.filled_to.spec)
+  pub cups·sip : Once M cups.sip.ended (λ 𝓤. cups.sip.clauses) (λ 𝓤. cups.sip.spec)
   -- the one for C
   pub cups·cups_empty :
-      Once M cups.cups_empty.ended cups.cups_empty.clauses cups.cups_empty.spec
+      Once M cups.cups_empty.ended (λ 𝓤. cups.cups_empty.clauses) (λ 𝓤. cups.cups_empty.spec)
 """
 
 PROOFS = """use Rattle.demands.specs.OnceCalls.{CupsOnce}
