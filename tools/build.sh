@@ -1,6 +1,6 @@
 # Proves and builds a program or a library, and says how far it is; a script sources it where something is to be built.
 
-# The crates that a crate needs, itself last among them, in the order of crates.txt.
+# The crates that a crate needs, itself last among them, in the order in which rt goes through them: each behind those that it knows.
 crates_needed() {
     awk -v crate="$1" '
         function visit(name,    names, count, each) {
@@ -8,14 +8,11 @@ crates_needed() {
             needed[name]
             count = split(below[name], names, " ")
             for (each = 1; each <= count; each++) visit(names[each])
+            print name
         }
         { sub(/#.*/, "") }
-        at = index($0, ":") { split(substr($0, 1, at - 1), words, " "); below[words[1]] = substr($0, at + 1); listed[++all] = words[1] }
-        END {
-            visit(crate)
-            for (each = 1; each <= all; each++) if (listed[each] in needed && listed[each] != crate) print listed[each]
-            print crate
-        }' "$top/crates.txt"
+        at = index($0, ":") { split(substr($0, 1, at - 1), words, " "); below[words[1]] = substr($0, at + 1) }
+        END { visit(crate) }' "$top/crates.txt"
 }
 
 # Of all that rt says, a line for each crate that it proves, with the time gone by since the start; what has not changed since
