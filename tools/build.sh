@@ -1,6 +1,6 @@
 # Proves and builds a program or a library, and says how far it is; a script sources it where something is to be built.
 
-# The crates that a crate needs, itself last among them, in the order of crates.txt.
+# The crates that a crate needs, itself last among them, in the order in which rt goes through them: each behind those that it knows.
 crates_needed() {
     awk -v crate="$1" '
         function visit(name,    names, count, each) {
@@ -8,14 +8,11 @@ crates_needed() {
             needed[name]
             count = split(below[name], names, " ")
             for (each = 1; each <= count; each++) visit(names[each])
+            print name
         }
         { sub(/#.*/, "") }
-        at = index($0, ":") { split(substr($0, 1, at - 1), words, " "); below[words[1]] = substr($0, at + 1); listed[++all] = words[1] }
-        END {
-            visit(crate)
-            for (each = 1; each <= all; each++) if (listed[each] in needed && listed[each] != crate) print listed[each]
-            print crate
-        }' "$top/crates.txt"
+        at = index($0, ":") { split(substr($0, 1, at - 1), words, " "); below[words[1]] = substr($0, at + 1) }
+        END { visit(crate) }' "$top/crates.txt"
 }
 
 # Of all that rt says, a line for each crate that it proves, with the time gone by since the start; what has not changed since
@@ -29,13 +26,14 @@ tell_crates() {
             continue
         fi
         [[ $line = 'logic=proved '* && -n $crate ]] || continue
-        for ((count = 1; count < all; count++)); do
+        for ((count = 1; count <= all; count++)); do
             [ "${needed[count - 1]}" != "$crate" ] || break
         done
         crate=
+        [ "$count" -le "$all" ] || continue
         gone=$((SECONDS - began)) more=
         if [ "$count" -eq $((all - 1)) ]; then
-            more="; the last may take two minutes"
+            more="; the last takes longest"
         elif [ "$checked" -eq 0 ]; then
             continue
         fi
@@ -84,13 +82,13 @@ prove() {
     wait "$group" || true
     trap - INT TERM HUP
     rm -rf "$room"
-    [ -f "$made" ] && mkdir -p "$(dirname "$file")" && cp "$made" "$file"
+    [ -f "$made" ] && keep "$made" "$file"
 }
 
 # The input is the program's, and standard output no place for what the build says. WHAT is spoken of, FILE is where that is
-# put which rt's VERB makes of CRATE, and rt's own words go to LOG. It takes MINUTES at most on two processors.
+# put which rt's VERB makes of CRATE, and rt's own words go to LOG.
 build() {
-    local what=$1 file=$2 crate=$3 verb=$4 log=$5 minutes=$6 rt all
+    local what=$1 file=$2 crate=$3 verb=$4 log=$5 rt all
     rt=$("$top/tools/find-rt") || exit 2
     take_turn
     if ! fresh "$file"; then
@@ -98,7 +96,7 @@ build() {
             refuse "$what is not built of these sources, and $top/target, where it would be, cannot be written"
         begin_build
         all=$(crates_needed "$crate" | wc -l)
-        tell "$what is proved and built first: $all crates, up to $minutes minutes on two processors where none is proved yet, and 3.5 GB of memory"
+        tell "$what is proved and built first: $all crates, the better part of an hour where none is proved yet, and 4 GB of memory"
         prove "$rt" "$verb" "$crate" "$log" "$file" || {
             tail -n 12 "$log" >&2
             refuse "$what could not be built; above are the last lines of $log"
@@ -110,5 +108,5 @@ build() {
 
 # The library is its own crate, for an archive can be no library that other crates know.
 build_library() {
-    build "the library" "$library" embed_c lib "$top/target/library-build.log" 6
+    build "the library" "$library" embed_c lib "$top/target/library-build.log"
 }

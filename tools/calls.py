@@ -1,6 +1,7 @@
 """Whether a room calls a public function of another.
 
-A function without a type is called as `room::name(`, or by its name where the file has `use room::name`. One with a type is
+A function without a type is called as `room::name(`, or by its name where the file has `use room::name` or that name among others,
+`use room::{other, name}`. One with a type is
 called as `Type::name(`, or, where it takes a self, as `.name(`. Where the caller knows several types with a function of that
 name, what stands before the point must be of this type, by the caller's own words: a parameter, a field, a `let` of either.
 """
@@ -60,7 +61,8 @@ class Calls:
         """Whether a file calls a function by its path."""
         if function.owner:
             return re.search(rf"\b{function.path}\(", text)
-        used = re.search(rf"(?m)^use {room}::{function.name};$", text) and re.search(rf"(?<![\w.:]){function.name}\(", text)
+        brought = rf"(?m)^use {room}::(?:{function.name}|\{{(?:[^}}]*[\s,])?{function.name}(?:,[^}}]*)?\}});$"
+        used = re.search(brought, text) and re.search(rf"(?<![\w.:]){function.name}\(", text)
         return used or re.search(rf"\b{room}::{function.name}\(", text)
 
     def is_called(self, room, function):

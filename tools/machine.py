@@ -1,6 +1,4 @@
 """What the scripts that run the programs share: the toolchain, and how its programs run on this machine."""
-import contextlib
-import fcntl
 import os
 import platform
 import subprocess
@@ -22,29 +20,18 @@ def find_rt():
     return Path(found.stdout.strip())
 
 
-@contextlib.contextmanager
-def turn(root):
-    """One build of a repository at a time, as take_turn of tools/shell.sh has it."""
-    folder = os.open(root / "crates", os.O_RDONLY)
-    try:
-        fcntl.flock(folder, fcntl.LOCK_EX)
-        yield folder
-    finally:
-        os.close(folder)
-
-
 def build(words, root=ROOT):
-    """Has rt prove and build something of a repository."""
-    with turn(root) as held:
-        built = subprocess.run([find_rt(), *words], cwd=root, stdout=subprocess.PIPE, stderr=subprocess.STDOUT, pass_fds=[held])
-    if built.returncode:
-        sys.stderr.buffer.write(built.stdout)
-        stop(f"rt {' '.join(words)} failed")
+    """Has a repository's own script prove and build what it makes, where that is not built of its sources."""
+    script = root / "tools" / words[0]
+    if not script.exists():
+        stop(f"{root} has no {script.relative_to(root)}")
+    if subprocess.run([script, *words[1:]], stdin=subprocess.DEVNULL, stdout=subprocess.DEVNULL).returncode:
+        stop(f"tools/{' '.join(words)} failed")
 
 
 def proved(name, root=ROOT):
     """The command that runs a program of a repository, which is proved and built first where it is not."""
-    build(["check", name], root)
+    build(["program", name], root)
     return run_by(find_rt()) + [root / "target/bin" / name]
 
 

@@ -68,13 +68,13 @@ def header_numbers(root):
 # ---- definitions
 
 def defined(root, file):
-    """The numbers that a file of definitions gives names to, by the name that code has for each: SeatAbove is SEAT_ABOVE."""
+    """The numbers that a file of definitions gives names to, by the name that code has for each: seat_above_number is SEAT_ABOVE."""
     found = re.findall(r"(?m)^abbrev pub (\w+) : ℕ\n\1 = (\d+)$", read(root, file))
     return {spelt(name): int(number) for name, number in found}
 
 
 def spelt(name):
-    return re.sub(r"(?<=[a-z0-9])(?=[A-Z])", "_", name).upper()
+    return re.sub(r"_(?:number|kind)$", "", name).upper()
 
 
 def grounds(root, room, event):
@@ -85,5 +85,5 @@ def grounds(root, room, event):
 
 def order(root, file):
     """The order in which the refusals are tried."""
-    body = re.search(r"(?m)^refusalOrder =((?:.*\n)(?: +.*\n)*)", read(root, file))
-    return [spelt(name) for name in re.findall(r"[A-Z]\w*", body[1])] if body else []
+    body = re.search(r"(?m)^refusal_order =((?:.*\n)(?: +.*\n)*)", read(root, file))
+    return [spelt(name) for name in re.findall(r"\b[a-z]\w*", body[1])] if body else []

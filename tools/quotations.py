@@ -1,4 +1,5 @@
-"""The quotations of documents 01 and 02 in crates/NAME/specs/: what a definition quotes, and which paper it quotes."""
+"""The quotations of documents 01 and 02 in crates/NAME/specs/, and in the laws that stand in proofs/: what a definition quotes, and which
+paper it quotes."""
 import re
 from typing import NamedTuple
 
@@ -39,7 +40,7 @@ def called(source):
 def crate_names(root):
     """The crates in the order of crates.txt."""
     lines = (line.split("#")[0] for line in (root / "crates.txt").read_text("utf-8").splitlines())
-    return [line.split(":")[0].strip() for line in lines if ":" in line]
+    return [line.split()[0].rstrip(":") for line in lines if ":" in line]
 
 
 def comments(lines):
@@ -92,8 +93,9 @@ def quotations_of(crate, path, root):
 
 
 def spec_files(root, crate):
-    """The files of a room's specs, definitions first: a reader who believes them needs no law."""
-    files = [f for f in (root / "crates" / crate / "specs").rglob("*.antt") if f.name != "Lib.antt"]
+    """The files of a room's specs and its files of laws, definitions first: a reader who believes them needs no law."""
+    room = root / "crates" / crate
+    files = [f for f in [*(room / "specs").rglob("*.antt"), *(room / "proofs").glob("*Laws.antt")] if f.name != "Lib.antt"]
     return sorted(files, key=lambda f: (f.name.endswith("Laws.antt"), f.as_posix()))
 
 

@@ -30,7 +30,7 @@ skip() {
 }
 
 # One build of the tree at a time; who waits may find built what it needs. All that a build starts holds the lock with it, so
-# that nobody builds beside what is left of one that was killed. It is on a folder outside target/, which rt ci removes.
+# that nobody builds beside what is left of one that was killed. It is on a folder that rt itself locks nowhere.
 take_turn() {
     exec 9<"$top/crates"
     flock -n 9 && return
@@ -44,7 +44,12 @@ end_turn() {
 
 # The sources by name and content, as a number. What rt leaves in out/ is none of them.
 sum_sources() {
-    (cd "$top" && find crates crates.txt -name out -prune -o -type f -print0 | LC_ALL=C sort -z | xargs -0 sha256sum | sha256sum)
+    (cd "$top" && find crates crates.txt -path 'crates/*/out' -prune -o -type f -print0 | LC_ALL=C sort -z | xargs -0 sha256sum | sha256sum)
+}
+
+# Copies what rt has built to where it stays. What runs meanwhile keeps what it is of.
+keep() {
+    mkdir -p "$(dirname "$2")" && cp "$1" "$2.new" && mv -f "$2.new" "$2"
 }
 
 # Sets what a build of the sources as they are now is recorded by.
@@ -69,11 +74,13 @@ recall_build() {
     [ "${made[1]:-}" = "$(sha256sum <"$file")" ]
 }
 
-# Built, and from the sources as they are now: older than the file or, in a tree that was copied, of the recorded sum.
+# Built, and from the sources as they are now: older than the file or, in a tree that was copied, of the recorded sum. The
+# folder of a crate is of the time at which rt last made its out/.
 fresh() {
     local file=$1
     [ -f "$file" ] || return
-    [ -n "$(find "$top/crates" "$top/crates.txt" -name out -prune -o -newer "$file" -print -quit)" ] || return 0
+    [ -n "$(find "$top/crates.txt" "$top/crates" -path "$top/crates/*/out" -prune -o -type d -path "$top/crates/*" ! -path "$top/crates/*/*" -o \
+        -newer "$file" -print -quit)" ] || return 0
     recall_build "$file" && [ "${made[2]:-}" = "$(sum_sources)" ]
 }
 

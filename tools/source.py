@@ -63,8 +63,8 @@ def without_comments(source):
 
 
 def known(root):
-    """The rooms that each room knows, by crates.txt."""
-    lines = re.findall(r"(?m)^[ \t]*(\w+)[ \t]*:(.*)$", (root / "crates.txt").read_text("utf-8"))
+    """The rooms that each room knows, by crates.txt. What stands behind a name there says what the room is."""
+    lines = re.findall(r"(?m)^[ \t]*(\w+)\b[^:#\n]*:([^#\n]*)", (root / "crates.txt").read_text("utf-8"))
     return {room: set(others.split()) for room, others in lines}
 
 

@@ -11,15 +11,15 @@ REFUSALS = "crates/base/specs/Refusals.antt"
 
 # The lists of bits: the name of each list, what its names begin with in the header, and what docs/TELLING.md calls it.
 BITS = (
-    ("lsrWords", "LSR", "LSR bits 0 to 7"),
-    ("msrWords", "MSR", "MSR bits 0 to 7"),
-    ("markWords", "MARK", "marks 0 to 2"),
-    ("levelWords", "LEVEL", "levels 0 to 3"),
+    ("lsr_words", "LSR", "LSR bits 0 to 7"),
+    ("msr_words", "MSR", "MSR bits 0 to 7"),
+    ("mark_words", "MARK", "marks 0 to 2"),
+    ("level_words", "LEVEL", "levels 0 to 3"),
 )
 
-REGISTERS = ("registersRead", "registersWritten", "registersDivisor")
+REGISTERS = ("registers_read", "registers_written", "registers_divisor")
 
-REFUSED = ("refusalsFirst", "refusalsLater")
+REFUSED = ("refusals_first", "refusals_later")
 
 
 # ---- the table
@@ -91,7 +91,7 @@ def wrong_bits(root):
 
 def wrong_cause_words(root):
     """A complaint where the causes have other words in the manual's table of causes or in docs/TELLING.md."""
-    table, none = rows(root, "causeWords"), words(root, "noCause")
+    table, none = rows(root, "cause_words"), words(root, "no_cause")
     causes = {int(row["IIR"], 16): row.get("Words") for _, titles, row in rows_of(root, MANUAL) if titles[0] == "IIR"}
     told = {number: said for number, said in causes.items() if said != "-"}
     if told != {**table, 1: none[0] if none else None} or not table:

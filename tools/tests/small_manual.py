@@ -63,47 +63,47 @@ echo ' 10  not in the list'
 """
 
 REFUSALS = """-- "seat (or line) above 7"
-abbrev pub SeatAbove : ℕ
-SeatAbove = 1
+abbrev pub seat_above_number : ℕ
+seat_above_number = 1
 
 -- "not in the list"
-abbrev pub NotListed : ℕ
-NotListed = 10
+abbrev pub not_listed_number : ℕ
+not_listed_number = 10
 
-abbrev pub NotReady : ℕ
-NotReady = 8
+abbrev pub not_ready_number : ℕ
+not_ready_number = 8
 
-abbrev pub refusalOrder : List ℕ
-refusalOrder =
-    NotReady
-    ∷ SeatAbove
+abbrev pub refusal_order : List ℕ
+refusal_order =
+    not_ready_number
+    ∷ seat_above_number
     ∷ []
 
 unfoldable pub order : List ℕ
-order = SeatAbove ∷ []
+order = seat_above_number ∷ []
 """
 
 KINDS = """-- "0 read"
-abbrev pub Read : ℕ
-Read = 0
+abbrev pub read_kind : ℕ
+read_kind = 0
 
-abbrev pub WritePort : ℕ
-WritePort = 1
+abbrev pub write_port_kind : ℕ
+write_port_kind = 1
 """
 
-MARKS = """abbrev pub MarkParity : ℕ
-MarkParity = 0
+MARKS = """abbrev pub mark_parity : ℕ
+mark_parity = 0
 
-abbrev pub Break : ℕ
-Break = 1
+abbrev pub break : ℕ
+break = 1
 """
 
 GROUNDS = """unfoldable pub grounds : Settings → SeatEvent → List Ground
 grounds s (Read n) = []
 grounds s (Write n byte) =
-    record { number = NotReady; holds = early s }
+    record { number = not_ready_number; holds = early s }
     ∷ []
-grounds s Time = record { number = NotListed; holds = true } ∷ []
+grounds s Time = record { number = not_listed_number; holds = true } ∷ []
 """
 
 RATES = """pub const RATES: [u32; 2] = [
@@ -157,13 +157,13 @@ Numbers.
 | Kind | Name | Event | Refusals | Definition |
 |---|---|---|---|---|
 | 0 | `READ` | a read | 1 | `base/Refusals.order` |
-| 1 | `WRITE_PORT` | a write | 8, 1 | `base/Refusals.order`, `base/Refusals.SeatAbove` |
+| 1 | `WRITE_PORT` | a write | 8, 1 | `base/Refusals.order`, `base/Refusals.seat_above_number` |
 
 | Refusal | Name | Words | Definition |
 |---|---|---|---|
-| 1 | `SEAT_ABOVE` | seat above 7 | `base/Refusals.SeatAbove` |
-| 8 | `NOT_READY` | not ready | `base/Refusals.NotReady` |
-| 10 | `NOT_LISTED` | not in the list | `base/Refusals.NotListed` |
+| 1 | `SEAT_ABOVE` | seat above 7 | `base/Refusals.seat_above_number` |
+| 8 | `NOT_READY` | not ready | `base/Refusals.not_ready_number` |
+| 10 | `NOT_LISTED` | not in the list | `base/Refusals.not_listed_number` |
 
 | Bit | Name | LCR | Definition |
 |---|---|---|---|
@@ -222,44 +222,44 @@ Numbers.
 """
 
 NAMES = """-- "an example": row 7 "of a comment"
-abbrev pub registersRead : List Row
-registersRead = row 0 "RBR" ∷ []
+abbrev pub registers_read : List Row
+registers_read = row 0 "RBR" ∷ []
 
-abbrev pub registersWritten : List Row
-registersWritten = row 0 "THR" ∷ []
+abbrev pub registers_written : List Row
+registers_written = row 0 "THR" ∷ []
 
-abbrev pub registersDivisor : List Row
-registersDivisor = row 1 "DLM" ∷ []
+abbrev pub registers_divisor : List Row
+registers_divisor = row 1 "DLM" ∷ []
 
-abbrev pub causeWords : List Row
-causeWords =
+abbrev pub cause_words : List Row
+cause_words =
     row 0xC "time-out"
     ∷ row 0x0 "a change"
     ∷ []
 
-abbrev pub noCause : String
-noCause = "no cause"
+abbrev pub no_cause : String
+no_cause = "no cause"
 
-abbrev pub refusalsFirst : List Row
-refusalsFirst =
+abbrev pub refusals_first : List Row
+refusals_first =
     row 1 "seat above 7"
     ∷ row 8 "not ready"
     ∷ []
 
-abbrev pub refusalsLater : List Row
-refusalsLater = row 10 "not in the list" ∷ []
+abbrev pub refusals_later : List Row
+refusals_later = row 10 "not in the list" ∷ []
 
-abbrev pub lsrWords : List String
-lsrWords = "data" ∷ "holding-empty" ∷ []
+abbrev pub lsr_words : List String
+lsr_words = "data" ∷ "holding-empty" ∷ []
 
-abbrev pub msrWords : List String
-msrWords = "CTS-changed" ∷ []
+abbrev pub msr_words : List String
+msr_words = "CTS-changed" ∷ []
 
-abbrev pub markWords : List String
-markWords = "parity" ∷ "break" ∷ []
+abbrev pub mark_words : List String
+mark_words = "parity" ∷ "break" ∷ []
 
-abbrev pub levelWords : List String
-levelWords = "CTS" ∷ []
+abbrev pub level_words : List String
+level_words = "CTS" ∷ []
 """
 
 TELLING = """# Telling
@@ -290,8 +290,8 @@ CHANGING = """# Changing
 NOTATION = """# Notation
 
 ```antt crates/base/specs/Refusals.antt
-abbrev pub SeatAbove : ℕ
-SeatAbove = 1
+abbrev pub seat_above_number : ℕ
+seat_above_number = 1
 ```
 """
 

@@ -8,9 +8,9 @@ import unittest
 from standins import LIMIT, PROGRAM, Start
 
 WAITING = "bench: another build is going on in this tree; waiting for its end\n"
-FIRST = ("bench: the program is proved and built first: 3 crates, up to 8 minutes on two processors where none is proved yet, "
-         "and 3.5 GB of memory\n")
-PROGRESS = r"2 of 3: lamp, 0:\d\d; the last may take two minutes\n3 of 3: bench_main, 0:\d\d\n"
+FIRST = ("bench: the program is proved and built first: 3 crates, the better part of an hour where none is proved yet, "
+         "and 4 GB of memory\n")
+PROGRESS = r"2 of 3: lamp, 0:\d\d; the last takes longest\n3 of 3: bench_main, 0:\d\d\n"
 
 
 class Building(Start):

@@ -7,7 +7,7 @@ check = load("before/04-edits")
 
 NAME = "crates/lamp/must-fail/dark_2_twin.edit"
 
-EDIT = """refuted: is-lit
+EDIT = """refuted: is_lit
 A sentence about it.
 
 file: src/lib.rt
@@ -68,7 +68,7 @@ class Fit(Room):
             self.assertIn(f"{line!r} is not read", self.changed("old: lit = 1", line))
 
     def test_an_edit_of_nothing(self):
-        self.assertEqual(self.told("refuted: is-lit\n"), f"{NAME}: it replaces nothing")
+        self.assertEqual(self.told("refuted: is_lit\n"), f"{NAME}: it replaces nothing")
 
     def test_no_edits(self):
         self.assertEqual(list(check.faults(self.root)), ["there are no edits"])

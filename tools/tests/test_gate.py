@@ -1,19 +1,24 @@
 """Tests of tools/test, with a stand-in for the toolchain: what it runs, in which order, and where it stops; and of its first check."""
 import os
 import re
+import shutil
 import subprocess
 import unittest
 
 from room import TOOLS, Room
 
 VERDICT = "7 passed, 0 failed"
+OK = "rt: ok; handles allowed: none; must-fail edits: 9 refused; every proof and must-fail edit was done in this run"
 RT = f"""#!/bin/sh
 case $1 in
 version) echo kit 9 ;;
-fmt) [ -z "$UNTIDY" ] ;;
 ci)
-    echo proving; echo "at once: $RT_JOBS"; $SEEN; mkdir -p target/bin; : >target/bin/bench_main; : >target/bin/sheets_main
-    [ -z "$UNPROVED" ] && echo "{VERDICT}" || {{ echo "6 passed, 1 failed"; exit 1; }} ;;
+    [ $# -eq 1 ] || exit 9
+    echo proving; $SEEN
+    for name in bench_main sheets_main; do mkdir -p crates/$name/out; echo $name >crates/$name/out/$name; done
+    [ -z "$UNPROVED" ] || {{ echo "6 passed, 1 failed"; exit 1; }}
+    [ -n "$UNSAID" ] || echo "${{OK:-{OK}}}"
+    echo "{VERDICT}" ;;
 esac
 """
 
@@ -26,8 +31,10 @@ class Gate(Room):
         self.script("second/build", '#!/bin/sh\necho building; echo built >>"$1/second"\n')
         self.script("tools/after/10-run", "#!/bin/sh\necho ran\n")
         self.script("tools/reading", '#!/bin/sh\necho "reading $*"\n')
-        self.write("crates.txt", "lamp:\n")
-        self.write("crates/lamp/src/lib.rt", "")
+        self.script("tools/archive", '#!/bin/sh\n[ -z "$UNBUILT" ] && echo archive >"$1"\n')
+        self.write("crates.txt", "lamp:\nbench_main: lamp\nsheets_main: lamp\nlamp_c staticlib: lamp\n")
+        for source in ("lamp/src/lib.rt", "bench_main/src/main.rt", "sheets_main/src/main.rt", "lamp_c/src/lib.rt"):
+            self.write(f"crates/{source}", "")
         self.copy("tools/shell.sh", "tools/find-rt", "tools/checks")
         self.gate("")
 
@@ -107,17 +114,34 @@ class Gate(Room):
         self.assertEqual(status, 0)
         self.assertTrue(any("differ" in line for line in said))
 
-    def test_what_it_was_proved_with_stands_beside_each_program(self):
+    def test_what_it_was_proved_with_stands_beside_what_is_built(self):
         self.run_it()
-        for program in ("bench_main", "sheets_main"):
-            self.assertEqual((self.root / f"target/bin/{program}.made").read_text("utf-8").splitlines()[0], "kit 9")
+        for name, content in (("bin/bench_main", "bench_main"), ("bin/sheets_main", "sheets_main"), ("staticlib/libembed.a", "archive")):
+            self.assertEqual((self.root / f"target/{name}").read_text("utf-8"), f"{content}\n")
+            self.assertEqual((self.root / f"target/{name}.made").read_text("utf-8").splitlines()[0], "kit 9")
+
+    def test_what_rt_ci_has_said_is_there_for_the_checks(self):
+        self.script("tools/after/20-said", '#!/bin/sh\ntail -n 2 "$HAILSTOAT_PROVED" | sed "s/^/heard: /"\n')
+        said = self.run_it()[1]
+        self.assertEqual([line for line in said if line.startswith("heard: ")], [f"heard: {OK}", f"heard: {VERDICT}"])
+
+    def test_an_edit_that_is_bad_fails_it(self):
+        for number in ("1", "12"):
+            bad = OK.replace("9 refused", f"8 refused, 1 of them only by a limit, {number} bad")
+            self.stops(f"a must-fail edit is bad: {bad}", OK=bad)
+        for well in (OK.replace("9 refused", "9 refused, 0 bad"), OK.replace("9 refused", "9 refused, 2 of them only by a limit")):
+            self.assertEqual(self.run_it(OK=well)[0], 0)
+
+    def test_a_passing_run_must_say_so(self):
+        self.stops("rt ci passed and has no line 'rt: ok'", UNSAID="1")
+        self.stops("rt ci passed and has no line 'rt: ok'", OK="rt: okay")
 
     def test_what_changes_while_it_is_proved_is_newer_than_the_program(self):
         self.script("bin/change", "#!/bin/sh\nsleep 0.05\necho >crates/lamp/src/lib.rt\nsleep 0.05\n")
         self.assertEqual(self.run_it(SEEN="change")[0], 0)
         changed = (self.root / "crates/lamp/src/lib.rt").stat().st_mtime_ns
-        for program in ("bench_main", "sheets_main"):
-            self.assertGreater(changed, (self.root / "target/bin" / program).stat().st_mtime_ns)
+        for name in ("bin/bench_main", "bin/sheets_main", "staticlib/libembed.a"):
+            self.assertGreater(changed, (self.root / "target" / name).stat().st_mtime_ns)
 
     def test_nobody_builds_while_it_is_proved(self):
         """And what is tried afterwards may build."""
@@ -126,12 +150,6 @@ class Gate(Room):
             self.script(name, "#!/bin/sh\nturn\n")
         status, said = self.run_it(SEEN="turn")
         self.assertEqual((status, [line for line in said if line in ("free", "taken")]), (0, ["free", "taken", "free"]))
-
-    def test_two_proofs_for_each_processor_and_no_more_than_four(self):
-        for processors, jobs in (("1", "2"), ("2", "4"), ("16", "4")):
-            self.script("bin/nproc", f"#!/bin/sh\necho {processors}\n")
-            self.assertIn(f"at once: {jobs}", self.run_it(RT_JOBS="")[1])
-            self.assertIn("at once: 3", self.run_it(RT_JOBS="3")[1])
 
     def test_it_waits_for_another_build(self):
         with self.other_build():
@@ -155,13 +173,15 @@ class Gate(Room):
         self.assertRegex(said[0], r"^The Rattle toolchain is missing: .* README\.md says where it belongs\.$")
 
     def test_each_failure_stops_it(self):
-        self.stops(f"failed: {self.root}/bin/rt fmt --check", UNTIDY="1")
+        self.assertEqual(self.run_it(UNBUILT="1")[0], 1)
         self.script("tools/after/05-bad", "#!/bin/sh\nexit 3\n")
         self.stops("failed: tools/after/05-bad", "tools/checks")
         self.script("tools/before/05-bad", "#!/bin/sh\nexit 3\n")
         self.stops("failed: tools/before/05-bad", "tools/checks")
-        self.write("crates/lost/src/lib.rt", "")
-        self.stops("crates.txt does not list crates/lost")
+        for name in ("lost", "lamp_"):
+            self.write(f"crates/{name}/src/lib.rt", "")
+            self.stops(f"crates.txt does not list crates/{name}")
+            shutil.rmtree(self.root / "crates" / name)
         self.script("tools/after/10-run", "#!/bin/sh\necho ran\n")
         self.script("tools/reading", "#!/bin/sh\nexit 1\n")
         self.stops("failed: tools/reading --check")

@@ -9,12 +9,13 @@ habits.UNCALLED = {}
 ROOMS = "cups:\nplates: cups\ntable: cups plates\n"
 
 CUPS = """// What a cup does.
+ghost use Rattle.std.specs.Prelude.{◌≡◌};
+
 use base::Answer;
-ghost use mathlib.Core.Path.{_≡_};
 
 impl Cup {
     pub fn fill(mut self, mark: u8) -> Cup
-        ensures { λ r. ⌜ r ≡ filled self mark ⌝ }
+        ensures { result ≡ filled self mark }
     {
         if base::bit(Cup::MILK, mark) {
             self.milk = true;
@@ -53,11 +54,11 @@ class Habits(Room):
 
     def test_a_bit_by_its_number_is_told_with_its_line(self):
         self.assertEqual(
-            self.told(cups=CUPS.replace("Cup::MILK", "3")), ["crates/cups/src/lib.rt:9: a bit is asked for by its number"]
+            self.told(cups=CUPS.replace("Cup::MILK", "3")), ["crates/cups/src/lib.rt:10: a bit is asked for by its number"]
         )
 
     def test_a_public_function_without_a_caller_is_told(self):
-        self.assertEqual(self.told(table=""), ["crates/cups/src/lib.rt:6: no other room calls cups::Cup::fill"])
+        self.assertEqual(self.told(table=""), ["crates/cups/src/lib.rt:7: no other room calls cups::Cup::fill"])
 
     def test_a_call_in_its_own_room_does_not_count(self):
         self.assertEqual(len(self.told(cups=CUPS + TABLE, table="")), 1)
@@ -89,8 +90,10 @@ class Habits(Room):
     def test_a_function_without_a_type_is_called_by_its_room(self):
         cups = "pub fn wipe(c: u8) -> u8 {\n    c\n}\n"
         self.assertEqual(self.told(cups=cups, table="fn lay() -> u8 {\n    cups::wipe(3)\n}\n"), [])
-        self.assertEqual(self.told(cups=cups, table="use cups::wipe;\n\nfn lay() -> u8 {\n    wipe(3)\n}\n"), [])
-        for other in ("fn lay() -> u8 {\n    wipe(3)\n}\n", "fn lay(c: Cloth) -> u8 {\n    c.wipe(3)\n}\n", "use cups::wipe;\n"):
+        for brought in ("wipe", "{wipe}", "{dry, wipe}", "{wipe, Cup}", "{\n    dry, wipe,\n}"):
+            self.assertEqual(self.told(cups=cups, table=f"use cups::{brought};\n\nfn lay() -> u8 {{\n    wipe(3)\n}}\n"), [])
+        for other in ("fn lay() -> u8 {\n    wipe(3)\n}\n", "fn lay(c: Cloth) -> u8 {\n    c.wipe(3)\n}\n", "use cups::wipe;\n",
+                      "use cups::{wiped};\n\nfn lay() -> u8 {\n    wipe(3)\n}\n", "use plates::{wipe};\n\nfn lay() -> u8 {\n    wipe(3)\n}\n"):
             self.assertEqual(self.told(cups=cups, table=other), ["crates/cups/src/lib.rt:1: no other room calls cups::wipe"])
 
     def test_an_exception_is_one_that_nobody_calls(self):
@@ -109,14 +112,10 @@ class Habits(Room):
 
     def test_a_self_that_only_the_contract_uses_is_told(self):
         body = CUPS.replace("            self.milk = true;\n", "").replace("        self\n    }", "        Cup { milk: true }\n    }")
-        self.assertEqual(self.told(cups=body), ["crates/cups/src/lib.rt:6: fill does not use its self"])
-
-    def test_a_use_of_code_behind_one_of_definitions_is_told(self):
-        late = CUPS.replace("use base::Answer;\n", "", 1).replace("{_≡_};\n", "{_≡_};\nuse base::Answer;\n", 1)
-        self.assertEqual(self.told(cups=late), ["crates/cups/src/lib.rt:3: a use of code stands behind one of definitions"])
+        self.assertEqual(self.told(cups=body), ["crates/cups/src/lib.rt:7: fill does not use its self"])
 
     def test_a_type_called_self_is_told(self):
-        self.assertEqual(self.told(cups=CUPS.replace("-> Cup", "-> Self")), ["crates/cups/src/lib.rt:6: a type is called Self"])
+        self.assertEqual(self.told(cups=CUPS.replace("-> Cup", "-> Self")), ["crates/cups/src/lib.rt:7: a type is called Self"])
 
     def test_a_comment_may_say_self(self):
         self.assertEqual(self.told(cups=CUPS.replace("What a cup does.", "Self is what a cup is.")), [])

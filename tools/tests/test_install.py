@@ -9,7 +9,7 @@ from standins import LIMIT, Start
 
 ASKED = "lib embed_c"
 FIRST = "tools/install: the library is proved and built first: 3 crates, .*\n"
-PROGRESS = r"2 of 3: lamp, 0:\d\d; the last may take two minutes\n3 of 3: embed_c, 0:\d\d\n"
+PROGRESS = r"2 of 3: lamp, 0:\d\d; the last takes longest\n3 of 3: embed_c, 0:\d\d\n"
 WAITING = "tools/install: another build is going on in this tree; waiting for its end\n"
 
 

@@ -46,13 +46,13 @@ SOURCE = """\
 impl Lamp {
     // turns it
     pub fn turn(self, up: bool) -> Self
-        ensures { λ r. ⌜ r ≡ turned self up ⌝ }
+        ensures { result ≡ turned self up }
     {
         Lamp { on: up }
     }
 
     pub(crate) fn glow(self) -> bool
-        ensures { λ r. ⌜ r ≡ shining (self .on) ⌝ }
+        ensures { result ≡ shining self.on }
     {
         self.on
     }
@@ -87,7 +87,7 @@ class Moved(Room):
         self.write("crates/lamp/specs/Lamp.antt", SPECS)
         self.write("crates/lamp/specs/LampLaws.antt", LAWS)
         self.write("crates/lamp/proofs/Ends.antt", "pub ends : Lamp\nends = lamp\n")
-        self.write("crates/lamp/proofs/Lamp/turn/Proof.antt", PROOF)
+        self.write("crates/lamp/proofs/Lamp/turn/Answers.antt", PROOF)
         self.write("crates/lamp/src/lib.rt", SOURCE)
         self.write("crates/bell/src/lib.rt", "")
         self.write("docs/COSTS.md", COSTS.format("5.0", "6.0"))
@@ -136,7 +136,7 @@ class Moved(Room):
                    .replace("shining up = up", "shining up\n    = up").replace("abbrev dark", "abbrev pub dark"))
         self.change("crates/lamp/src/lib.rt", "up: bool) -> Self", "up: bool) -> Self // up is on")
         self.change("crates/lamp/src/lib.rt", "Lamp { on: up }", "Lamp { on: up | false }")
-        self.change("crates/lamp/proofs/Lamp/turn/Proof.antt", "use Lib.{refl}", "use Lib.{refl, ap}")
+        self.change("crates/lamp/proofs/Lamp/turn/Answers.antt", "use Lib.{refl}", "use Lib.{refl, ap}")
         self.assertNotIn("\n- ", self.landed()[0])
 
     def test_definition_and_field_that_moved(self):
@@ -167,9 +167,9 @@ class Moved(Room):
         self.assertIn("\n- Laws that moved: lamp: `steady`; 1 that are not `pub`\n", said)
 
     def test_contracts_and_function_proofs(self):
-        self.change("crates/lamp/src/lib.rt", "r ≡ turned self up", "r ≡ turned up self")
-        self.change("crates/lamp/src/lib.rt", "r ≡ shining (self .on)", "r ≡ self .on")
-        self.change("crates/lamp/proofs/Lamp/turn/Proof.antt", "returns c = refl", "returns c = c")
+        self.change("crates/lamp/src/lib.rt", "result ≡ turned self up", "result ≡ turned up self")
+        self.change("crates/lamp/src/lib.rt", "result ≡ shining self.on", "result ≡ self.on")
+        self.change("crates/lamp/proofs/Lamp/turn/Answers.antt", "returns c = refl", "returns c = c")
         said, _ = self.landed()
         self.assertIn("\n- Contracts of public functions that moved: lamp: `Lamp::turn`\n", said)
         self.assertIn("\n- Contracts of inner functions that moved: lamp: `Lamp::glow`\n", said)

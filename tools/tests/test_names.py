@@ -81,13 +81,13 @@ class Names(Room):
 
     def test_names_that_are_not_those_of_the_definitions(self):
         for about, file, old, new in (
-            ("Refusal", "crates/base/specs/Refusals.antt", "SeatAbove = 1", "SeatAbove = 2"),
-            ("Refusal", "crates/base/specs/Refusals.antt", "unfoldable", "abbrev pub More : ℕ\nMore = 11\n\nunfoldable"),
+            ("Refusal", "crates/base/specs/Refusals.antt", "seat_above_number = 1", "seat_above_number = 2"),
+            ("Refusal", "crates/base/specs/Refusals.antt", "unfoldable", "abbrev pub more_number : ℕ\nmore_number = 11\n\nunfoldable"),
             ("Refusal", "docs/MANUAL.md", "`NOT_LISTED`", "`SEAT_ABOVE`"),
-            ("Kind", "crates/records/specs/Kinds.antt", "WritePort", "WritePorts"),
-            ("Kind", "crates/records/specs/Kinds.antt", "WritePort = 1", "WritePort = 2"),
+            ("Kind", "crates/records/specs/Kinds.antt", "write_port_kind", "write_ports_kind"),
+            ("Kind", "crates/records/specs/Kinds.antt", "write_port_kind = 1", "write_port_kind = 2"),
             ("Kind", "crates/records/specs/Kinds.antt", KINDS, ""),
-            ("Mark", "crates/base/specs/Marks.antt", "MarkParity = 0", "MarkParity = 1"),
+            ("Mark", "crates/base/specs/Marks.antt", "mark_parity = 0", "mark_parity = 1"),
             ("Mark", "docs/MANUAL.md", "`MARK_BREAK`, `base::BREAK`", "`MARK_BREAK`"),
             ("Mark", "docs/MANUAL.md", "| Mark of", "| A mark of"),
         ):
@@ -109,11 +109,11 @@ class Names(Room):
         manual, specs = "docs/MANUAL.md", "crates/registers/specs/Refusals.antt"
         for told in ("1, 8", "8", "8, 1, 9", "none"):
             self.assertTold("docs/MANUAL.md:8: the refusals of this kind are [8, 1], by the definitions", manual, "| 8, 1 |", f"| {told} |")
-        self.assertTold("docs/MANUAL.md:8: the refusals of this kind are [1]", specs, "number = NotReady", "number = SeatAbove")
+        self.assertTold("docs/MANUAL.md:8: the refusals of this kind are [1]", specs, "number = not_ready_number", "number = seat_above_number")
         self.assertTold("docs/MANUAL.md:7: the refusals of this kind are [8, 1]", specs,
-                        "(Read n) = []", "(Read n) = record { number = NotReady } ∷ []")
+                        "(Read n) = []", "(Read n) = record { number = not_ready_number } ∷ []")
         self.assertTold("docs/MANUAL.md:8: the refusals of this kind are [1, 8]", "crates/base/specs/Refusals.antt",
-                        "    NotReady\n    ∷ SeatAbove\n", "    SeatAbove\n    ∷ NotReady\n")
+                        "    not_ready_number\n    ∷ seat_above_number\n", "    seat_above_number\n    ∷ not_ready_number\n")
 
     def test_a_table_without_definitions(self):
         self.assertTold("docs/MANUAL.md:30: a table without a column Definition",
@@ -194,7 +194,7 @@ class Names(Room):
         self.assertTold("docs/CHANGING.md:5: crates/rates/src/lib.rt has no function rows", "docs/CHANGING.md", "`row`", "`rows`")
 
     def test_a_quotation_that_is_not_there(self):
-        self.assertTold("crates/base/specs/Refusals.antt does not have 'abbrev pub SeatAbove : ℕ'", "docs/NOTATION.md", "= 1\n", "= 2\n")
+        self.assertTold("crates/base/specs/Refusals.antt does not have 'abbrev pub seat_above_number : ℕ'", "docs/NOTATION.md", "= 1\n", "= 2\n")
         self.assertTold("does not have", "docs/NOTATION.md", "abbrev pub", "pub")
         self.assertTold("docs/NOTATION.md quotes nothing", "docs/NOTATION.md", "```antt ", "```")
         self.assertTold("docs/MANUAL.md: crates/status/src/lib.rt does not have 'const CAUSES: [Row; 2] = ['",

@@ -9,7 +9,7 @@ once = load("before/05-once")
 
 SOURCE = """impl Cup {
     pub fn filled_to(self, mark: u8) -> Self
-        ensures { λ r. ⌜ r ≡ filled self mark ⌝ }
+        ensures { result ≡ filled self mark }
     {
         self
     }
@@ -17,17 +17,17 @@ SOURCE = """impl Cup {
 
 pub fn sip(c: u8) -> u8
     ensures {
-        λ r. ⌜ r ≡ sipped c ⌝
+        result ≡ sipped c
     }
 {
     c
 }
 
-#[no_mangle]
+#[unsafe(no_mangle)]
 pub extern "C" fn cups_empty(
     cup: &Cup,
 ) -> u8
-    ensures { λ r. ⌜ r ≡ 0 ⌝ }
+    ensures { result ≡ 0 }
 {
     0
 }
@@ -41,21 +41,21 @@ fn wipe() -> u8 {
 }
 """
 
-CALLS = """use Rattle·cups.proofs as cups
-use Rattle·demands·specs.specs.Once.{Free, Once}
+CALLS = """use Rattle.cups.specs.contracts as cups
+use Rattle.demands.specs.Once.{Free, Once}
 
 pub record CupsOnce (M : Type 1) : Type 2 where
-  pub cups·Cup·filled-to : Once M cups.Cup.filled_to.ended cups.Cup.filled_to.clauses cups.Cup.filled_to.spec
-  pub cups·sip : Once M cups.sip.ended cups.sip.clauses cups.sip.spec
+  pub cups·Cup·filled_to : Once M cups.Cup.filled_to.ended (λ 𝓤. cups.Cup.filled_to.clauses) (λ 𝓤. cups.Cup.filled_to.spec)
+  pub cups·sip : Once M cups.sip.ended (λ 𝓤. cups.sip.clauses) (λ 𝓤. cups.sip.spec)
   -- the one for C
-  pub cups·cups-empty :
-      Once M cups.cups_empty.ended cups.cups_empty.clauses cups.cups_empty.spec
+  pub cups·cups_empty :
+      Once M cups.cups_empty.ended (λ 𝓤. cups.cups_empty.clauses) (λ 𝓤. cups.cups_empty.spec)
 """
 
-PROOFS = """use Rattle·demands·specs.specs.OnceCalls.{CupsOnce}
+PROOFS = """use Rattle.demands.specs.OnceCalls.{CupsOnce}
 
-pub cups-once : (M : Type 1) → CupsOnce M
-cups-once M = record { }
+pub cups_once : (M : Type 1) → CupsOnce M
+cups_once M = record { }
 """
 
 DECLARED = "pub mod OnceCalls\n"
@@ -108,7 +108,7 @@ class Once(unittest.TestCase):
         self.assertTold("cups·Cup·drained has no line", source=SOURCE.replace("filled_to", "drained"))
 
     def test_a_function_for_c_without_a_line_is_told(self):
-        self.assertTold("cups·cups-full has no line", source=SOURCE.replace("cups_empty", "cups_full"))
+        self.assertTold("cups·cups_full has no line", source=SOURCE.replace("cups_empty", "cups_full"))
 
     def test_a_function_without_a_heading_is_told(self):
         self.assertTold("cups.sip has no heading in docs/PROMISES.md", promises=PROMISES.replace("`sip`, ", ""))
@@ -149,7 +149,7 @@ class Once(unittest.TestCase):
         self.assertTold("cups·sip: its line", calls=CALLS.replace("Once M cups.sip.", "Free M cups.sip."))
 
     def test_a_room_by_another_rooms_name_is_told(self):
-        self.assertTold("which is no line of a call", calls=CALLS.replace("Rattle·cups", "Rattle·mugs"))
+        self.assertTold("which is no line of a call", calls=CALLS.replace("Rattle.cups", "Rattle.mugs"))
 
     def test_a_definition_among_the_lines_is_told(self):
         self.assertTold("which is no line of a call", calls=CALLS + "\nabbrev Once : Type 1\n")
@@ -166,21 +166,37 @@ class Once(unittest.TestCase):
         self.assertTold("CupsOnce of", proofs=PROOFS.replace("(M : Type 1) →", "(M : Type 1) → ⊥ →"))
 
     def test_a_proof_of_another_record_of_that_name_is_told(self):
-        for other in ("use Rattle·demands·specs.specs.Other.{CupsOnce}", "use Rattle·demands·specs.specs.OnceCalls.{Other as CupsOnce}"):
+        for other in ("use Rattle.demands.specs.Other.{CupsOnce}", "use Rattle.demands.specs.OnceCalls.{Other as CupsOnce}"):
             self.assertTold("CupsOnce of", proofs=PROOFS.replace(PROOFS.splitlines()[0], other))
 
     def test_a_file_of_proofs_that_is_not_declared_is_told(self):
         self.assertTold("CupsOnce of", proofs_lib="pub mod Once\n")
 
     def test_a_requires_is_told(self):
-        for clause in ("    ensures {\n", "        ensures { λ r. ⌜ r ≡ filled"):
-            self.assertTold("has a requires", source=SOURCE.replace(clause, "    requires { ⌜ c < 9 ⌝ }\n" + clause))
+        for clause in ("    ensures {\n", "        ensures { result ≡ filled"):
+            self.assertTold("has a requires", source=SOURCE.replace(clause, "    requires { c < 9 }\n" + clause))
 
     def test_a_private_requires_is_none_of_its_business(self):
-        self.assertEqual(self.faults(source=SOURCE.replace("fn wipe() -> u8 {", "fn wipe() -> u8\n    requires { ⌜ 0 < 1 ⌝ }\n{")), [])
+        self.assertEqual(self.faults(source=SOURCE.replace("fn wipe() -> u8 {", "fn wipe() -> u8\n    requires { 0 < 1 }\n{")), [])
 
     def test_a_program_is_left_out(self):
         self.assertEqual(self.faults(calls="", name="main.rt"), [])
+
+    def of_archive(self, source):
+        """What is told where cups_c is an archive over cups."""
+        with tempfile.TemporaryDirectory() as folder:
+            files = {"crates.txt": "cups:\ncups_c staticlib: cups\n", "crates/cups/src/lib.rt": SOURCE, "crates/cups_c/src/lib.rt": source}
+            for name, text in files.items():
+                path = pathlib.Path(folder) / name
+                path.parent.mkdir(parents=True, exist_ok=True)
+                path.write_text(text, encoding="utf-8")
+            return [fault for fault in once.faults(pathlib.Path(folder)) if "cups_c" in fault]
+
+    def test_an_archive_says_what_a_room_below_it_says(self):
+        given = '#[unsafe(no_mangle)]\npub extern "C" fn sip(\n    c: u8,\n) -> u8\n    ensures { result ≡ sipped c }\n{\n    cups::sip(c)\n}\n'
+        self.assertEqual(self.of_archive(given), [])
+        for other in (given.replace("sipped", "spilt"), given.replace("fn sip", "fn sup"), given.replace("c: u8", "c: u32")):
+            self.assertRegex("".join(self.of_archive(other)), "^cups_c.su?i?p is said otherwise")
 
     def test_a_program_beside_a_library_leaves_nothing_out(self):
         with tempfile.TemporaryDirectory() as folder:

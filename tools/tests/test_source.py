@@ -6,7 +6,7 @@ from source import archives, declared, functions, known
 
 SOURCE = """impl Cup {
     pub fn fill(mut self, mark: u8) -> Cup
-        ensures { λ r. ⌜ r ≡ filled self mark ⌝ }
+        ensures { result ≡ filled self mark }
     {
         if mark == 0 {
             return self;
@@ -47,7 +47,7 @@ class Source(Room):
     def test_head_and_body_of_a_function(self):
         fill, empty, show, wipe = functions(SOURCE)
         self.assertEqual(SOURCE[fill.at :].split("(")[0], "fill")
-        self.assertIn("ensures { λ r.", fill.head)
+        self.assertIn("ensures { result", fill.head)
         self.assertNotIn("return self", fill.head)
         self.assertEqual(fill.body.split(), "if mark == 0 { return self; } self".split())
         self.assertEqual([function.body.strip() for function in (empty, show, wipe)], ["Cup { mark: 0 }", "3", "c"])

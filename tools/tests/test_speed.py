@@ -3,6 +3,7 @@ import io
 import os
 import platform
 import runpy
+import shutil
 import subprocess
 import sys
 import unittest
@@ -52,14 +53,17 @@ struct hailstoat_bench { uint8_t none; };
 void hailstoat_power_up(struct hailstoat_bench *bench);
 uint64_t hailstoat_event(struct hailstoat_bench *bench, uint32_t kind, uint32_t seat, uint32_t number, uint8_t value);
 """
-# It builds in the folder that it is run in, from what stands there.
+# It builds in the folder of a crate, from what stands at the top.
 RT = """\
 #!/bin/sh
-echo "rt $* in $(basename "$PWD")" >>"$MARKS"
-mkdir -p target/bin target/staticlib
+[ "$1" != version ] || { echo kit 9; exit; }
+crate=${PWD##*/}
+cd ../..
+echo "rt $* in $(basename "$PWD")/$crate" >>"$MARKS"
+mkdir -p "crates/$crate/out"
 case $1 in
-check) cp "$2" target/bin/ ;;
-staticlib) gcc -O0 -Iinclude -c library.c -o target/library.o && ar rc target/staticlib/libembed.a target/library.o ;;
+run) cp "$crate" "crates/$crate/out/" ;;
+lib) gcc -O0 -Iinclude -c library.c -o library.o && ar rc "crates/$crate/out/lib$crate.a" library.o ;;
 esac
 """
 # What counts instructions: so many for each event as the program says, and some for its start. The events are told by a
@@ -85,12 +89,15 @@ class Speed(Room):
     def setUp(self):
         super().setUp()
         self.script("bin/rt", RT)
-        self.write("crates/lamp/src/lib.rt", "")
+        self.write("crates.txt", "bench_main:\ntrials:\nembed_c staticlib:\n")
+        for source in ("bench_main/src/main.rt", "trials/src/main.rt", "embed_c/src/lib.rt"):
+            self.write(f"crates/{source}", "")
         self.script("bin/valgrind", VALGRIND)
         self.script("bin/x86_64-linux-gnu-gcc", '#!/bin/sh\nexec gcc "$@"\n')
         self.script(f"kit/on/{platform.machine()}/toolchain/bin/qemu-x86_64", EMULATOR)
         self.write("second/main.c", SECOND)
-        for name in ("speed", "machine.py", "find-rt", "events.c"):
+        self.addCleanup(shutil.rmtree, self.root.with_name(f"{self.root.name}-before"), ignore_errors=True)
+        for name in ("speed", "machine.py", "find-rt", "events.c", "shell.sh", "build.sh", "program", "library"):
             self.script(f"tools/{name}", (TOOLS / name).read_text("utf-8"))
         for name in ("bench_main", "trials"):
             self.script(name, PROGRAM.format("here", 60))
@@ -167,11 +174,12 @@ class Speed(Room):
             self.assertAlmostEqual(ours / before, times, delta=0.2 * times + 0.05)
             self.assertAlmostEqual(ours / theirs, ratio, delta=0.2 * ratio + 0.05)
         self.assertEqual((asked.count("proved before"), asked.count("proved here")), (18, 18))
-        self.assertIn(f"rt staticlib embed in {commit}", asked)
-        # another time it is not built again; what is here is
+        self.assertIn(f"rt lib in {commit}/embed_c", asked)
+        # another time it is not built again, and what is here only where it has changed
+        self.write("crates/embed_c/src/lib.rt", "// changed")
         asked = self.run_it("--before", "HEAD", "3", "6000")[2]
-        self.assertNotIn(f"rt staticlib embed in {commit}", asked)
-        self.assertIn(f"rt staticlib embed in {self.root.name}", asked)
+        self.assertNotIn(f"rt lib in {commit}/embed_c", asked)
+        self.assertIn(f"rt lib in {self.root.name}/embed_c", asked)
 
     def test_a_commit_that_is_not_there(self):
         self.git("init", "--quiet")

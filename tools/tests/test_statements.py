@@ -23,13 +23,13 @@ abbrev pub Over : Cup → Type 0
 Over c = ⊥
 """
 
-STATEMENTS = """use Rattle·cups·specs.specs.Cups.{Full}
+STATEMENTS = """use Rattle.cups.specs.Cups.{Full}
 
 pub record Statements : Type 0 where
   pub full : Full
 """
 
-GIVEN = """use Rattle·cups·specs.specs.Statements.{Statements}
+GIVEN = """use Rattle.cups.specs.Statements.{Statements}
 
 pub statements : Statements
 statements = record { full = full }
@@ -107,7 +107,7 @@ class Statements(Room):
         self.fails("proofs/Statements.antt has {-", PROOFS + "Statements.antt", shut)
 
     def test_a_declaration_of_a_record_brought_from_elsewhere(self):
-        other = GIVEN.replace("{Statements}", "{Statements as Real}\nuse Rattle·cups·proofs.proofs.Fake.{Statements}")
+        other = GIVEN.replace("{Statements}", "{Statements as Real}\nuse Rattle.cups.proofs.Fake.{Statements}")
         self.fails("0 declarations", PROOFS + "Statements.antt", other)
 
     def test_a_field_of_a_statement_brought_from_elsewhere(self):

@@ -24,8 +24,8 @@ esac
 class Trials(Room):
     def setUp(self):
         super().setUp()
-        self.script("bin/rt", '#!/bin/sh\necho rt "$@"\nexit "${FAULT:-0}"\n')
-        self.write("crates/lamp/src/lib.rt", "")
+        self.script("bin/rt", '#!/bin/sh\nexit 9\n')
+        self.script("tools/program", '#!/bin/sh\necho program "$@"\nexit "${FAULT:-0}"\n')
         self.emulator = f"on/{platform.machine()}/toolchain/bin/qemu-x86_64"
         self.script(self.emulator, '#!/bin/sh\nshift 3\nexec "$@"\n')
         self.script("second/build", f'#!/bin/sh\ncp "{self.root}/other" "$1/second"\n')

@@ -27,11 +27,11 @@ class Wording(Room):
         self.assertEqual(list(wrong_wording(self.root)), [])
 
     def test_the_table_as_it_is_written(self):
-        self.assertEqual(rows(self.root, "causeWords"), {12: "time-out", 0: "a change"})
-        self.assertEqual(words(self.root, "lsrWords"), ["data", "holding-empty"])
+        self.assertEqual(rows(self.root, "cause_words"), {12: "time-out", 0: "a change"})
+        self.assertEqual(words(self.root, "lsr_words"), ["data", "holding-empty"])
         self.assertEqual((rows(self.root, "gone"), words(self.root, "gone")), ({}, []))
         self.write(NAMES, FILES[NAMES].replace("row 10", "row 1"))
-        self.assertEqual(rows(self.root, "refusalsFirst", "refusalsLater"), {1: "seat above 7 and not in the list", 8: "not ready"})
+        self.assertEqual(rows(self.root, "refusals_first", "refusals_later"), {1: "seat above 7 and not in the list", 8: "not ready"})
 
     def test_no_table_at_all(self):
         Path(self.root, NAMES).unlink()

@@ -246,9 +246,9 @@ module _ {M : Type 1} {𝓤 : Ura M} (𝓛 : Logic 𝓤) (mem : Memory → SProp
         fact_i 𝓤 ((refusal_in r ≡ 1) × (answer_in r ≡ 0xFFF)) Shown
         (p.1.refusal ∙ ap refusal_of (outputs_refused mcr a.1.0 large), p.1.answer ∙ ap value_of (outputs_refused mcr a.1.0 large)))
 
-  -- ticket 8: "five 32-bit tallies", each in the field of its name; "seat (or line) above 7" is refused, and all five are 0
   module _ (κ : Lfts (tallies.ended).signature.lifetimes) (a : Args (tallies.ended).signature κ) (g : (tallies.clauses 𝓛 mem run κ a).ghost)
       (r : Res (tallies.ended).signature κ) (v : Lasts tallies.ended κ a) where
+    -- ticket 8: "five 32-bit tallies", each in the field of its name; document 01: "seat (or line) above 7" is refused, and all five are 0
     abbrev Handed : SProp 𝓤
     Handed = (tallies.clauses 𝓛 mem run κ a).ensures g r (at_exit tallies.ended κ a v)
 

@@ -46,7 +46,7 @@ troubles_moved before after =
     ∷ bit_turned 4 before after (quoted "break set") (quoted "break cleared")
     ∷ []
 
--- "`time_out set`, `time_out cleared`": "whether the time-out count is 4"; "`holding-empty flag set`, `holding-empty flag cleared`": "the flag"
+-- "`time-out set`, `time-out cleared`": "whether the time-out count is 4"; "`holding-empty flag set`, `holding-empty flag cleared`": "the flag"
 unfoldable pub flags_moved : Channel → Channel → List (List ℕ)
 flags_moved c c' =
     turned (timeout_stands c.receiver) (timeout_stands c'.receiver) (quoted "time-out set") (quoted "time-out cleared")

@@ -53,7 +53,7 @@ queues_pieces c =
     queue_pieces (quoted "received ") true c.receiver.queue
     ++ (queue_pieces (quoted "to send ") false c.transmitter.queue ++ (shift_words c.transmitter ∷ []))
 
--- "`time_out count N` where it is not 0"
+-- "`time-out count N` where it is not 0"
 unfoldable pub timeout_words : Receiver → List ℕ
 timeout_words r = pick (eqb r.timeout 0) [] (quoted "time-out count " ++ decimal r.timeout)
 
@@ -61,7 +61,7 @@ timeout_words r = pick (eqb r.timeout 0) [] (quoted "time-out count " ++ decimal
 unfoldable pub kept_words : Receiver → List ℕ
 kept_words r = pick (eqb r.kept 0) [] (quoted "kept marks" ++ marks_named r.kept)
 
--- "5. `time_out count N` where it is not 0; `holding-empty flag` where it is set; `kept marks`"
+-- "5. `time-out count N` where it is not 0; `holding-empty flag` where it is set; `kept marks`"
 unfoldable pub flag_pieces : Channel → List (List ℕ)
 flag_pieces c = timeout_words c.receiver ∷ pick c.transmitter.flag (quoted "holding-empty flag") [] ∷ kept_words c.receiver ∷ []
 
