@@ -9,7 +9,7 @@ use Rattle.records.specs.Events.{Record, whole, short}
 use Rattle.bench.specs.declared.Bench.{Bench}
 use Rattle.bench.specs.Steps.{outcome}
 use Rattle.moves.specs.Moved.{seat_moved, controller_moved}
-use Rattle.moves.specs.MovedLaws.{seat_pieces_lem, controller_pieces_lem}
+use Rattle.moves.proofs.MovedLaws.{seat_pieces_lem, controller_pieces_lem}
 use Rattle.account.specs.Told.{channel_at, pieces}
 use Rattle.account.specs.Sized.{Sized}
 use Rattle.account.specs.Kept.{head_of}

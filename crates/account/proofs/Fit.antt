@@ -16,10 +16,10 @@ use Rattle.bench.specs.declared.Bench.{Bench}
 use Rattle.bench.specs.Steps.{outcome}
 use Rattle.names.specs.Fits.{Fits, AllFit}
 use Rattle.names.specs.FitLaws.{fits_more, fits_append, fits_behind, fits_decimal, capital_one, all_fit_append}
-use Rattle.deeds.specs.DeedLaws.{done_fits, cut_fits}
-use Rattle.answers.specs.CameLaws.{came_fits}
+use Rattle.deeds.proofs.DeedLaws.{done_fits, cut_fits}
+use Rattle.answers.proofs.CameLaws.{came_fits}
 use Rattle.moves.specs.Moved.{seat_moved}
-use Rattle.moves.specs.MovedLaws.{seat_fits, controller_fits}
+use Rattle.moves.proofs.MovedLaws.{seat_fits, controller_fits}
 use Rattle.account.specs.Head.{figures_shown, blanks, head_words}
 use Rattle.account.specs.HeadLaws.{front, head_front, head_short, blanks_length}
 use Rattle.account.specs.Told.{channel_at, pieces}

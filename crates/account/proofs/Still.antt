@@ -11,7 +11,7 @@ use Rattle.bench.specs.Steps.{outcome}
 use Rattle.bench.specs.OutcomeLaws.{outcome_refused}
 use Rattle.deeds.specs.Done.{record_done}
 use Rattle.moves.specs.Moved.{seat_moved}
-use Rattle.moves.specs.StillLaws.{AllNone, none_append, none_joined, seat_still, controller_still}
+use Rattle.moves.proofs.StillLaws.{AllNone, none_append, none_joined, seat_still, controller_still}
 use Rattle.account.specs.Told.{channel_at, divisor_of, came, moved, told}
 use Rattle.account.specs.Kept.{head_of, RefusedMovesNothing}
 

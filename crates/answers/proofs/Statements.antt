@@ -1,5 +1,5 @@
 -- All statements of this room hold.
-use Rattle.answers.specs.CameLaws.{came_fits}
+use Rattle.answers.proofs.CameLaws.{came_fits}
 use Rattle.answers.specs.Statements.{Statements}
 use Rattle.answers.proofs.Exemplified.{exemplified}
 

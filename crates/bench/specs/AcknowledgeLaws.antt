@@ -8,7 +8,7 @@ use Rattle.base.specs.declared.Answer.TheVariants.{Vector, Spurious}
 use Rattle.controller.specs.declared.Signalled as controller
 use Rattle.controller.specs.State.{ready}
 use Rattle.controller.specs.Turns.{output_of, grant, vector}
-use Rattle.controller.specs.OutputLaws.{output_high, output_low}
+use Rattle.controller.proofs.OutputLaws.{output_high, output_low}
 use Rattle.records.specs.declared.Decoded.TheVariants.{Taken}
 use Rattle.records.specs.declared.Event.TheVariants.{Acknowledge}
 use Rattle.records.specs.Events.{whole, early, event_of, decoded}

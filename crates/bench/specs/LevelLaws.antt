@@ -5,7 +5,7 @@ use Rattle.std.proofs.Math.Nat.{pow-succ'}
 use Rattle.std.specs.Int.Bits.{bit_or, bit_and, bit_xor, or_step, and_step, xor_step, or_zero_r, and_zero_r, xor_zero_r, differ}
 use Rattle.base.specs.Pick.{pick}
 use Rattle.base.specs.Bits.{digit, bits}
-use Rattle.base.specs.BitLaws.{digit_le}
+use Rattle.base.proofs.BitLaws.{digit_le}
 use Rattle.seat.specs.declared.Seat.{Seat}
 use Rattle.seat.specs.Seats.{line, reset}
 use Rattle.seat.specs.ActLaws as one

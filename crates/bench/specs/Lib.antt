@@ -9,15 +9,11 @@ pub mod Valid
 pub mod Wired
 pub mod Runs
 pub mod UsesLaws
-pub mod PartLaws
 pub mod FrameLaws
 pub mod RunLaws
 pub mod LevelLaws
 pub mod OutcomeLaws
-pub mod WiredLaws
 pub mod EdgeLaws
-pub mod ValidLaws
 pub mod AcknowledgeLaws
 pub mod DoneLaws
-pub mod HeardLaws
 pub mod TalliedLaws

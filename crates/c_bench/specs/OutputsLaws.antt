@@ -7,7 +7,7 @@ use Rattle.std.proofs.lemmas.Bool.{lt-leb}
 use Rattle.base.specs.Pick.{pick}
 use Rattle.base.specs.PickLaws.{pick_true, pick_false, pick_either}
 use Rattle.base.specs.Bits.{bit, bits}
-use Rattle.base.specs.BitLaws.{bit_bits, bits_small, bit_cut, low_four}
+use Rattle.base.proofs.BitLaws.{bit_bits, bits_small, bit_cut, low_four}
 use Rattle.base.specs.Refusals.{first_of, refusal_by}
 use Rattle.base.specs.declared.Answer.TheVariants.{Byte, Refused}
 use Rattle.registers.specs.Registers.{mcr_kept}

@@ -1,4 +1,3 @@
 pub mod Word
 pub mod Numbers
-pub mod WordLaws
 pub mod NumberLaws

@@ -6,14 +6,14 @@ use Rattle.std.proofs.Common.{◌∙◌, le_of_suc-le-suc, not-suc-le-zero, arit
 use Rattle.base.specs.Pick.{pick}
 use Rattle.base.specs.PickLaws.{pick_true, pick_false}
 use Rattle.base.specs.Bits.{bit}
-use Rattle.base.specs.BitLaws.{bit_bits, bits_small}
+use Rattle.base.proofs.BitLaws.{bit_bits, bits_small}
 use Rattle.queue.specs.Queue.{oldest, marked}
 use Rattle.receiver.specs.Receiver.{none_queued, shown_marks, some_marked}
 use Rattle.transmitter.specs.Transmitter.{none_waiting, all_sent}
 use Rattle.channel.specs.declared.Channel.{Channel}
 use Rattle.channel.specs.Parts.{fifo, in_loopback}
-use Rattle.registers.specs.ModemLaws.{shows_changes, shows_inputs, msr_small}
-use Rattle.registers.specs.LoopbackLaws.{inputs_looped, inputs_plain}
+use Rattle.registers.proofs.ModemLaws.{shows_changes, shows_inputs, msr_small}
+use Rattle.registers.proofs.LoopbackLaws.{inputs_looped, inputs_plain}
 use Rattle.channel.specs.Status.{lsr, msr, inputs, cause, iir}
 use Rattle.status.specs.Status.{lsr_of, iir_of}
 use Rattle.status.specs.StatusLaws.{cause_small}

@@ -10,7 +10,7 @@ use Rattle.channel_image.specs.Places.{channel_length}
 use Rattle.channel_image.specs.Read.{found}
 use Rattle.channel_image.specs.ThereAndBack.{Lent}
 use Rattle.channel_image.specs.Written.{channel_bytes}
-use Rattle.channel_image.specs.WrittenLaws.{channel_length_lem}
+use Rattle.channel_image.proofs.WrittenLaws.{channel_length_lem}
 
 pub lent : Lent
 unfolding found

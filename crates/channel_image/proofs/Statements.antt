@@ -1,8 +1,8 @@
 -- All statements of this room hold.
-use Rattle.channel_image.specs.FieldLaws.{exactly}
-use Rattle.channel_image.specs.ReadLaws.{written_back, good_sound}
+use Rattle.channel_image.proofs.FieldLaws.{exactly}
+use Rattle.channel_image.proofs.ReadLaws.{written_back, good_sound}
 use Rattle.channel_image.specs.Statements.{Statements}
-use Rattle.channel_image.specs.WrittenLaws.{found_written}
+use Rattle.channel_image.proofs.WrittenLaws.{found_written}
 use Rattle.channel_image.proofs.Lending.{lent}
 use Rattle.channel_image.proofs.Telling.{told}
 

@@ -7,6 +7,3 @@ pub mod Told
 pub mod ThereAndBack
 pub mod Statements
 pub mod SlotLaws
-pub mod WrittenLaws
-pub mod FieldLaws
-pub mod ReadLaws

@@ -13,8 +13,8 @@ use Rattle.base.specs.PickLaws.{pick_true, pick_false, both_hold, either_way, ne
 use Rattle.queue.specs.declared.Character.{Character}
 use Rattle.queue.specs.declared.Queue.{Queue}
 use Rattle.queue.specs.Queue.{no_character, contents, canonical, any_marked, clear, marked}
-use Rattle.queue.specs.QueueLaws.{contents_of, marked_is}
-use Rattle.queue.specs.CanonicalLaws.{holds}
+use Rattle.queue.proofs.QueueLaws.{contents_of, marked_is}
+use Rattle.queue.proofs.CanonicalLaws.{holds}
 use Rattle.receiver.specs.Sound.{marks_within}
 use Rattle.channel_image.specs.Written.{queued_byte}
 

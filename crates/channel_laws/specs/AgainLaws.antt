@@ -10,7 +10,7 @@ use Rattle.base.specs.Bits.{bit}
 use Rattle.base.specs.Answers.{value_of}
 use Rattle.queue.specs.declared.Character.{Character}
 use Rattle.queue.specs.Queue.{plain, any_marked}
-use Rattle.queue.specs.QueueLaws.{holding}
+use Rattle.queue.proofs.QueueLaws.{holding}
 use Rattle.receiver.specs.Receiver.{lsr_seen}
 use Rattle.receiver.specs.CallLaws.{lsr_seen_fifo, lsr_seen_16450}
 use Rattle.channel.specs.declared.Channel.{Channel}

@@ -16,7 +16,7 @@ use Rattle.receiver.specs.Receiver.{got}
 use Rattle.channel.specs.Parts.{divisor_shown, in_loopback}
 use Rattle.channel.specs.Effects.{answer_at, time_answer}
 use Rattle.channel.specs.Steps.{effect, stepped}
-use Rattle.registers.specs.RefusalLaws.{accepts}
+use Rattle.registers.proofs.RefusalLaws.{accepts}
 use Rattle.channel_laws.specs.RefusalLaws.{done}
 
 -- what a read of this register is answered with: "the byte", and no more where it is DLL or any register but 0. Ticket 6: "The RBR answer gains these

@@ -16,7 +16,7 @@ use Rattle.channel.specs.Parts.{with_settings, divisor_shown}
 use Rattle.registers.specs.Registers.{plain_register, register_at, fcr_kept, with_dll, with_dlm}
 use Rattle.channel.specs.Effects.{ier_written, fcr_written, mcr_written, answer_at, after_read, after_write}
 use Rattle.channel.specs.Steps.{effect, stepped}
-use Rattle.registers.specs.RefusalLaws.{accepts}
+use Rattle.registers.proofs.RefusalLaws.{accepts}
 use Rattle.channel_laws.specs.RefusalLaws.{done}
 use Rattle.channel_laws.specs.ReadLaws.{read_at}
 

@@ -11,19 +11,19 @@ use Rattle.base.specs.declared.Answer.{Answer}
 use Rattle.base.specs.declared.Answer.TheVariants.{Done, Sent, Idle}
 use Rattle.queue.specs.declared.Character.{Character}
 use Rattle.queue.specs.Joining.{places, joined}
-use Rattle.queue.specs.JoiningLaws.{joined_fits}
-use Rattle.queue.specs.QueueLaws.{holding}
+use Rattle.queue.proofs.JoiningLaws.{joined_fits}
+use Rattle.queue.proofs.QueueLaws.{holding}
 use Rattle.transmitter.specs.declared.Transmitter.{Transmitter}
 use Rattle.transmitter.specs.Transmitter.{written, shifted}
 use Rattle.transmitter.specs.Sending.{to_send}
-use Rattle.transmitter.specs.CallLaws.{shift_none, shift_last, shift_more}
+use Rattle.transmitter.proofs.CallLaws.{shift_none, shift_last, shift_more}
 use Rattle.registers.specs.Words.{cut}
 use Rattle.channel.specs.declared.Channel.{Channel}
 use Rattle.channel.specs.declared.Stepped.{Stepped}
 use Rattle.registers.specs.declared.SeatEvent.TheVariants.{Write, Time}
 use Rattle.channel.specs.Parts.{fifo, in_loopback}
 use Rattle.channel.specs.Steps.{stepped}
-use Rattle.registers.specs.RefusalLaws.{undivided}
+use Rattle.registers.proofs.RefusalLaws.{undivided}
 use Rattle.channel_laws.specs.WireLaws.{sent, idle}
 use Rattle.channel_laws.specs.SideLaws.{thr_writes, time_shifts}
 use Rattle.channel_laws.specs.SendingLaws.{passed}

@@ -14,21 +14,21 @@ use Rattle.base.specs.declared.Answer.TheVariants.{Done, Idle}
 use Rattle.queue.specs.declared.Character.{Character}
 use Rattle.queue.specs.declared.Queue.{Queue}
 use Rattle.queue.specs.Queue.{capacity, accepted}
-use Rattle.queue.specs.QueueLaws.{holding}
-use Rattle.queue.specs.AcceptLaws.{capacity_small}
+use Rattle.queue.proofs.QueueLaws.{holding}
+use Rattle.queue.proofs.AcceptLaws.{capacity_small}
 use Rattle.queue.specs.Joining.{places}
-use Rattle.queue.specs.JoiningLaws.{takes, joined_room}
+use Rattle.queue.proofs.JoiningLaws.{takes, joined_room}
 use Rattle.receiver.specs.declared.Receiver.{Receiver}
 use Rattle.receiver.specs.Receiver.{none_queued, received, waited}
 use Rattle.transmitter.specs.Transmitter.{all_sent}
 use Rattle.transmitter.specs.Sending.{to_send}
-use Rattle.transmitter.specs.SendingLaws.{all_wait}
+use Rattle.transmitter.proofs.SendingLaws.{all_wait}
 use Rattle.transmitter.specs.SoundLaws.{idle_holds}
 use Rattle.registers.specs.declared.Settings.{Settings}
 use Rattle.registers.specs.declared.SeatEvent.TheVariants.{Write, Time}
 use Rattle.registers.specs.Words.{cut}
 use Rattle.registers.specs.Loopback.{looped}
-use Rattle.registers.specs.RefusalLaws.{undivided}
+use Rattle.registers.proofs.RefusalLaws.{undivided}
 use Rattle.channel.specs.declared.Channel.{Channel}
 use Rattle.channel.specs.Parts.{fifo, in_loopback}
 use Rattle.channel.specs.Effects.{receives, leaver, heard_back}

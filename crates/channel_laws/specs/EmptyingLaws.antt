@@ -12,7 +12,7 @@ use Rattle.base.specs.declared.Answer.TheVariants.{Done}
 use Rattle.queue.specs.declared.Character.{Character}
 use Rattle.queue.specs.declared.Queue.{Queue}
 use Rattle.queue.specs.Queue.{empty_queue, oldest, any_marked, marked}
-use Rattle.queue.specs.QueueLaws.{holding}
+use Rattle.queue.proofs.QueueLaws.{holding}
 use Rattle.receiver.specs.declared.Receiver.{Receiver}
 use Rattle.receiver.specs.Receiver.{shown_marks}
 use Rattle.transmitter.specs.declared.Transmitter.{Transmitter}

@@ -6,7 +6,7 @@ use Rattle.std.proofs.Common.{ap, subst, ◌∙◌, ⊎_elim, arith, ltb-true, l
 use Rattle.base.specs.Pick.{pick}
 use Rattle.base.specs.PickLaws.{either_way, never}
 use Rattle.base.specs.Bits.{bit}
-use Rattle.base.specs.BitLaws.{bit_cut}
+use Rattle.base.proofs.BitLaws.{bit_cut}
 use Rattle.base.specs.EveryLaws.{every_each}
 use Rattle.transmitter.specs.declared.Transmitter.{Transmitter}
 use Rattle.transmitter.specs.Transmitter.{written, shifted}
@@ -23,7 +23,7 @@ use Rattle.channel.specs.Steps.{effect}
 use Rattle.channel.specs.StatusLaws.{lsr_empty}
 use Rattle.channel_laws.specs.IirLaws.{iir_clears}
 use Rattle.channel_laws.specs.ModeLaws.{fcr_sent_lem, ier_sent_lem}
-use Rattle.registers.specs.RefusalLaws.{accepts}
+use Rattle.registers.proofs.RefusalLaws.{accepts}
 use Rattle.channel_laws.specs.RefusalLaws.{done, refused}
 use Rattle.channel_laws.specs.BackLaws.{ordinal}
 use Rattle.channel_laws.specs.AgainLaws.{shows_lsr, named, named_is}

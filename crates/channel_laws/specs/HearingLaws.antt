@@ -12,8 +12,8 @@ use Rattle.base.specs.declared.Answer.{Answer}
 use Rattle.base.specs.declared.Answer.TheVariants.{Letter, Done}
 use Rattle.queue.specs.declared.Character.{Character}
 use Rattle.queue.specs.Joining.{places, joined}
-use Rattle.queue.specs.JoiningLaws.{joined_fits}
-use Rattle.queue.specs.QueueLaws.{holding}
+use Rattle.queue.proofs.JoiningLaws.{joined_fits}
+use Rattle.queue.proofs.QueueLaws.{holding}
 use Rattle.receiver.specs.declared.Receiver.{Receiver}
 use Rattle.receiver.specs.declared.Got.{Got}
 use Rattle.receiver.specs.Receiver.{received}
@@ -24,7 +24,7 @@ use Rattle.registers.specs.declared.SeatEvent.{SeatEvent}
 use Rattle.registers.specs.declared.SeatEvent.TheVariants.{Read, Arrival}
 use Rattle.channel.specs.Parts.{with_receiver, fifo, in_loopback}
 use Rattle.channel.specs.Steps.{stepped}
-use Rattle.registers.specs.RefusalLaws.{accepts}
+use Rattle.registers.proofs.RefusalLaws.{accepts}
 use Rattle.channel_laws.specs.SideLaws.{arrival_received, rbr_gets}
 use Rattle.channel_laws.specs.QueuedLaws.{arrival_joins}
 use Rattle.channel_laws.specs.Shown.{after}

@@ -10,7 +10,7 @@ use Rattle.receiver.specs.Lasting.{ending, ends_in}
 use Rattle.registers.specs.declared.SeatEvent.{SeatEvent}
 use Rattle.registers.specs.declared.SeatEvent.TheVariants.{Read, Write, Arrival, Levels, Time}
 use Rattle.registers.specs.Refusals.{refusal}
-use Rattle.registers.specs.RefusalLaws.{accepts, accepted}
+use Rattle.registers.proofs.RefusalLaws.{accepts, accepted}
 use Rattle.channel.specs.declared.Channel.{Channel}
 use Rattle.channel.specs.Parts.{divisor_shown, in_loopback}
 use Rattle.channel.specs.Effects.{mode_changed}

@@ -7,19 +7,19 @@ use Rattle.base.specs.Pick.{pick}
 use Rattle.base.specs.PickLaws.{pick_same, pick_either, either_way, never}
 use Rattle.base.specs.EveryLaws.{every_each}
 use Rattle.base.specs.Bits.{bit}
-use Rattle.base.specs.BitLaws.{bit_cut}
+use Rattle.base.proofs.BitLaws.{bit_cut}
 use Rattle.registers.specs.declared.Register.{Register}
 use Rattle.registers.specs.declared.Register.TheVariants.{RbrThr, Ier, IirFcr, Lcr, Mcr, Lsr, Msr, Scratch, Dll, Dlm}
 use Rattle.registers.specs.Registers.{plain_register, register_at}
 use Rattle.registers.specs.Modem.{changes_after}
-use Rattle.registers.specs.ModemLaws.{changed, rung}
+use Rattle.registers.proofs.ModemLaws.{changed, rung}
 use Rattle.channel.specs.declared.Modem.{Modem}
 use Rattle.channel.specs.declared.Channel.{Channel}
 use Rattle.channel.specs.declared.Stepped.{Stepped}
 use Rattle.registers.specs.declared.SeatEvent.{SeatEvent}
 use Rattle.registers.specs.declared.SeatEvent.TheVariants.{Read, Write, Arrival, Levels, Time}
 use Rattle.registers.specs.Refusals.{refusal}
-use Rattle.registers.specs.RefusalLaws.{accepts}
+use Rattle.registers.proofs.RefusalLaws.{accepts}
 use Rattle.channel.specs.Parts.{divisor_shown, in_loopback}
 use Rattle.channel.specs.Status.{msr, inputs}
 use Rattle.channel.specs.StatusLaws.{ShowsOutputs, msr_changes, msr_inputs, msr_levels, msr_looped}

@@ -11,8 +11,8 @@ use Rattle.registers.specs.declared.SeatEvent.{SeatEvent}
 use Rattle.registers.specs.declared.SeatEvent.TheVariants.{Arrival, Levels, Time}
 use Rattle.registers.specs.Words.{cut}
 use Rattle.registers.specs.Modem.{changes_after}
-use Rattle.registers.specs.LoopbackLaws.{inputs_remembered, unchanged}
-use Rattle.registers.specs.RefusalLaws.{undivided, accepts}
+use Rattle.registers.proofs.LoopbackLaws.{inputs_remembered, unchanged}
+use Rattle.registers.proofs.RefusalLaws.{undivided, accepts}
 use Rattle.channel.specs.declared.Channel.{Channel}
 use Rattle.channel.specs.declared.Stepped.{Stepped}
 use Rattle.channel.specs.Parts.{with_receiver, with_modem, fifo, in_loopback}

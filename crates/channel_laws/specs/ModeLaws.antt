@@ -7,7 +7,7 @@ use Rattle.std.proofs.Common.{◌∙◌, arith, pow_pos}
 use Rattle.base.specs.Pick.{pick}
 use Rattle.base.specs.PickLaws.{pick_false}
 use Rattle.base.specs.Bits.{bit, digit}
-use Rattle.base.specs.BitLaws.{bit_bits, bit_past, digit_bit}
+use Rattle.base.proofs.BitLaws.{bit_bits, bit_past, digit_bit}
 use Rattle.queue.specs.Queue.{empty_queue}
 use Rattle.receiver.specs.Receiver.{fcr_heard}
 use Rattle.receiver.specs.CallLaws as heard
@@ -18,7 +18,7 @@ use Rattle.channel.specs.Parts.{fifo}
 use Rattle.registers.specs.Words.{trigger}
 use Rattle.registers.specs.Registers.{fcr_kept}
 use Rattle.channel.specs.Effects.{ier_written, mode_changed, fcr_receiver, fcr_transmitter, fcr_written}
-use Rattle.registers.specs.ModemLaws.{differ_xor}
+use Rattle.registers.proofs.ModemLaws.{differ_xor}
 
 -- ---- what the FCR keeps
 

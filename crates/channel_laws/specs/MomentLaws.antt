@@ -4,7 +4,7 @@ use Rattle.std.proofs.Common.{ap, sym, ◌∙◌, ⊎_elim}
 use Rattle.base.specs.Pick.{pick}
 use Rattle.base.specs.PickLaws.{pick_true, pick_false, pick_through, pick_either, pick_cases, either_way}
 use Rattle.base.specs.Bits.{bit}
-use Rattle.base.specs.BitLaws.{bit_bits}
+use Rattle.base.proofs.BitLaws.{bit_bits}
 use Rattle.base.specs.Answers.{value_of, figures_of}
 use Rattle.base.specs.declared.Answer.{Answer}
 use Rattle.base.specs.declared.Answer.TheVariants.{Done}

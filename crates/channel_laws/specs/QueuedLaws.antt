@@ -5,18 +5,18 @@ use Rattle.std.proofs.Common.{sym, ◌∙◌, arith}
 use Rattle.std.proofs.Math.Dec.{leb}
 use Rattle.base.specs.PickLaws.{pick_true, pick_false}
 use Rattle.base.specs.Bits.{bit}
-use Rattle.base.specs.BitLaws.{bit_or_lem}
+use Rattle.base.proofs.BitLaws.{bit_or_lem}
 use Rattle.queue.specs.declared.Character.{Character}
 use Rattle.queue.specs.declared.Queue.{Queue}
 use Rattle.queue.specs.Queue.{no_character, capacity, accepted, oldest, any_marked, marked}
-use Rattle.queue.specs.QueueLaws.{holding, oldest_is, oldest_none, marked_is}
-use Rattle.queue.specs.CanonicalLaws.{Holds, holds}
+use Rattle.queue.proofs.QueueLaws.{holding, oldest_is, oldest_none, marked_is}
+use Rattle.queue.proofs.CanonicalLaws.{Holds, holds}
 use Rattle.queue.specs.Joining.{places, joined}
-use Rattle.queue.specs.JoiningLaws.{takes, joined_some}
+use Rattle.queue.proofs.JoiningLaws.{takes, joined_some}
 use Rattle.receiver.specs.Receiver.{received}
 use Rattle.receiver.specs.CallLaws.{arrive_overrun}
-use Rattle.receiver.specs.EffectLaws as effects
-use Rattle.receiver.specs.SoundLaws as heard
+use Rattle.receiver.proofs.EffectLaws as effects
+use Rattle.receiver.proofs.SoundLaws as heard
 use Rattle.transmitter.specs.Transmitter.{written}
 use Rattle.transmitter.specs.Sending.{to_send}
 use Rattle.transmitter.specs.SoundLaws as sending
@@ -26,7 +26,7 @@ use Rattle.registers.specs.declared.SeatEvent.TheVariants.{Write, Arrival}
 use Rattle.channel.specs.Parts.{fifo, in_loopback}
 use Rattle.channel.specs.Sound.{sound_channel}
 use Rattle.channel.specs.StatusLaws.{lsr_data, lsr_overrun, lsr_kept, lsr_oldest, lsr_empty, lsr_idle, lsr_marked}
-use Rattle.registers.specs.RefusalLaws.{accepts}
+use Rattle.registers.proofs.RefusalLaws.{accepts}
 use Rattle.channel_laws.specs.SoundLaws.{parts}
 use Rattle.channel_laws.specs.SideLaws.{arrival_received, thr_writes}
 use Rattle.channel_laws.specs.AgainLaws.{shows_lsr}

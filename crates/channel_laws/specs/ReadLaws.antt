@@ -6,12 +6,12 @@ use Rattle.std.proofs.Math.Logic.{⊎_elim}
 use Rattle.base.specs.Pick.{pick}
 use Rattle.base.specs.PickLaws.{pick_true, pick_false, pick_same, pick_through, either_way}
 use Rattle.base.specs.Bits.{bit}
-use Rattle.base.specs.BitLaws.{bit_past}
+use Rattle.base.proofs.BitLaws.{bit_past}
 use Rattle.base.specs.declared.Answer.TheVariants.{Byte}
 use Rattle.queue.specs.declared.Character.{Character}
 use Rattle.queue.specs.declared.Queue.{Queue}
 use Rattle.queue.specs.Queue.{no_character, oldest, plain, unmarked, any_marked, marked}
-use Rattle.queue.specs.QueueLaws.{holding, unmark_oldest, marked_is}
+use Rattle.queue.proofs.QueueLaws.{holding, unmark_oldest, marked_is}
 use Rattle.receiver.specs.Receiver.{lsr_seen}
 use Rattle.channel.specs.declared.Channel.{Channel}
 use Rattle.registers.specs.declared.Register.{Register}

@@ -5,7 +5,7 @@ use Rattle.base.specs.PickLaws.{pick_true, pick_false}
 use Rattle.base.specs.declared.Answer.TheVariants.{Refused}
 use Rattle.registers.specs.declared.SeatEvent.{SeatEvent}
 use Rattle.registers.specs.Refusals.{refusal}
-use Rattle.registers.specs.RefusalLaws.{accepts, accepted}
+use Rattle.registers.proofs.RefusalLaws.{accepts, accepted}
 use Rattle.channel.specs.declared.Channel.{Channel}
 use Rattle.channel.specs.Steps.{effect, stepped}
 

@@ -4,7 +4,7 @@ use Rattle.std.proofs.Math.Path.{refl}
 use Rattle.std.proofs.Common.{◌∙◌, pow_pos}
 use Rattle.base.specs.Pick.{pick}
 use Rattle.base.specs.Bits.{bit, digit, bits}
-use Rattle.base.specs.BitLaws.{bit_past}
+use Rattle.base.proofs.BitLaws.{bit_past}
 use Rattle.base.specs.ListLaws.{listed}
 use Rattle.base.specs.Answers.{value_of}
 use Rattle.base.specs.Refusals.{first_of, refusal_by}

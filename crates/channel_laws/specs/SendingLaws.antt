@@ -18,8 +18,8 @@ use Rattle.transmitter.specs.Transmitter.{none_waiting, all_sent, written, shift
 use Rattle.transmitter.specs.Sending.{written_all, leaving, after_times}
 use Rattle.transmitter.specs.Sending as side
 use Rattle.transmitter.specs.SoundLaws as still
-use Rattle.receiver.specs.SoundLaws as heard
-use Rattle.transmitter.specs.SendingLaws.{sends_in_order, idle_at_last, flag_at_last}
+use Rattle.receiver.proofs.SoundLaws as heard
+use Rattle.transmitter.proofs.SendingLaws.{sends_in_order, idle_at_last, flag_at_last}
 use Rattle.receiver.specs.Receiver.{waited}
 use Rattle.channel.specs.declared.Channel.{Channel}
 use Rattle.channel.specs.declared.Stepped.{Stepped}
@@ -29,7 +29,7 @@ use Rattle.channel.specs.Parts.{power_up, with_settings, with_transmitter, divis
 use Rattle.channel.specs.Effects.{heard_back}
 use Rattle.channel.specs.Sound.{sound_channel}
 use Rattle.channel.specs.Steps.{stepped}
-use Rattle.registers.specs.RefusalLaws.{undivided}
+use Rattle.registers.proofs.RefusalLaws.{undivided}
 use Rattle.channel_laws.specs.SoundLaws.{parts, whole}
 use Rattle.channel_laws.specs.WireLaws.{broken, sent, idle}
 use Rattle.channel_laws.specs.SideLaws.{thr_writes, time_shifts}

@@ -18,7 +18,7 @@ use Rattle.channel.specs.Effects.{ier_written, after_write}
 use Rattle.channel.specs.StatusLaws.{lsr_empty, lsr_idle}
 use Rattle.channel_laws.specs.IirLaws.{flagged}
 use Rattle.channel_laws.specs.ModeLaws.{ier_sent_lem}
-use Rattle.registers.specs.RefusalLaws.{undivided}
+use Rattle.registers.proofs.RefusalLaws.{undivided}
 use Rattle.channel_laws.specs.BackLaws.{write_at}
 use Rattle.channel_laws.specs.SideLaws.{time_shifts}
 use Rattle.channel_laws.specs.AgainLaws.{shows_lsr}

@@ -18,7 +18,7 @@ use Rattle.registers.specs.declared.SeatEvent.TheVariants.{Read, Write, Arrival,
 use Rattle.channel.specs.Parts.{with_receiver, with_transmitter, divisor_shown, fifo, in_loopback}
 use Rattle.channel.specs.Effects.{answer_at, after_read, after_write, receives, heard_outside, after_arrival, heard_back, after_time}
 use Rattle.channel.specs.Steps.{effect, stepped}
-use Rattle.registers.specs.RefusalLaws.{undivided, accepts}
+use Rattle.registers.proofs.RefusalLaws.{undivided, accepts}
 use Rattle.channel_laws.specs.RefusalLaws.{done}
 use Rattle.channel_laws.specs.ReadLaws.{read_at}
 use Rattle.channel_laws.specs.BackLaws.{write_at}

@@ -6,7 +6,7 @@ use Rattle.base.specs.PickLaws.{both_hold}
 use Rattle.base.specs.Bits.{bit}
 use Rattle.receiver.specs.declared.Receiver.{Receiver}
 use Rattle.receiver.specs.Sound.{sound_receiver}
-use Rattle.receiver.specs.SoundLaws as heard
+use Rattle.receiver.proofs.SoundLaws as heard
 use Rattle.transmitter.specs.declared.Transmitter.{Transmitter}
 use Rattle.transmitter.specs.Sound.{sound_transmitter}
 use Rattle.transmitter.specs.SoundLaws as sending

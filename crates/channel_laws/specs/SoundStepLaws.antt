@@ -7,12 +7,12 @@ use Rattle.std.proofs.Math.Logic.{⊎_elim}
 use Rattle.base.specs.Pick.{pick}
 use Rattle.base.specs.PickLaws.{pick_true, pick_false, pick_either, both_hold, either_way}
 use Rattle.base.specs.Bits.{bit, bits}
-use Rattle.base.specs.BitLaws.{bit_bits}
+use Rattle.base.proofs.BitLaws.{bit_bits}
 use Rattle.queue.specs.declared.Character.{Character}
 use Rattle.receiver.specs.declared.Receiver.{Receiver}
 use Rattle.receiver.specs.Receiver.{none_queued, timeout_stands}
 use Rattle.receiver.specs.Sound.{sound_receiver}
-use Rattle.receiver.specs.SoundLaws as heard
+use Rattle.receiver.proofs.SoundLaws as heard
 use Rattle.transmitter.specs.declared.Transmitter.{Transmitter}
 use Rattle.transmitter.specs.Sound.{sound_transmitter}
 use Rattle.transmitter.specs.SoundLaws as sending
@@ -29,9 +29,9 @@ use Rattle.channel.specs.Effects.{iir_read, lsr_read, msr_read, after_read, ier_
 use Rattle.channel.specs.Steps.{effect, stepped}
 use Rattle.channel.specs.Sound.{sound_channel}
 use Rattle.channel_laws.specs.CauseLaws.{late_at_four}
-use Rattle.registers.specs.ModemLaws.{differ_xor, changes_small}
+use Rattle.registers.proofs.ModemLaws.{differ_xor, changes_small}
 use Rattle.channel_laws.specs.ModeLaws.{fcr_off, mode_after}
-use Rattle.registers.specs.RefusalLaws.{undivided, accepts}
+use Rattle.registers.proofs.RefusalLaws.{undivided, accepts}
 use Rattle.channel_laws.specs.RefusalLaws.{done, refused}
 use Rattle.channel_laws.specs.SoundLaws.{Sound, parts, whole, with_receiver_lem, with_transmitter_lem, with_modem_lem, with_settings_lem}
 

@@ -8,16 +8,16 @@ use Rattle.std.proofs.lemmas.Bool.{lt-leb}
 use Rattle.base.specs.PickLaws.{pick_false, either_way}
 use Rattle.base.specs.Bits.{bit}
 use Rattle.queue.specs.declared.Character.{Character}
-use Rattle.queue.specs.QueueLaws.{holding}
+use Rattle.queue.proofs.QueueLaws.{holding}
 use Rattle.receiver.specs.declared.Receiver.{Receiver}
 use Rattle.receiver.specs.Receiver.{none_queued, waited}
-use Rattle.receiver.specs.WaitingLaws.{wait_counts, wait_at_most}
+use Rattle.receiver.proofs.WaitingLaws.{wait_counts, wait_at_most}
 use Rattle.channel.specs.declared.Channel.{Channel}
 use Rattle.registers.specs.declared.SeatEvent.TheVariants.{Time}
 use Rattle.channel.specs.Parts.{fifo, in_loopback}
 use Rattle.channel.specs.StatusLaws.{lsr_data}
 use Rattle.channel_laws.specs.CauseLaws.{troubled, ready, cause_named}
-use Rattle.registers.specs.RefusalLaws.{undivided}
+use Rattle.registers.proofs.RefusalLaws.{undivided}
 use Rattle.channel_laws.specs.SideLaws.{time_shifts, none_back}
 use Rattle.channel_laws.specs.SendingLaws.{passed}
 use Rattle.channel_laws.specs.AgainLaws.{shows_lsr, named, named_is}

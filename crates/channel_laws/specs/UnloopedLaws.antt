@@ -5,7 +5,7 @@ use Rattle.std.proofs.Common.{sym, ◌∙◌}
 use Rattle.base.specs.Pick.{pick}
 use Rattle.base.specs.PickLaws.{pick_true, pick_false, pick_either, pick_cases, neither, never}
 use Rattle.base.specs.Bits.{bit}
-use Rattle.base.specs.BitLaws.{bit_cut}
+use Rattle.base.proofs.BitLaws.{bit_cut}
 use Rattle.base.specs.Refusals.{number_above_number, not_served_number, first_of, refusal_by, joined}
 use Rattle.base.specs.declared.Answer.{Answer}
 use Rattle.base.specs.declared.Answer.TheVariants.{Byte, Done, Refused}
@@ -19,7 +19,7 @@ use Rattle.registers.specs.declared.Register.TheVariants.{RbrThr, Ier, IirFcr, L
 use Rattle.registers.specs.Registers.{plain_register, register_at, mcr_kept, kept}
 use Rattle.registers.specs.Modem.{changes_after, msr_of}
 use Rattle.registers.specs.Loopback.{looped}
-use Rattle.registers.specs.LoopbackLaws.{inputs_plain, unchanged}
+use Rattle.registers.proofs.LoopbackLaws.{inputs_plain, unchanged}
 use Rattle.registers.specs.Refusals.{register_above, grounds, refusal}
 use Rattle.channel.specs.declared.Channel.{Channel}
 use Rattle.channel.specs.declared.Stepped.{Stepped}

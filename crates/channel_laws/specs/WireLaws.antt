@@ -20,7 +20,7 @@ use Rattle.registers.specs.Loopback.{inputs_of}
 use Rattle.channel.specs.Status.{inputs}
 use Rattle.channel.specs.Effects.{noticed, receives, after_levels, heard_back, after_time, time_answer}
 use Rattle.channel.specs.Steps.{effect, stepped}
-use Rattle.registers.specs.RefusalLaws.{undivided}
+use Rattle.registers.proofs.RefusalLaws.{undivided}
 use Rattle.channel_laws.specs.RefusalLaws.{done, refused}
 
 module _ (c : Channel) (going : undivided c.settings ≡ false) where

@@ -1,3 +1,4 @@
 pub mod Exemplified
 pub mod Statements
 pub mod Slips
+pub mod DeedLaws

@@ -1,5 +1,5 @@
 -- All statements of this room hold.
-use Rattle.deeds.specs.DeedLaws.{done_fits, cut_fits}
+use Rattle.deeds.proofs.DeedLaws.{done_fits, cut_fits}
 use Rattle.deeds.specs.Statements.{Statements}
 use Rattle.deeds.proofs.Exemplified.{exemplified}
 

@@ -16,12 +16,12 @@ use Rattle.base.specs.Refusals.{Ground, refusal_order, stands, first_of, refusal
 use Rattle.base.specs.RefusalLaws.{none_holds, none_given}
 use Rattle.rates.specs.Rates as list
 use Rattle.rates.specs.Rates.{rates_of, divisors_of, divisor_of}
-use Rattle.rates.specs.RatesLaws as rates
+use Rattle.rates.proofs.RatesLaws as rates
 use Rattle.rates.specs.Row.{row_of}
-use Rattle.rates.specs.BackLaws.{either, listed_rate}
+use Rattle.rates.proofs.BackLaws.{either, listed_rate}
 use Rattle.rates.specs.declared.Found.{Found}
 use Rattle.setting_lines.specs.Reading.{refused_by}
-use Rattle.setting_lines.specs.LineLaws.{no_leading_zero}
+use Rattle.setting_lines.proofs.LineLaws.{no_leading_zero}
 use Rattle.setting_lines.proofs.Statements as lines
 use Rattle.controller.specs.Refusals.{line_above}
 use Rattle.controller.specs.LineLaws.{place_told, place_refused}

@@ -8,7 +8,7 @@ use native.Mathlib.Omega.{arith}
 use lib.Dec.{eqb}
 use Rattle.base.specs.Pick.{pick}
 use Rattle.base.specs.Refusals.{first_of, refusal_by}
-use Rattle.base.specs.BitLaws.{bit_bits}
+use Rattle.base.proofs.BitLaws.{bit_bits}
 use Rattle.base.specs.declared.Answer.{Answer}
 use Rattle.base.specs.declared.Answer.TheVariants as answer
 use Rattle.rank.specs.Sets.{has}
@@ -38,7 +38,7 @@ use Rattle.bench.specs.Steps.{room_refusal, after, answer_to, shown, met, outcom
 use Rattle.bench.specs.MeetLaws.{outcome_dealt, write_met, acknowledge_met, read_met}
 use Rattle.bench.specs.FrameLaws.{mapped_at, chair_small}
 use Rattle.bench.specs.Wired.{Wired}
-use Rattle.bench.specs.WiredLaws.{wired_kept, wired_power_up}
+use Rattle.bench.proofs.WiredLaws.{wired_kept, wired_power_up}
 use Rattle.demands.specs.Demand3.{Calm, owing, heard, told, Names, KeptWaiting, Demand3, Demand3FromPowerUp}
 
 -- ---- what a record sends to the controller

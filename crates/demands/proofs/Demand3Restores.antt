@@ -4,9 +4,9 @@ use mathlib.Core.List.{List}
 use mathlib.Core.Path.{◌≡◌}
 use Rattle.bench.specs.declared.Bench.{Bench}
 use Rattle.bench.specs.Seats.{power_up}
-use Rattle.bench.specs.ValidLaws.{parts}
+use Rattle.bench.proofs.ValidLaws.{parts}
 use Rattle.bench.specs.Wired.{Wired}
-use Rattle.image.specs.ItemLaws.{reached_valid}
+use Rattle.image.proofs.ItemLaws.{reached_valid}
 use Rattle.image.specs.Items.{after_items}
 use Rattle.image.specs.Refusals.{refusal, restored}
 use Rattle.image.proofs.Statements as image

@@ -18,7 +18,7 @@ use Rattle.bench.specs.declared.Bench.{Bench}
 use Rattle.text.specs.Quoted.{quoted}
 use Rattle.channel_image.specs.Places.{at}
 use Rattle.image.specs.declared.Restored.{Restored}
-use Rattle.image.specs.FieldLaws.{front_written, image_fields, fields_image}
+use Rattle.image.proofs.FieldLaws.{front_written, image_fields, fields_image}
 use Rattle.image.specs.RefusalLaws.{header_short, header_unmarked, header_unknown, header_cut, header_taken, restored_refused, restored_good, restored_bad}
 use Rattle.image.specs.Layout.{version_of, place_in, length_in}
 use Rattle.image.specs.Refusals.{marked, known, header_grounds, image_good, restored}

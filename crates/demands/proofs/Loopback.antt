@@ -14,14 +14,14 @@ use Rattle.base.specs.Bits.{bit}
 use Rattle.base.specs.Answers.{value_of, refusal_of}
 use Rattle.base.specs.declared.Answer.{Answer}
 use Rattle.queue.specs.Queue.{capacity, contents}
-use Rattle.queue.specs.QueueLaws.{contents_of}
+use Rattle.queue.proofs.QueueLaws.{contents_of}
 use Rattle.registers.specs.declared.SeatEvent.{SeatEvent}
 use Rattle.registers.specs.declared.SeatEvent.TheVariants.{Read, Write, Arrival, Levels, Time}
 use Rattle.registers.specs.declared.Settings.{Settings}
 use Rattle.registers.specs.Registers.{divisor}
 use Rattle.registers.specs.Refusals as refusing
 use Rattle.registers.specs.RegisterLaws.{divisor_none}
-use Rattle.registers.specs.RefusalLaws.{undivided, mcr_has_no_part, first_held_lem}
+use Rattle.registers.proofs.RefusalLaws.{undivided, mcr_has_no_part, first_held_lem}
 use Rattle.channel.specs.declared.Channel.{Channel}
 use Rattle.channel.specs.declared.Stepped.{Stepped}
 use Rattle.channel.specs.Steps as channel
@@ -44,14 +44,14 @@ use Rattle.seat.specs.declared.Replied.{Replied}
 use Rattle.seat.specs.Steps as seat-step
 use Rattle.seat.specs.StepLaws as seat-laws
 use Rattle.seat.specs.CountLaws.{read_own, write_own, levels_own}
-use Rattle.seat.specs.SoundLaws.{sound_parts}
+use Rattle.seat.proofs.SoundLaws.{sound_parts}
 use Rattle.records.specs.Events.{Record, whole}
 use Rattle.bench.specs.declared.Bench.{Bench}
 use Rattle.bench.specs.Seats.{seat}
 use Rattle.bench.specs.Steps.{outcome}
 use Rattle.bench.specs.DoneLaws.{seat_done_lem, reset_done}
 use Rattle.bench.specs.RunLaws.{all_kept}
-use Rattle.bench.specs.ValidLaws.{at_seat_lem, parts as valid-parts}
+use Rattle.bench.proofs.ValidLaws.{at_seat_lem, parts as valid-parts}
 use Rattle.demands.specs.Loopback.{record_of, channel_at, after_at, answers_at, some_full, NoneFull, leaves, msr_at, OnBench, FedBack, ChangesNoticed, ChangesStand, ResetSetsNone, ArrivalsUnheard, LevelsKept, LevelsLast, LeaverReceived, SeatsSound, cut_to, SentIsReceived, IdleReceivesNothing, OutsideAsBefore}
 
 -- ---- a seat's records are its channel's events

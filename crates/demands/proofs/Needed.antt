@@ -17,7 +17,7 @@ use Rattle.bench.specs.declared.Outcome.{Outcome}
 use Rattle.bench.specs.Seats.{power_up}
 use Rattle.bench.specs.Steps.{outcome}
 use Rattle.bench.specs.Runs.{after_all}
-use Rattle.bench.specs.WiredLaws.{wired_power_up}
+use Rattle.bench.proofs.WiredLaws.{wired_power_up}
 use Rattle.demands.specs.Demand2.{Step}
 use Rattle.demands.specs.Demand3.{KeptWaitingBy, told}
 use Rattle.demands.specs.SeatLedger.{lost_at, dropped_at}

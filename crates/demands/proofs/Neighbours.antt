@@ -41,12 +41,12 @@ use Rattle.seat_image.specs.declared.Found.{Found}
 use Rattle.seat_image.specs.Read.{length_of, found}
 use Rattle.seat_image.specs.ReadLaws.{found_front}
 use Rattle.image.specs.declared.Restored.{Restored}
-use Rattle.image.specs.FieldLaws.{room_at}
+use Rattle.image.proofs.FieldLaws.{room_at}
 use Rattle.image.specs.Items.{Item, gives, restores, item_outcome, after_items}
 use Rattle.image.specs.Layout.{version_of, place_in}
 use Rattle.image.specs.Read.{seat_at, records_from, bench_from}
 use Rattle.image.specs.Refusals as image
-use Rattle.image.specs.RestoredLaws.{taken_of, restored_taken, restored_left}
+use Rattle.image.proofs.RestoredLaws.{taken_of, restored_taken, restored_left}
 use Rattle.demands.specs.Neighbours.{Happening, does, reads, refuses, record_in, restoring, happening, happenings, register_answers, sent_in, View, view, views, Neighbours}
 
 -- ---- a seat by itself

@@ -1,7 +1,7 @@
 -- No second outcome, call by call: each line of OnceCalls in specs/ by a law of Once.
 use mathlib.Core.Path.{◌≡◌, refl, sym, ap, ◌∙◌}
 use Rattle.setting_lines.specs.Writing.{Left}
-use Rattle.setting_lines.specs.LineLaws.{read_one, write_one}
+use Rattle.setting_lines.proofs.LineLaws.{read_one, write_one}
 use Rattle.sheets.specs.OneLaws.{line_one, numbers_one}
 use Rattle.listing.specs.PartLaws.{runs_one}
 use Rattle.lesson.specs.Lesson.{handed_out}

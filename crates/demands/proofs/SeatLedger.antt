@@ -14,8 +14,8 @@ use Rattle.base.specs.Subsequences.{Subsequence}
 use Rattle.queue.specs.declared.Character.{Character}
 use Rattle.receiver.specs.Ledger.{Moment, resets, Side, Handed, characters, bytes, arrived_in, read_in, lost_in, dropped_in, queued}
 use Rattle.receiver.specs.Ledger as side-run
-use Rattle.receiver.specs.LedgerLaws.{ledger}
-use Rattle.receiver.specs.SideLaws.{after_both, arrived_both, read_both, lost_both, dropped_both}
+use Rattle.receiver.proofs.LedgerLaws.{ledger}
+use Rattle.receiver.proofs.SideLaws.{after_both, arrived_both, read_both, lost_both, dropped_both}
 use Rattle.registers.specs.declared.SeatEvent.{SeatEvent}
 use Rattle.channel.specs.Moments.{telling, told_in}
 use Rattle.seat.specs.declared.Seat.{Seat}

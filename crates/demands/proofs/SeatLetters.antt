@@ -14,10 +14,10 @@ use Rattle.base.specs.declared.Answer.{Answer}
 use Rattle.base.specs.declared.Answer.TheVariants.{Byte, Sent, Idle, Break}
 use Rattle.receiver.specs.Ledger.{Handed, Side, held, at_power_up, read_in}
 use Rattle.receiver.specs.Letters.{Letters}
-use Rattle.receiver.specs.LetterLaws.{letters}
+use Rattle.receiver.proofs.LetterLaws.{letters}
 use Rattle.registers.specs.declared.SeatEvent.{SeatEvent}
 use Rattle.registers.specs.declared.SeatEvent.TheVariants.{Read, Write, Arrival, Levels, Time}
-use Rattle.registers.specs.RefusalLaws.{accepts, accepted}
+use Rattle.registers.proofs.RefusalLaws.{accepts, accepted}
 use Rattle.channel.specs.declared.Channel.{Channel}
 use Rattle.channel.specs.declared.Stepped.{Stepped}
 use Rattle.channel.specs.Parts.{divisor_shown}

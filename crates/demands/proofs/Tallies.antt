@@ -13,11 +13,11 @@ use Rattle.base.specs.Subsequences.{Subsequence}
 use Rattle.queue.specs.declared.Character.{Character}
 use Rattle.receiver.specs.Receiver.{restarted}
 use Rattle.receiver.specs.Ledger as side-run
-use Rattle.receiver.specs.LedgerLaws.{ledger}
+use Rattle.receiver.proofs.LedgerLaws.{ledger}
 use Rattle.seat.specs.declared.Seat.{Seat}
 use Rattle.seat.specs.Acts.{Act, resets, acted, acted_all}
 use Rattle.seat.specs.Receiving.{side, befalls_by, befalling, receives_soundly}
-use Rattle.seat.specs.SoundLaws.{sound_parts, acts_moved}
+use Rattle.seat.proofs.SoundLaws.{sound_parts, acts_moved}
 use Rattle.seat.specs.TallyLaws.{Moved, sum, heard_soundly}
 use Rattle.records.specs.Events.{Record, seat_count, decoded}
 use Rattle.bench.specs.declared.Bench.{Bench}
@@ -29,12 +29,12 @@ use Rattle.bench.specs.Valid.{valid}
 use Rattle.bench.specs.MeetLaws.{outcome_dealt}
 use Rattle.bench.specs.FrameLaws.{seat_acts}
 use Rattle.bench.specs.RunLaws.{all_kept, seat_runs}
-use Rattle.bench.specs.ValidLaws as bench
+use Rattle.bench.proofs.ValidLaws as bench
 use Rattle.image.specs.declared.Restored.{Restored}
 use Rattle.image.specs.Items.{Item, gives, restores, given, item_outcome, after_items}
 use Rattle.image.specs.Read.{bench_from}
 use Rattle.image.specs.Refusals as image
-use Rattle.image.specs.RestoredLaws.{taken_of, restored_taken, restored_left, restored_valid}
+use Rattle.image.proofs.RestoredLaws.{taken_of, restored_taken, restored_left, restored_valid}
 use Rattle.demands.specs.SeatLedger.{befalls_in, arrived_at, read_at, queued_at}
 use Rattle.demands.specs.Tallies.{five_at, Since, since, since_all, counting, CountingBegins, KeepsTallies, TalliesAddUp}
 use Rattle.demands.proofs.Demand2.{outcome_meets, demand_2}

@@ -17,11 +17,11 @@ use Rattle.seat.specs.declared.Replied.{Replied}
 use Rattle.seat.specs.Seats.{five}
 use Rattle.seat.specs.Acts.{Act, acted_all}
 use Rattle.seat.specs.Moves.{moved}
-use Rattle.seat.specs.MoveLaws.{five_moved, five_reset}
+use Rattle.seat.proofs.MoveLaws.{five_moved, five_reset}
 use Rattle.seat.specs.Steps as step
 use Rattle.seat.specs.StepLaws.{own, number_of, step_taken, step_refused}
 use Rattle.seat.specs.CountLaws.{Told, read_told, write_told, levels_told, arrival_told, time_told, full_passes, room_within}
-use Rattle.seat.specs.SoundLaws.{sound_parts}
+use Rattle.seat.proofs.SoundLaws.{sound_parts}
 use Rattle.seat.specs.TallyLaws.{sum}
 use Rattle.records.specs.Events.{seat_count, decoded}
 use Rattle.bench.specs.declared.Bench.{Bench}
@@ -35,7 +35,7 @@ use Rattle.bench.specs.Valid.{valid}
 use Rattle.bench.specs.FrameLaws.{chair_own}
 use Rattle.bench.specs.DoneLaws.{reset_done}
 use Rattle.bench.specs.OutcomeLaws.{outcome_number, outcome_refused}
-use Rattle.bench.specs.ValidLaws as bench
+use Rattle.bench.proofs.ValidLaws as bench
 use Rattle.demands.specs.Loopback.{record_of, channel_at, OnBench}
 use Rattle.demands.specs.Tallies.{five_at, Moves, TalliesMove, would_receive, Full, FullExactly, TalliesTold}
 use Rattle.demands.proofs.Loopback.{by_kind, number_at, never_19}

@@ -3,9 +3,9 @@ use mathlib.Core.Path.{refl}
 use native.Mathlib.Omega.{arith}
 use Rattle.base.specs.Answers.{refusal_of}
 use Rattle.bench.specs.Seats.{power_up}
-use Rattle.bench.specs.ValidLaws as bench
+use Rattle.bench.proofs.ValidLaws as bench
 use Rattle.image.specs.Items.{after_items}
-use Rattle.image.specs.ItemLaws.{items_kept}
+use Rattle.image.proofs.ItemLaws.{items_kept}
 use Rattle.demands.specs.TallyRuns.{FiveMove, FullRefused, NearlyRefused, TalliesMet, full_items}
 use Rattle.demands.proofs.Opened.{laid_open, of_images}
 use Rattle.demands.proofs.Tallies.{tallies_add_up}

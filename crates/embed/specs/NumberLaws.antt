@@ -2,7 +2,7 @@
 use Rattle.std.specs.Prelude.{ℕ, ◌≡◌}
 use Rattle.std.proofs.Common.{sym, ◌∙◌, arith}
 use Rattle.rates.specs.Rates.{divisor_of}
-use Rattle.rates.specs.RatesLaws.{clock_refused}
+use Rattle.rates.proofs.RatesLaws.{clock_refused}
 use Rattle.controller.specs.declared.Controller.{Controller}
 use Rattle.controller.specs.Steps.{placed}
 use Rattle.controller.specs.LineLaws.{place_refused}

@@ -3,7 +3,7 @@ use Rattle.std.specs.Prelude.{ℕ, false, List, ◌≡◌}
 use Rattle.std.proofs.Common.{ap, sym, ◌∙◌}
 use Rattle.base.specs.declared.Answer.TheVariants.{Byte, Divisor}
 use Rattle.c_word.specs.Word.{word_of}
-use Rattle.setting_lines.specs.LineLaws.{read_one, write_one}
+use Rattle.setting_lines.proofs.LineLaws.{read_one, write_one}
 use Rattle.setting_lines.specs.Writing.{Left}
 use Rattle.setting_lines.specs.declared.Setting.{Setting}
 use Rattle.embed.specs.Settings.{given_unless, ReadsTold, WritesTold}

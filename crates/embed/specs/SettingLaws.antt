@@ -7,16 +7,16 @@ use Rattle.base.specs.declared.Answer.TheVariants.{Divisor, Refused}
 use Rattle.c_word.specs.Numbers.{as_byte, as_divisor}
 use Rattle.c_word.specs.NumberLaws.{up_to_below, up_to_past, told_up_to}
 use Rattle.rates.specs.Rates.{first, second, third, divisors_of, divisor_of, rate_of}
-use Rattle.rates.specs.RatesLaws.{answered, clock_refused}
-use Rattle.rates.specs.BackLaws.{rate_none, either}
+use Rattle.rates.proofs.RatesLaws.{answered, clock_refused}
+use Rattle.rates.proofs.BackLaws.{rate_none, either}
 use Rattle.rates.specs.declared.Found.{Found}
 use Rattle.setting_lines.specs.Fields.{Shape, Sized, line_of, lcr_of}
 use Rattle.setting_lines.specs.Guess.{good}
 use Rattle.setting_lines.specs.Reading.{setting_by, Reads}
 use Rattle.setting_lines.specs.Writing.{Left, left, written_by, NoShape, Writes}
 use Rattle.setting_lines.specs.CaseLaws.{WriteCase, no_shape, unrated, short, lined, write_case}
-use Rattle.setting_lines.specs.LineLaws.{line_short}
-use Rattle.setting_lines.specs.RateLaws.{listed_rated}
+use Rattle.setting_lines.proofs.LineLaws.{line_short}
+use Rattle.setting_lines.proofs.RateLaws.{listed_rated}
 use Rattle.setting_lines.specs.ShapeLaws.{lcr_good}
 use Rattle.setting_lines.specs.declared.Setting.{Setting}
 use Rattle.setting_lines.specs.declared.Written.{Written}

@@ -5,8 +5,8 @@ use mathlib.Core.Path.{◌≡◌, ap, sym, ◌∙◌}
 use lib.ListN.{get_or}
 use Rattle.base.specs.Answers.{refusal_of, value_of}
 use Rattle.rates.specs.Rates.{divisor_of}
-use Rattle.rates.specs.RatesLaws.{clock_refused}
-use Rattle.rates.specs.ListedLaws.{rates, shown, no_other_rate}
+use Rattle.rates.proofs.RatesLaws.{clock_refused}
+use Rattle.rates.proofs.ListedLaws.{rates, shown, no_other_rate}
 use Rattle.bench.specs.FrameLaws.{mapped_at}
 use Rattle.c_word.specs.Word.{answer_in, refusal_in}
 use Rattle.embed.proofs.hailstoat_divisor.Reads as divisor

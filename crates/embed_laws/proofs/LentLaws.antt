@@ -36,7 +36,7 @@ use Rattle.seat.specs.declared.Seat.{Seat}
 use Rattle.seat.specs.declared.Replied.{Replied}
 use Rattle.seat.specs.declared.Five.{Five}
 use Rattle.seat.specs.Seats.{five}
-use Rattle.seat.specs.SoundLaws.{sound_parts}
+use Rattle.seat.proofs.SoundLaws.{sound_parts}
 use Rattle.seat.specs.TallyLaws.{sum}
 use Rattle.seat.specs.Steps as step
 use Rattle.seat.specs.StepLaws.{step_taken}
@@ -58,14 +58,14 @@ use Rattle.bench.specs.Seats.{power_up, seat}
 use Rattle.bench.specs.Tallies.{tallies_of, no_five}
 use Rattle.bench.specs.TalliedLaws.{tallied_told, tallied_refused}
 use Rattle.bench.specs.Valid.{valid}
-use Rattle.bench.specs.ValidLaws.{parts, at_seat_lem}
+use Rattle.bench.proofs.ValidLaws.{parts, at_seat_lem}
 use Rattle.bench.specs.DoneLaws.{seat_answer}
 use Rattle.bench.specs.MeetLaws.{outcome_dealt}
 use Rattle.bench.specs.Steps.{shown, dealt, outcome}
 use Rattle.bench.specs.OutcomeLaws.{outcome_output, outcome_refused}
 use Rattle.c_word.specs.Word.{answer_in, refusal_in, output_in, marks_in, behind_in, Tells}
 use Rattle.c_bench.specs.Told.{Told}
-use Rattle.c_word.specs.WordLaws.{letter_back}
+use Rattle.c_word.proofs.WordLaws.{letter_back}
 use Rattle.c_bench.specs.Outputs.{outputs, outputs_at}
 use Rattle.c_bench.specs.OutputsLaws.{outputs_told, outputs_refused}
 use Rattle.embed_laws.specs.Zeroed.{zeroed}

@@ -3,3 +3,7 @@ pub mod Outside
 pub mod Returning
 pub mod Statements
 pub mod Slips
+pub mod BackLaws
+pub mod FieldLaws
+pub mod ItemLaws
+pub mod RestoredLaws

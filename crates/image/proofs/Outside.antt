@@ -29,8 +29,8 @@ use Rattle.seat_image.specs.ReadLaws.{found_front}
 use Rattle.channel_image.specs.Written.{front_bytes, channel_bytes}
 use Rattle.seat_image.specs.Words.{word_bytes}
 use Rattle.seat_image.specs.Written.{tally_bytes, record_of}
-use Rattle.seat_image.specs.BackLaws.{record_length_lem}
-use Rattle.image.specs.FieldLaws.{front_written}
+use Rattle.seat_image.proofs.BackLaws.{record_length_lem}
+use Rattle.image.proofs.FieldLaws.{front_written}
 use Rattle.image.specs.Layout.{image_length, length_in, version_of, place_in, controller_part, record_place}
 use Rattle.image.specs.PlaceLaws.{inside, front_inside}
 use Rattle.image.specs.Read.{record_at, seat_at, good_at, records_from, bench_from}

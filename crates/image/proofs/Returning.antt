@@ -20,15 +20,15 @@ use Rattle.bench.specs.Seats.{lines}
 use Rattle.bench.specs.Valid.{valid}
 use Rattle.channel_image.specs.Fields.{byte_at}
 use Rattle.image.specs.declared.Restored.{Restored}
-use Rattle.image.specs.BackLaws.{restored_saved, restored_buffer}
-use Rattle.image.specs.ItemLaws.{reached_valid}
+use Rattle.image.proofs.BackLaws.{restored_saved, restored_buffer}
+use Rattle.image.proofs.ItemLaws.{reached_valid}
 use Rattle.image.specs.Items.{item_outcomes, after_items}
 use Rattle.image.specs.Layout.{image_length, version_of, place_in, stretch}
 use Rattle.image.specs.PlaceLaws.{place_with, place_without}
 use Rattle.image.specs.Read.{seat_at, records_from, bench_from}
 use Rattle.image.specs.Refusals.{restored, refusal}
-use Rattle.image.specs.RestoredLaws.{taken_of, restored_taken, restored_left, restored_valid, saved_restored, controller_back, record_back}
-use Rattle.image.specs.RestoredLaws as law
+use Rattle.image.proofs.RestoredLaws.{taken_of, restored_taken, restored_left, restored_valid, saved_restored, controller_back, record_back}
+use Rattle.image.proofs.RestoredLaws as law
 use Rattle.image.specs.ThereAndBack.{ReadBack, AnswersAlike, WrittenBack, Versions, OlderWrittenBack, OneToOne, Untouched, NoEdge, Reached}
 use Rattle.image.specs.Written.{header, controller_bytes, image_of, Saves}
 use Rattle.image.specs.WrittenLaws.{image_length_lem}

@@ -1,5 +1,5 @@
 -- All statements of this room hold.
-use Rattle.image.specs.FieldLaws.{exactly}
+use Rattle.image.proofs.FieldLaws.{exactly}
 use Rattle.image.specs.Statements.{Statements}
 use Rattle.image.proofs.Numbering.{numbers, save_numbers}
 use Rattle.image.proofs.Outside.{placed, power_up_image, stays}

@@ -7,11 +7,7 @@ pub mod WrittenLaws
 pub mod ReadLaws
 pub mod RefusalLaws
 pub mod Fields
-pub mod BackLaws
-pub mod FieldLaws
-pub mod RestoredLaws
 pub mod Items
-pub mod ItemLaws
 pub mod Numbers
 pub mod ThereAndBack
 pub mod Statements

@@ -14,7 +14,7 @@ use Rattle.records.specs.Events.{seat_count}
 use Rattle.bench.specs.declared.Bench.{Bench}
 use Rattle.seat_image.specs.Written.{record_length}
 use Rattle.seat_image.specs.Written.{record_of, has_room}
-use Rattle.seat_image.specs.BackLaws.{record_length_lem}
+use Rattle.seat_image.proofs.BackLaws.{record_length_lem}
 use Rattle.image.specs.Layout.{image_length}
 use Rattle.image.specs.Written.{controller_bytes, records_of, image_of}
 

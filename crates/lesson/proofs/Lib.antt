@@ -4,3 +4,7 @@ pub mod Ends
 pub mod Stops
 pub mod Slips
 pub mod LentLaws
+pub mod CauseLaws
+pub mod PlaceLaws
+pub mod RecordLaws
+pub mod ShortLaws

@@ -7,14 +7,10 @@ pub mod Lesson
 pub mod Plain
 pub mod TextLaws
 pub mod FaultLaws
-pub mod PlaceLaws
 pub mod LessonLaws
 pub mod EvenLaws
 pub mod WrittenLaws
 pub mod BlankLaws
 pub mod RoomLaws
-pub mod RecordLaws
-pub mod CauseLaws
-pub mod ShortLaws
 pub mod ByteCountLaws
 pub mod CommentLaws

@@ -11,8 +11,8 @@ use denote.Triple.Entry.{Args, Res}
 use denote.Triple.Clauses.{Lasts, at_exit}
 use lib.ListN.{take, drop}
 use Rattle.listing.specs.Run.{records_of, listing, Runs}
-use Rattle.listing.specs.RoomLaws.{rest_left}
-use Rattle.listing.specs.OnwardLaws.{run_shown}
+use Rattle.listing.proofs.RoomLaws.{rest_left}
+use Rattle.listing.proofs.OnwardLaws.{run_shown}
 use Rattle.listing.specs.contracts.runs.run as runs
 
 module _ {M : Type 1} {𝓤 : Ura M} (𝓛 : Logic 𝓤) (mem : Memory → SProp 𝓤) (routine : Routine → Fun 𝓤) where

@@ -6,5 +6,3 @@ pub mod KeptLaws
 pub mod RunLaws
 pub mod PartLaws
 pub mod ShownLaws
-pub mod RoomLaws
-pub mod OnwardLaws

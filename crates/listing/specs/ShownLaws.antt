@@ -7,7 +7,7 @@ use Rattle.bench.specs.Runs.{after_all}
 use Rattle.bench.specs.Steps.{outcome}
 use Rattle.bench.specs.OutcomeLaws.{outcome_output}
 use Rattle.bench.specs.declared.Bench.{Bench}
-use Rattle.text.specs.FormLaws.{Form, line_form, line_ends, none_ends, ends_append, form_ends}
+use Rattle.text.proofs.FormLaws.{Form, line_form, line_ends, none_ends, ends_append, form_ends}
 use Rattle.listing.specs.Run.{records_of, line_of, listing, number_end}
 use Rattle.listing.specs.RunLaws.{listing_parts}
 

@@ -4,8 +4,8 @@ use Rattle.base.specs.Pick.{pick}
 use Rattle.base.specs.Bits.{bit}
 use Rattle.text.specs.Line.{digits_within, decimal}
 use Rattle.moves.specs.Moved.{counted, turned, troubles_moved, changes_moved, seat_moved, controller_moved, line_words, line_turned, lines_turned, first_moved}
-use Rattle.moves.specs.MovedLaws.{seat_fits, controller_fits, seat_pieces_lem, controller_pieces_lem}
-use Rattle.moves.specs.StillLaws.{none_joined, seat_still, controller_still}
+use Rattle.moves.proofs.MovedLaws.{seat_fits, controller_fits, seat_pieces_lem, controller_pieces_lem}
+use Rattle.moves.proofs.StillLaws.{none_joined, seat_still, controller_still}
 use Rattle.moves.specs.Examples.{Examples}
 use Rattle.moves.specs.Statements.{Statements}
 

@@ -1,6 +1,4 @@
 pub mod Moved
-pub mod MovedLaws
-pub mod StillLaws
 pub mod Uncut
 pub mod Untold
 pub mod Examples

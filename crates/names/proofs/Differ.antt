@@ -13,7 +13,7 @@ use Rattle.base.specs.PickLaws.{either_way}
 use Rattle.base.specs.Every.{every}
 use Rattle.base.specs.EveryLaws.{every_at}
 use Rattle.text.specs.Line.{capital}
-use Rattle.text.specs.FormLaws.{hex_denoted, capital_denotes}
+use Rattle.text.proofs.FormLaws.{hex_denoted, capital_denotes}
 use Rattle.page.specs.Pieces.{hex}
 use Rattle.names.specs.Words.{later_words, refusal_words, iir_words, lsr_said, msr_said}
 use Rattle.names.specs.Differ.{RefusalsDiffer, BytesDiffer}

@@ -8,7 +8,7 @@ use Rattle.base.specs.Bits.{bit}
 use Rattle.text.specs.Quoted.{quoted}
 use Rattle.text.specs.Line.{numeral, letter_a, decimal, capital}
 use Rattle.text.specs.DecimalLaws.{decimal_length}
-use Rattle.text.specs.FormLaws.{Digits, decimal_digits}
+use Rattle.text.proofs.FormLaws.{Digits, decimal_digits}
 use Rattle.page.specs.Columns.{OneLine, AllOneLine}
 use Rattle.page.specs.FitLaws.{no_feed, one_line}
 use Rattle.page.specs.Pieces.{hex, letter}

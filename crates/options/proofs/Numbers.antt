@@ -15,7 +15,7 @@ use Rattle.text.specs.Line.{decimal}
 use Rattle.text.specs.Hex.{digit as worth}
 use Rattle.text.specs.HexLaws.{numeral_worth, worth_numeral}
 use Rattle.text.specs.DecimalLaws.{front_length}
-use Rattle.text.specs.FormLaws.{denoted, Digits, decimal_denotes, decimal_digits}
+use Rattle.text.proofs.FormLaws.{denoted, Digits, decimal_denotes, decimal_digits}
 use Rattle.options.specs.Moments.{many, same_bytes, is, with_digit, number_from, number_of, moment_of}
 use Rattle.options.specs.SameLaws.{same_only}
 use Rattle.options.specs.SaveMoments.{count_of, MomentsRead, MomentsOnly}

@@ -2,7 +2,7 @@
 use Rattle.std.specs.Prelude.{ℕ, ◌+◌, ◌≤◌, ◌<◌, List, ◌⊎◌, ◌≡◌, length}
 use Rattle.text.specs.Quoted.{quoted}
 use Rattle.text.specs.Line.{decimal}
-use Rattle.text.specs.FormLaws.{denoted, Digits}
+use Rattle.text.proofs.FormLaws.{denoted, Digits}
 use Rattle.options.specs.Moments.{many, moment_of}
 use Rattle.options.specs.declared.Moment.{Moment}
 use Rattle.options.specs.declared.Moment.TheVariants.{Behind, End, Unread}

@@ -8,14 +8,14 @@ use Rattle.base.specs.Pick.{pick}
 use Rattle.base.specs.Bits.{bit}
 use Rattle.base.specs.Answers.{no_figures}
 use Rattle.base.specs.PickLaws.{pick_true, pick_false}
-use Rattle.base.specs.BitLaws.{bit_or_lem}
+use Rattle.base.proofs.BitLaws.{bit_or_lem}
 use Rattle.queue.specs.declared.Character.{Character}
 use Rattle.queue.specs.declared.Queue.{Queue}
 use Rattle.queue.specs.declared.Put.{Put}
 use Rattle.queue.specs.declared.Taken.{Taken}
 use Rattle.queue.specs.Queue.{empty_queue, capacity, accepted, taken, plain, oldest, unmarked, any_marked, marked}
-use Rattle.queue.specs.QueueLaws.{holding, take_oldest, unmark_oldest, unmark_none, oldest_is, oldest_none, marked_is}
-use Rattle.queue.specs.AcceptLaws.{accept_room, accept_lost, accept_replaced, accept_cases}
+use Rattle.queue.proofs.QueueLaws.{holding, take_oldest, unmark_oldest, unmark_none, oldest_is, oldest_none, marked_is}
+use Rattle.queue.proofs.AcceptLaws.{accept_room, accept_lost, accept_replaced, accept_cases}
 use Rattle.receiver.specs.declared.Receiver.{Receiver}
 use Rattle.receiver.specs.declared.Got.{Got}
 use Rattle.receiver.specs.Receiver.{quiet, none_queued, count_after_arrival, received, got, shown_marks, some_marked, lsr_seen, cleared, after_mode_change, fcr_heard, restarted, data_stands}

@@ -1,7 +1,7 @@
 -- What IER and MCR keep of a byte, bit by bit.
 use Rattle.std.specs.Prelude.{ℕ, ◌&&◌, ◌≡◌, ltb}
 use Rattle.base.specs.Bits.{bit}
-use Rattle.base.specs.BitLaws.{bit_cut}
+use Rattle.base.proofs.BitLaws.{bit_cut}
 use Rattle.registers.specs.declared.Settings.{Settings}
 use Rattle.registers.specs.declared.Register.TheVariants.{Ier, Mcr}
 use Rattle.registers.specs.Registers.{kept}

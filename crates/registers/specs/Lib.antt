@@ -4,9 +4,5 @@ pub mod Modem
 pub mod Loopback
 pub mod Refusals
 pub mod RegisterLaws
-pub mod RefusalLaws
-pub mod ArrivalLaws
 pub mod KeptLaws
 pub mod WordLaws
-pub mod ModemLaws
-pub mod LoopbackLaws

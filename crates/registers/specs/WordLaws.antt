@@ -3,7 +3,7 @@ use Rattle.std.specs.Prelude.{ℕ, ◌+◌, ◌%◌, ◌^◌, ◌<◌, ◌≤◌
 use Rattle.std.proofs.Common.{ap, sym, ◌∙◌, ⊎_elim, mod-lt, mod-eq_of_lt, arith, pow_pos, leb-true, leb-false, eq-eqb, ne_eqb}
 use Rattle.base.specs.PickLaws.{either_way}
 use Rattle.base.specs.Bits.{bit}
-use Rattle.base.specs.BitLaws.{bit_cut}
+use Rattle.base.proofs.BitLaws.{bit_cut}
 use Rattle.registers.specs.Words.{word_bits, cut, beyond_word}
 
 -- "cut to the word length", of 5 to 8 bits: the lower bits are the byte's, the others clear

@@ -5,7 +5,7 @@ use Rattle.base.specs.PickLaws.{pick_true, pick_false, never, not_both, neither,
 use Rattle.receiver.specs.Ledger.{Moment, Side, after_all, arrived_in}
 use Rattle.receiver.specs.Ledger as moment
 use Rattle.receiver.specs.Lasting as side
-use Rattle.receiver.specs.LastingLaws.{lasting}
+use Rattle.receiver.proofs.LastingLaws.{lasting}
 use Rattle.registers.specs.declared.SeatEvent.{SeatEvent}
 use Rattle.registers.specs.declared.SeatEvent.TheVariants.{Arrival}
 use Rattle.channel.specs.Parts.{in_loopback}

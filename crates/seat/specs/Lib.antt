@@ -9,9 +9,7 @@ pub mod StepLaws
 pub mod CountLaws
 pub mod ActLaws
 pub mod TallyLaws
-pub mod SoundLaws
 pub mod Moves
-pub mod MoveLaws
 pub mod ReceivingLaws
 pub mod Lasting
 pub mod LastingLaws

@@ -3,8 +3,8 @@ use Rattle.std.specs.Prelude.{◌≡◌, true, false, List, [], ◌∷◌, ◌==
 use Rattle.std.proofs.Common.{ap, sym, subst, ◌∙◌, ⊎_elim}
 use Rattle.base.specs.PickLaws.{pick_true, pick_false, either_way}
 use Rattle.receiver.specs.Ledger.{Moment, Side, after_all, read_in, queued}
-use Rattle.receiver.specs.SideLaws.{after_both}
-use Rattle.receiver.specs.SoundLaws as receiver
+use Rattle.receiver.proofs.SideLaws.{after_both}
+use Rattle.receiver.proofs.SoundLaws as receiver
 use Rattle.registers.specs.declared.SeatEvent.{SeatEvent}
 use Rattle.channel.specs.Moments.{accepted_moments, told_in}
 use Rattle.channel_laws.specs.MomentLaws as channel

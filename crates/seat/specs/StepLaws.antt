@@ -11,7 +11,7 @@ use Rattle.receiver.specs.Ledger.{arrived_in}
 use Rattle.registers.specs.declared.SeatEvent.{SeatEvent}
 use Rattle.registers.specs.declared.SeatEvent.TheVariants.{Read, Write, Arrival, Levels, Time}
 use Rattle.registers.specs.Refusals as registers
-use Rattle.registers.specs.RefusalLaws as registers-laws
+use Rattle.registers.proofs.RefusalLaws as registers-laws
 use Rattle.channel.specs.declared.Stepped as channel
 use Rattle.channel.specs.Moments.{accepted_moments}
 use Rattle.channel.specs.Steps as channel-step

@@ -5,8 +5,8 @@ use Rattle.base.specs.PickLaws.{pick_true, pick_false, not_both, both_hold, eith
 use Rattle.receiver.specs.Ledger.{Moment, Side, number, arrived_in, read_in, lost_in, dropped_in, after_all}
 use Rattle.receiver.specs.Ledger as moment
 use Rattle.receiver.specs.Sound.{sound_receiver}
-use Rattle.receiver.specs.LedgerLaws.{balanced_number}
-use Rattle.receiver.specs.SideLaws.{arrived_both, read_both, lost_both, dropped_both}
+use Rattle.receiver.proofs.LedgerLaws.{balanced_number}
+use Rattle.receiver.proofs.SideLaws.{arrived_both, read_both, lost_both, dropped_both}
 use Rattle.registers.specs.declared.SeatEvent.{SeatEvent}
 use Rattle.channel.specs.Moments.{accepted_moments}
 use Rattle.channel.specs.Sound.{sound_channel}

@@ -3,7 +3,7 @@ use mathlib.Core.Path.{◌∙◌}
 use borrow.Author.Tests.{le-leb, lt-leb}
 use Rattle.base.specs.PickLaws.{pick_true, pick_false}
 use Rattle.base.specs.StoreLaws.{stored_first}
-use Rattle.seat_image.specs.BackLaws.{record_length_lem}
+use Rattle.seat_image.proofs.BackLaws.{record_length_lem}
 use Rattle.seat_image.specs.ReadLaws.{found_short}
 use Rattle.seat_image.specs.ThereAndBack.{Lent}
 use Rattle.seat_image.specs.Written.{record_length, record_of}

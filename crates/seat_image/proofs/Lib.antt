@@ -3,3 +3,5 @@ pub mod Older
 pub mod Lending
 pub mod Statements
 pub mod Slips
+pub mod BackLaws
+pub mod FieldLaws

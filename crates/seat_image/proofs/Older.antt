@@ -8,7 +8,7 @@ use lib.ListN.{length}
 use lib.Seq.{get_or-take, take_all}
 use Rattle.base.specs.PickLaws.{pick_true, pick_false, never}
 use Rattle.channel_image.specs.Fields.{byte_at}
-use Rattle.seat_image.specs.BackLaws.{found_older, new_back}
+use Rattle.seat_image.proofs.BackLaws.{found_older, new_back}
 use Rattle.seat_image.specs.Read.{has_tallies, queued_only, new_record, found}
 use Rattle.seat_image.specs.ReadLaws.{has_none, whole, found_well}
 use Rattle.seat_image.specs.ThereAndBack.{Older}

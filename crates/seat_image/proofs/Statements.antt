@@ -1,6 +1,6 @@
 -- All statements of this room hold.
-use Rattle.seat_image.specs.BackLaws.{found_written, written_back, good_sound}
-use Rattle.seat_image.specs.FieldLaws.{exactly}
+use Rattle.seat_image.proofs.BackLaws.{found_written, written_back, good_sound}
+use Rattle.seat_image.proofs.FieldLaws.{exactly}
 use Rattle.seat_image.specs.Statements.{Statements}
 use Rattle.seat_image.proofs.Lending.{lent}
 use Rattle.seat_image.proofs.Older.{older}

@@ -3,9 +3,9 @@ use mathlib.Core.Path.{refl}
 use lib.Seq.{take_at}
 use Rattle.channel_image.proofs.Telling as channel
 use Rattle.channel_image.specs.Written.{front_bytes, channel_bytes}
-use Rattle.channel_image.specs.WrittenLaws.{channel_length_lem}
+use Rattle.channel_image.proofs.WrittenLaws.{channel_length_lem}
 use Rattle.seat.specs.Seats.{queued}
-use Rattle.seat_image.specs.BackLaws.{record_length_lem}
+use Rattle.seat_image.proofs.BackLaws.{record_length_lem}
 use Rattle.seat_image.specs.Told.{Told}
 use Rattle.seat_image.specs.Words.{word_bytes}
 use Rattle.seat_image.specs.Written.{tally_bytes, record_of}

@@ -7,5 +7,3 @@ pub mod ThereAndBack
 pub mod Statements
 pub mod WordLaws
 pub mod ReadLaws
-pub mod FieldLaws
-pub mod BackLaws

@@ -14,7 +14,7 @@ use Rattle.channel_image.specs.Allowed.{channel_good}
 use Rattle.channel_image.specs.Places.{at, channel_length, received_place}
 use Rattle.channel_image.specs.Read as first
 use Rattle.channel_image.specs.Read.{channel_from, receiver_from}
-use Rattle.channel_image.specs.ReadLaws as first-laws
+use Rattle.channel_image.proofs.ReadLaws as first-laws
 use Rattle.seat_image.specs.declared.Found.{Found}
 use Rattle.seat_image.specs.Read.{has_tallies, length_of, channel_part, tally_part, queued_only, tallies_in, new_record}
 use Rattle.seat_image.specs.Read.{tallies_from, tallies_good, seat_from, record_good, none_found, found}

@@ -9,7 +9,7 @@ use borrow.Author.Tests.{eqb-true, eq-eqb}
 use Rattle.base.specs.PickLaws.{neither, both_hold, not_both}
 use Rattle.queue.specs.declared.Queue.{Queue}
 use Rattle.queue.specs.Queue.{empty_queue, capacity, canonical, contents, marked}
-use Rattle.queue.specs.CanonicalLaws.{holding_canonical, contents_determine}
+use Rattle.queue.proofs.CanonicalLaws.{holding_canonical, contents_determine}
 use Rattle.registers.specs.declared.Settings.{Settings}
 use Rattle.registers.specs.Registers.{fcr_kept}
 use Rattle.receiver.specs.declared.Receiver.{Receiver}

@@ -16,8 +16,8 @@ use Rattle.setting_lines.specs.Reading.{setting_by, Reads}
 use Rattle.setting_lines.specs.Writing.{left, left_by, written_by, Writes}
 use Rattle.setting_lines.specs.Guess.{good, line_by, guessed}
 use Rattle.setting_lines.specs.ShapeLaws.{shape_for, shape_sized, lcr_again, line_by_lem, lcr_good}
-use Rattle.setting_lines.specs.RateLaws.{rated_small}
-use Rattle.setting_lines.specs.GuessLaws.{guess_possible, guess_right}
+use Rattle.setting_lines.proofs.RateLaws.{rated_small}
+use Rattle.setting_lines.proofs.GuessLaws.{guess_possible, guess_right}
 use Rattle.setting_lines.specs.declared.Setting.{Setting}
 use Rattle.setting_lines.specs.declared.Written.{Written}
 use Rattle.setting_lines.specs.declared.guesses.Guess.{Guess}

@@ -26,8 +26,8 @@ use Rattle.setting_lines.specs.SettingRefusals.{Lined, line_with}
 use Rattle.setting_lines.specs.ThereAndBack.{Answered}
 use Rattle.setting_lines.specs.Examples.{Wrote, NotWritten, Example, examples, AllRead, Examples}
 use Rattle.setting_lines.specs.ShapeLaws.{shape_for, shape_sized, lcr_again, lcr_good}
-use Rattle.setting_lines.specs.LineLaws.{read_one, line_short}
-use Rattle.setting_lines.specs.RateLaws.{listed_rated}
+use Rattle.setting_lines.proofs.LineLaws.{read_one, line_short}
+use Rattle.setting_lines.proofs.RateLaws.{listed_rated}
 use Rattle.setting_lines.specs.declared.Setting.{Setting}
 use Rattle.setting_lines.specs.declared.Written.{Written}
 use Rattle.setting_lines.specs.CaseLaws.{write_case}

@@ -8,3 +8,6 @@ pub mod Forty
 pub mod Exemplified
 pub mod Statements
 pub mod Slips
+pub mod GuessLaws
+pub mod LineLaws
+pub mod RateLaws

@@ -10,7 +10,7 @@ use lib.Seq.{drop_at}
 use Rattle.base.specs.Pick.{pick}
 use Rattle.base.specs.declared.Answer.{Answer}
 use Rattle.base.specs.declared.Answer.TheVariants.{Done, Refused}
-use Rattle.rates.specs.RatesLaws.{accepted_only, distinct_answered}
+use Rattle.rates.proofs.RatesLaws.{accepted_only, distinct_answered}
 use Rattle.text.specs.Line.{decimal, digits_within}
 use Rattle.setting_lines.specs.Fields.{N, rate_text, stop_text, shape_text, line_of, lcr_of}
 use Rattle.setting_lines.specs.Reading.{NoLine}
@@ -19,7 +19,7 @@ use Rattle.setting_lines.specs.ThereAndBack.{begun_by}
 use Rattle.setting_lines.specs.Guess.{line_by}
 use Rattle.setting_lines.specs.SettingRefusals.{RateMissing, ReadRefusals, Lined, line_with, DivisorMissing, WriteRefusals, Nothing, Stays, Longest}
 use Rattle.setting_lines.specs.ShapeLaws.{shape, line_by_lem}
-use Rattle.setting_lines.specs.LineLaws.{line_short, one_rate}
+use Rattle.setting_lines.proofs.LineLaws.{line_short, one_rate}
 use Rattle.setting_lines.specs.declared.Setting.{Setting}
 use Rattle.setting_lines.specs.CaseLaws.{ReadCase, no_line, unlisted, meant, read_case}
 use Rattle.setting_lines.specs.CaseLaws.{not_done, WriteCase, no_shape, unrated, short, lined, write_case}

@@ -7,14 +7,14 @@ use lib.ListN.{length, take, drop}
 use lib.Seq.{take_at}
 use Rattle.base.specs.declared.Answer.TheVariants.{Done, Divisor}
 use Rattle.rates.specs.Rates.{divisor_of}
-use Rattle.rates.specs.RatesLaws.{accepted_only}
+use Rattle.rates.proofs.RatesLaws.{accepted_only}
 use Rattle.setting_lines.specs.Fields.{Rated, line_of, lcr_of}
 use Rattle.setting_lines.specs.Reading.{Reads}
 use Rattle.setting_lines.specs.Writing.{Left, left, Writes}
 use Rattle.setting_lines.specs.ThereAndBack.{setting_of, begun_by, ReadBack, WrittenBack}
 use Rattle.setting_lines.specs.SettingRefusals.{Lined, line_with}
-use Rattle.setting_lines.specs.RateLaws.{listed_rated}
-use Rattle.setting_lines.specs.LineLaws.{line_short, one_rate, one_lcr}
+use Rattle.setting_lines.proofs.RateLaws.{listed_rated}
+use Rattle.setting_lines.proofs.LineLaws.{line_short, one_rate, one_lcr}
 use Rattle.setting_lines.specs.declared.Setting.{Setting}
 use Rattle.setting_lines.specs.declared.Written.{Written}
 use Rattle.setting_lines.specs.CaseLaws.{ReadCase, no_line, unlisted, meant, read_case}

@@ -1,6 +1,6 @@
 -- All statements of this room hold.
 use Rattle.setting_lines.specs.Statements.{Statements}
-use Rattle.setting_lines.specs.LineLaws.{no_leading_zero, no_other_character, none_longer}
+use Rattle.setting_lines.proofs.LineLaws.{no_leading_zero, no_other_character, none_longer}
 use Rattle.setting_lines.proofs.Returning.{read_back, written_back}
 use Rattle.setting_lines.proofs.Forty.{forty_bytes}
 use Rattle.setting_lines.proofs.Refusing.{read_refusals, write_refusals, nothing, stays, longest}

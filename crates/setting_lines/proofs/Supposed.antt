@@ -11,7 +11,7 @@ use lib.ListN.{length, get_or, drop, drop_of_length-le}
 use lib.Seq.{drop-cons}
 use Rattle.base.specs.Pick.{pick}
 use Rattle.base.specs.PickLaws.{pick_le, pick_either}
-use Rattle.text.specs.FormLaws.{denoted}
+use Rattle.text.proofs.FormLaws.{denoted}
 use Rattle.setting_lines.specs.Guess.{behind_rate, code_by}
 
 pub none_behind : (line : List ℕ) → length line ≡ 0 → 6 ≡ behind_rate line

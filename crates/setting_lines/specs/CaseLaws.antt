@@ -7,8 +7,8 @@ use Rattle.base.specs.Answers.{refusal_of, value_of}
 use Rattle.base.specs.declared.Answer.{Answer}
 use Rattle.base.specs.declared.Answer.TheVariants.{Done, Divisor, Refused}
 use Rattle.rates.specs.Rates.{divisor_of}
-use Rattle.rates.specs.RatesLaws.{accepted}
-use Rattle.rates.specs.BackLaws.{rate_found, rate_none, divisor_either, either}
+use Rattle.rates.proofs.RatesLaws.{accepted}
+use Rattle.rates.proofs.BackLaws.{rate_found, rate_none, divisor_either, either}
 use Rattle.rates.specs.declared.Found.{Found}
 use Rattle.setting_lines.specs.Fields.{Shape, Sized, Rated, line_of, lcr_of}
 use Rattle.setting_lines.specs.Reading.{refused_by, setting_by, NoLine, Reads}

@@ -4,7 +4,7 @@ use Rattle.std.specs.Prelude.{ℕ, ◌+◌, ◌-◌, ◌*◌, ◌/◌, ◌%◌, 
 use Rattle.base.specs.Pick.{pick}
 use Rattle.base.specs.Bits.{bit, digit}
 use Rattle.text.specs.Line.{numeral}
-use Rattle.text.specs.FormLaws.{denoted}
+use Rattle.text.proofs.FormLaws.{denoted}
 use Rattle.setting_lines.specs.Fields.{N, O, E, M, S, letter, comma, point, rate_text, stop_text}
 use Rattle.setting_lines.specs.declared.guesses.Guess.{Guess}
 

@@ -9,7 +9,4 @@ pub mod SettingRefusals
 pub mod Examples
 pub mod Statements
 pub mod ShapeLaws
-pub mod RateLaws
-pub mod GuessLaws
-pub mod LineLaws
 pub mod CaseLaws

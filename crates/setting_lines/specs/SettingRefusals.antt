@@ -2,7 +2,7 @@
 use Rattle.std.specs.Prelude.{ℕ, ◌≤◌, ◌<◌, List, ◌≡◌, length, drop}
 use Rattle.base.specs.declared.Answer.TheVariants.{Done, Divisor, Refused}
 use Rattle.rates.specs.Rates.{divisor_of}
-use Rattle.rates.specs.RatesLaws.{Listed}
+use Rattle.rates.proofs.RatesLaws.{Listed}
 use Rattle.setting_lines.specs.Fields.{Shape, Sized, Rated, line_of, lcr_of}
 use Rattle.setting_lines.specs.Reading.{NoLine, Reads}
 use Rattle.setting_lines.specs.Writing.{left, NoShape, Writes}

@@ -1,6 +1,6 @@
 // A guess at the setting of a line: right wherever the line is one of a setting, and some setting elsewhere.
 ghost use Rattle.std.specs.Prelude.{◌≡◌, ◌+◌, ◌-◌, ◌≤◌, length};
-ghost use Rattle.text.specs.FormLaws.{denoted};
+ghost use Rattle.text.proofs.FormLaws.{denoted};
 ghost use Rattle.setting_lines.specs.Guess.{behind_rate, halved, code_by, lcr_guess, rate_guess, guess_at, guessed};
 
 #[derive(Clone, Copy)]

@@ -6,7 +6,7 @@ use Rattle.std.proofs.Math.ListN.{length-set}
 use Rattle.std.proofs.Math.Seq.{take-nil}
 use Rattle.base.specs.PickLaws.{pick_true, pick_false, either_way}
 use Rattle.setting_lines.specs.Reading.{NoLine, Reads}
-use Rattle.setting_lines.specs.LineLaws.{none_longer}
+use Rattle.setting_lines.proofs.LineLaws.{none_longer}
 use Rattle.setting_lines.specs.declared.Setting.{Setting}
 use Rattle.sheets.specs.Replies.{LineReply}
 use Rattle.sheets.specs.Kept.{most, no_bytes, kept, line_after, line_behind}

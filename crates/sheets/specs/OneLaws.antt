@@ -4,7 +4,7 @@ use Rattle.std.proofs.Common.{⊎_elim, sym, ap, subst, ◌∙◌}
 use Rattle.base.specs.PickLaws.{either_way}
 use Rattle.base.specs.Answers.{refusal_of}
 use Rattle.setting_lines.specs.Writing.{Left}
-use Rattle.setting_lines.specs.LineLaws.{read_one, write_one}
+use Rattle.setting_lines.proofs.LineLaws.{read_one, write_one}
 use Rattle.sheets.specs.Texts.{setting_text, written_text, AtStart}
 use Rattle.sheets.specs.Numbers.{number, byte, room, four}
 use Rattle.sheets.specs.Replies.{LineReply, FourReply, NumbersReply}

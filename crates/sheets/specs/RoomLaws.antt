@@ -4,7 +4,7 @@ use Rattle.std.proofs.Common.{sym, ap, ◌∙◌, arith}
 use Rattle.std.proofs.Math.Seq.{take-append_seam}
 use Rattle.setting_lines.specs.Writing.{Left, left, left_by, Writes}
 use Rattle.setting_lines.specs.SettingRefusals.{Lined, line_with}
-use Rattle.setting_lines.specs.RateLaws.{listed_rated}
+use Rattle.setting_lines.proofs.RateLaws.{listed_rated}
 use Rattle.setting_lines.specs.declared.Written.{Written}
 use Rattle.setting_lines.specs.CaseLaws.{WriteCase, no_shape, unrated, short, lined, write_case}
 use Rattle.setting_lines.proofs.Statements.{statements}

@@ -12,7 +12,7 @@ use Rattle.setting_lines.specs.Fields.{E, rate_text, stop_text, shape_text, line
 use Rattle.setting_lines.specs.Reading.{setting_by, ReadAs, NoLine, OtherLine, Reads}
 use Rattle.setting_lines.specs.Writing.{Left}
 use Rattle.setting_lines.specs.SettingRefusals.{Lined}
-use Rattle.setting_lines.specs.LineLaws.{read_one}
+use Rattle.setting_lines.proofs.LineLaws.{read_one}
 use Rattle.setting_lines.specs.declared.Setting.{Setting}
 use Rattle.setting_lines.proofs.Statements.{statements}
 use Rattle.sheets.specs.Limits.{up_to}

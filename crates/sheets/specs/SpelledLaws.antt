@@ -6,7 +6,7 @@ use Rattle.base.specs.Pick.{pick}
 use Rattle.base.specs.EveryLaws.{equal_at}
 use Rattle.text.specs.Line.{letter_a, numeral, decimal, capital}
 use Rattle.text.specs.DecimalLaws.{front_length}
-use Rattle.text.specs.FormLaws.{denoted, Digits, decimal_denotes, decimal_digits}
+use Rattle.text.proofs.FormLaws.{denoted, Digits, decimal_denotes, decimal_digits}
 use Rattle.sheets.specs.Limits.{up_to}
 use Rattle.text.specs.Hex.{digit as worth}
 use Rattle.text.specs.HexLaws.{numeral_worth}

@@ -12,11 +12,11 @@ use borrow.Author.Tests.{lt-leb, le-leb, ltb-true, ltb-false}
 use Rattle.base.specs.Pick.{pick}
 use Rattle.base.specs.PickLaws.{pick_true, pick_false, pick_cases, either_way, both_hold, never}
 use Rattle.base.specs.Bits.{bit, digit, bits}
-use Rattle.base.specs.BitLaws.{bit_bits, bits_small, bit_or_lem, bit_power, digit_bit}
+use Rattle.base.proofs.BitLaws.{bit_bits, bits_small, bit_or_lem, bit_power, digit_bit}
 use Rattle.base.specs.ListLaws.{listed, listed_same, listed_at}
 use Rattle.base.specs.declared.Answer.TheVariants.{Byte}
-use Rattle.queue.specs.CanonicalLaws.{holds}
-use Rattle.receiver.specs.SoundLaws as receiver
+use Rattle.queue.proofs.CanonicalLaws.{holds}
+use Rattle.receiver.proofs.SoundLaws as receiver
 use Rattle.channel_laws.specs.SoundLaws as channel
 use Rattle.channel_laws.specs.ReadLaws.{read_lsr_lem}
 use Rattle.channel.specs.declared.Channel.{Channel}
@@ -28,15 +28,15 @@ use Rattle.status.specs.Status.{lsr_of}
 use Rattle.seat.specs.declared.Seat.{Seat}
 use Rattle.seat.specs.Seats.{no_seat, line, queued}
 use Rattle.seat.specs.Sound.{sound}
-use Rattle.seat.specs.SoundLaws.{sound_parts}
+use Rattle.seat.proofs.SoundLaws.{sound_parts}
 use Rattle.controller.specs.Turns.{requests, output_of}
 use Rattle.controller.specs.Words as controller
 use Rattle.records.specs.Events.{seat_count}
 use Rattle.rank.specs.Sets.{only, join}
 use Rattle.bench.specs.declared.Bench.{Bench}
 use Rattle.bench.specs.Seats.{chair, seat, lines}
-use Rattle.bench.specs.ValidLaws.{at_seat_lem}
-use Rattle.bench.specs.ValidLaws as bench
+use Rattle.bench.proofs.ValidLaws.{at_seat_lem}
+use Rattle.bench.proofs.ValidLaws as bench
 use Rattle.bench.specs.Wired.{Wired}
 use Rattle.sight.specs.Sights.{no_look, look_of, sight_of, look_at}
 use Rattle.sight.specs.InUse.{with_named}

@@ -1,4 +1,3 @@
 pub mod Status
 pub mod StatusLaws
 pub mod Table
-pub mod TableLaws

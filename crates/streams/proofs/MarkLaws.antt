@@ -1,7 +1,7 @@
 -- What the contracts of the digest require: a mark tells all that it is made of, and no number is added unseen.
 use Rattle.std.proofs.Common.{◌≡◌, ℕ, ◌+◌, ◌-◌, ◌*◌, ◌/◌, ◌%◌, ◌<◌, Bool, false, ◌∙◌, arith}
 use Rattle.base.specs.Bits.{digit}
-use Rattle.base.specs.BitLaws.{digit_le}
+use Rattle.base.proofs.BitLaws.{digit_le}
 use Rattle.base.specs.Pick.{pick}
 use Rattle.base.specs.PickLaws.{pick_false}
 use Rattle.base.specs.Answers.{refusal_of, value_of, figures_of, is_letter}

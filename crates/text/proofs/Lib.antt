@@ -1,2 +1,3 @@
 pub mod Stores
 pub mod Slips
+pub mod FormLaws

@@ -5,4 +5,3 @@ pub mod Line
 pub mod Front
 pub mod DecimalLaws
 pub mod LineLaws
-pub mod FormLaws

@@ -8,7 +8,7 @@ use lib.Dec.{ltb, eqb}
 use lib.ListN.{length, length-append}
 use borrow.Author.Tests.{ltb-true}
 use Rattle.base.specs.Bits.{bit, digit}
-use Rattle.base.specs.BitLaws.{digit_le}
+use Rattle.base.proofs.BitLaws.{digit_le}
 use Rattle.base.specs.Pick.{pick}
 use Rattle.base.specs.PickLaws.{pick_either, pick_cases}
 use Rattle.text.specs.Line.{decimal}

@@ -9,10 +9,10 @@ use borrow.Author.Tests.{eq-eqb, ne_eqb}
 use Rattle.base.specs.Pick.{pick}
 use Rattle.base.specs.PickLaws.{pick_true, pick_false, both_hold, not_true}
 use Rattle.base.specs.Bits.{digit}
-use Rattle.base.specs.BitLaws.{digit_le}
+use Rattle.base.proofs.BitLaws.{digit_le}
 use Rattle.text.specs.Line.{newline, numeral, decimal}
 use Rattle.text.specs.DecimalLaws.{decimal_small}
-use Rattle.text.specs.FormLaws.{Digits, decimal_digits}
+use Rattle.text.proofs.FormLaws.{Digits, decimal_digits}
 use Rattle.page.specs.Through.{through}
 use Rattle.page.specs.ThroughLaws.{through_append}
 use Rattle.timeline.specs.Dump.{line_feed, value_line, time}

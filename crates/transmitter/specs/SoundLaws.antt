@@ -9,9 +9,9 @@ use Rattle.queue.specs.declared.Queue.{Queue}
 use Rattle.queue.specs.declared.Put.{Put}
 use Rattle.queue.specs.declared.Taken.{Taken}
 use Rattle.queue.specs.Queue.{capacity, canonical, accepted, taken, any_marked, marked}
-use Rattle.queue.specs.QueueLaws.{holding, marked_is, take_oldest, take_none}
-use Rattle.queue.specs.CanonicalLaws.{holds}
-use Rattle.queue.specs.AcceptLaws.{facts_of, accept_cases, kept_accepting}
+use Rattle.queue.proofs.QueueLaws.{holding, marked_is, take_oldest, take_none}
+use Rattle.queue.proofs.CanonicalLaws.{holds}
+use Rattle.queue.proofs.AcceptLaws.{facts_of, accept_cases, kept_accepting}
 use Rattle.transmitter.specs.declared.Transmitter.{Transmitter}
 use Rattle.transmitter.specs.Transmitter.{still, none_waiting, all_sent, flag_set_if, flag_cleared, written, emptied, left, loaded, next, shifted, enabled}
 use Rattle.transmitter.specs.Sending.{to_send}

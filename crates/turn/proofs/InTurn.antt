@@ -13,11 +13,11 @@ use Rattle.base.specs.PickLaws.{either_way}
 use Rattle.base.specs.declared.Answer.TheVariants.{Vector}
 use Rattle.rank.specs.Sets.{line}
 use Rattle.rank.specs.Rank.{next, place}
-use Rattle.rank.specs.RankLaws.{place_lt, place_apart}
+use Rattle.rank.proofs.RankLaws.{place_lt, place_apart}
 use Rattle.controller.specs.State.{ready}
 use Rattle.controller.specs.Signals.{Signal, levels, read, write, acknowledge}
 use Rattle.controller.specs.Turns.{settled, granted, vector, grant, answered}
-use Rattle.controller.specs.OutputLaws.{step_acknowledge}
+use Rattle.controller.proofs.OutputLaws.{step_acknowledge}
 use Rattle.controller.specs.RefusalLaws.{step_levels, read_keeps}
 use Rattle.controller.specs.Steps.{step}
 use Rattle.controller.specs.declared.Controller.{Controller}

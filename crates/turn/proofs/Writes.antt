@@ -14,7 +14,7 @@ use Rattle.rank.specs.SetLaws.{has_only, has_none, only_without}
 use Rattle.controller.specs.State.{with_operation}
 use Rattle.controller.specs.Signals.{write}
 use Rattle.controller.specs.Turns.{requests, hinders}
-use Rattle.controller.specs.GrantLaws.{Finds, foremost, nobody, served_first}
+use Rattle.controller.proofs.GrantLaws.{Finds, foremost, nobody, served_first}
 use Rattle.controller.specs.LineLaws.{hinders_plain}
 use Rattle.controller.specs.Words.{is_ocw3, ended, made_last, served, rotated_turn, rotating_end, command, ocw3}
 use Rattle.controller.specs.WordLaws.{step_mask, step_ocw2, step_ocw3, commands}

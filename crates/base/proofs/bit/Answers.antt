@@ -4,7 +4,7 @@ use native.Mathlib.Nat.{pow-le-pow_right}
 use native.Mathlib.Omega.{arith}
 use borrow.Author.Rules.{rules}
 use Rattle.base.specs.Bits.{bit}
-use Rattle.base.specs.BitLaws.{bit_past}
+use Rattle.base.proofs.BitLaws.{bit_past}
 use Rattle.base.proofs.bit.Goals as goal
 
 pub returns-then-k-lt8 : goal.returns-then-k-lt8

@@ -1,6 +1,6 @@
 use mathlib.Core.Path.{sym}
 use Rattle.base.proofs.Cases.{no_letter}
-use Rattle.c_word.specs.WordLaws.{put_together_plain, put_together_letter}
+use Rattle.c_word.proofs.WordLaws.{put_together_plain, put_together_letter}
 use borrow.Author.Rules.{rules}
 use Rattle.c_word.proofs.word.Goals as goal
 

@@ -3,7 +3,7 @@ use Rattle.std.proofs.Common.{ℕ, ◌≡◌, ap, subst, sym, ◌∙◌, ne_eqb}
 use Rattle.records.specs.Events.{whole}
 use Rattle.bench.specs.declared.Outcome.{Outcome}
 use Rattle.bench.specs.Steps.{outcome}
-use Rattle.bench.specs.PartLaws.{parted_outcome, reset_outcome}
+use Rattle.bench.proofs.PartLaws.{parted_outcome, reset_outcome}
 use Rattle.c_bench.specs.Told.{Told}
 use Rattle.embed.proofs.hailstoat_event.Goals as goal
 

@@ -1,7 +1,7 @@
 use Rattle.base.specs.PickLaws.{pick_true, pick_false}
 use borrow.Author.Tests.{le-ltb, lt-ltb}
 use borrow.Author.Rules.{rules}
-use Rattle.rank.specs.AboveLaws.{first_above}
+use Rattle.rank.proofs.AboveLaws.{first_above}
 use Rattle.rank.proofs.first_above.Goals as goal
 
 pub returns-then-at-bar : goal.returns-then-at-bar

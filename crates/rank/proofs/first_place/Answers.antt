@@ -5,7 +5,7 @@ use borrow.Author.Rules.{rules}
 use Rattle.rank.specs.Sets.{has}
 use Rattle.rank.specs.Rank.{line_at, find, first_place}
 use Rattle.rank.specs.SetLaws.{has_none}
-use Rattle.rank.specs.RankLaws.{first_none}
+use Rattle.rank.proofs.RankLaws.{first_none}
 use Rattle.rank.specs.SearchLaws.{find_next, find_here, find_end}
 use Rattle.rank.proofs.first_place.Goals as goal
 

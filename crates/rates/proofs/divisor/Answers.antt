@@ -2,7 +2,7 @@ use mathlib.Core.Path.{sym}
 use native.Mathlib.Omega.{arith}
 use borrow.Author.Rules.{rules}
 use Rattle.rates.specs.Rates.{divisors_of, first, second, third}
-use Rattle.rates.specs.RatesLaws.{clock_refused}
+use Rattle.rates.proofs.RatesLaws.{clock_refused}
 use Rattle.rates.proofs.Rows.{given_at, refused_at}
 use Rattle.rates.proofs.divisor.Goals as goal
 

@@ -3,7 +3,7 @@ use Rattle.setting_lines.specs.declared.Written.{Written}
 use mathlib.Core.Path.{ap, sym, ◌∙◌}
 use borrow.Author.Rules.{rules}
 use Rattle.rates.specs.declared.Found.{Found}
-use Rattle.setting_lines.specs.RateLaws.{found_small}
+use Rattle.setting_lines.proofs.RateLaws.{found_small}
 use Rattle.setting_lines.specs.Writing.{written_by}
 use Rattle.setting_lines.specs.Guess.{line_by}
 use Rattle.setting_lines.proofs.Ends.{written_as, written_none}

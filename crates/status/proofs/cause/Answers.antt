@@ -20,7 +20,7 @@ use Rattle.status.specs.declared.standing.Standing.{Standing}
 use Rattle.status.specs.declared.standing.When.TheVariants.{Trouble}
 use Rattle.status.specs.Status.{cause_of, first_cause}
 use Rattle.status.specs.Table.{table, holds, asked}
-use Rattle.status.specs.TableLaws.{table_followed}
+use Rattle.status.proofs.TableLaws.{table_followed}
 use Rattle.status.proofs.cause.Invariants.{named}
 use Rattle.status.proofs.cause.Goals as goal
 

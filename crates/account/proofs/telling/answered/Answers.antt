@@ -3,7 +3,7 @@ use native.Mathlib.Omega.{arith}
 use Rattle.controller.specs.Turns.{output_of}
 use Rattle.bench.specs.declared.Bench.{Bench}
 use Rattle.bench.specs.OutcomeLaws.{outcome_output}
-use Rattle.listing.specs.RoomLaws.{one_answered}
+use Rattle.listing.proofs.RoomLaws.{one_answered}
 use borrow.Author.Rules.{rules}
 use Rattle.account.proofs.telling.answered.Goals as goal
 

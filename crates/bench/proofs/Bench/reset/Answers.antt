@@ -4,7 +4,7 @@ use Rattle.base.specs.declared.Answer.TheVariants.{Done}
 use Rattle.controller.specs.declared.Controller.{Controller}
 use Rattle.seat.specs.declared.Seat.{Seat}
 use Rattle.bench.specs.Steps.{shown}
-use Rattle.bench.specs.PartLaws.{reset_shown}
+use Rattle.bench.proofs.PartLaws.{reset_shown}
 use Rattle.bench.proofs.Bench.reset.Goals as goal
 
 pub reset_all-fresh-requires : goal.reset_all-fresh-requires

@@ -3,7 +3,7 @@ use mathlib.Core.Path.{refl, ap, sym, ◌∙◌}
 use borrow.Author.Tests.{ne_eqb}
 use Rattle.records.specs.Events.{whole}
 use Rattle.bench.specs.Steps.{outcome}
-use Rattle.bench.specs.PartLaws.{parts_stored, reset_outcome}
+use Rattle.bench.proofs.PartLaws.{parts_stored, reset_outcome}
 use borrow.Author.Rules.{rules}
 use Rattle.bench.proofs.Bench.step.Goals as goal
 

@@ -8,7 +8,7 @@ use Rattle.records.specs.Events.{short}
 use Rattle.records.specs.Parts.{parted}
 use Rattle.bench.specs.declared.Bench.{Bench}
 use Rattle.bench.specs.Steps.{outcome}
-use Rattle.bench.specs.PartLaws.{parts_told, either_stored}
+use Rattle.bench.proofs.PartLaws.{parts_told, either_stored}
 use Rattle.text.specs.Line.{Puts}
 use Rattle.listing.specs.Kept.{Stays}
 use Rattle.listing.specs.KeptLaws.{fronts_put, fronts_stay, fronts_count}
@@ -109,7 +109,7 @@ loop-k-preserved c = let a = c.args in
     let stored =
     either_stored i.bench c.if-held.bench (record_at a.input.now (4 * i.k)) _ _ _ refl held.at (c.meet-met.ensures ∙ ap (parted _ _) c.record_at-held.ensures.is)
     (elim c.if-held.branch [
-      then-held w ↦ inl (sym held.reset ∙ w.if-held.true, ap (λ (b : Bench). b.seats) w.bench-is ∙ w.reset_all-bench.ensures)
+      | then-held w ↦ inl (sym held.reset ∙ w.if-held.true, ap (λ (b : Bench). b.seats) w.bench-is ∙ w.reset_all-bench.ensures)
       | else-held w ↦ inr (sym held.reset ∙ w.if-held.false, ap (λ (b : Bench). b.seats) w.bench-is)
     ])
     (λ (p : (resets (record_at a.input.now (4 * i.k)) ≡ true) × (c.if-held.bench.seats ≡ map reset i.bench.seats)). p)

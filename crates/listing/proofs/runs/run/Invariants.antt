@@ -8,7 +8,7 @@ use Rattle.records.specs.Events.{short}
 use Rattle.records.specs.Parts.{parted}
 use Rattle.bench.specs.declared.Bench.{Bench}
 use Rattle.bench.specs.Steps.{outcome}
-use Rattle.bench.specs.PartLaws.{parts_told, either_stored}
+use Rattle.bench.proofs.PartLaws.{parts_told, either_stored}
 use Rattle.text.specs.Line.{Puts}
 use Rattle.listing.specs.Kept.{Stays}
 use Rattle.listing.specs.KeptLaws.{fronts_put, fronts_stay, fronts_count}

@@ -43,5 +43,5 @@ others s Dll byte _ _ _ _ _ k _ = absurd (k refl)
 others s Dlm byte _ _ _ _ _ _ k = absurd (k refl)
 
 pub returns-in_default : goal.returns-in_default
-returns-in_default c = others c.args.self c.args.register c.args.byte 
+returns-in_default c = others c.args.self c.args.register c.args.byte
     c.in_default.not-Ier c.in_default.not-IirFcr c.in_default.not-Lcr c.in_default.not-Mcr c.in_default.not-Scratch c.in_default.not-Dll c.in_default.not-Dlm

@@ -6,7 +6,7 @@ use lib.ListN.{length}
 use lib.Seq.{sets}
 use Rattle.base.specs.StoreLaws.{sets_append}
 use Rattle.channel_image.specs.Written.{channel_bytes}
-use Rattle.channel_image.specs.WrittenLaws.{channel_length_lem}
+use Rattle.channel_image.proofs.WrittenLaws.{channel_length_lem}
 use Rattle.seat.specs.Seats.{queued}
 use Rattle.seat_image.specs.Written.{tally_bytes, record_of}
 use Rattle.base.specs.PickLaws.{pick_true, pick_false}

@@ -3,7 +3,7 @@ use mathlib.Core.Path.{◌≡◌, refl, sym, ◌∙◌}
 use native.Mathlib.Omega.{arith}
 use borrow.Author.Rules.{rules}
 use lib.ListN.{length, drop}
-use Rattle.text.specs.FormLaws.{denoted}
+use Rattle.text.proofs.FormLaws.{denoted}
 use Rattle.setting_lines.proofs.Supposed.{denoted_on, denoted_end, below_ten, small_number}
 use Rattle.setting_lines.proofs.guesses.number.Goals as goal
 
