@@ -84,32 +84,11 @@ fn play_long(rt: &HostRuntime, bench: Bench, path: &[u8], file: &mut File, read:
     }
 }
 
-// The lesson in a file that is open.
-fn read(rt: &HostRuntime, bench: Bench, path: &[u8], file: &mut File) -> ExitCode {
-    let mut text = files::large_buffer();
-    match files::read_on(&mut *file, &mut text, 0) {
-        Err(error) => failed(rt, path, error),
-        Ok(end) => {
-            if end < text.len() {
-                return play_text(rt, bench, path, &text[..end]);
-            }
-            play_long(rt, bench, path, file, &text)
-        }
-    }
-}
-
 // Why the lesson's name could not be had.
 fn unnamed(why: FillError) -> Error {
     match why {
         FillError::TooLong => Error::from_raw_os_error(NAME_TOO_LONG),
         FillError::NotPresent => Error::from_raw_os_error(INVALID),
-    }
-}
-
-fn open(rt: &HostRuntime, bench: Bench, path: &[u8]) -> ExitCode {
-    match files::open(rt, path) {
-        Ok(mut file) => read(rt, bench, path, &mut file),
-        Err(error) => failed(rt, path, error),
     }
 }
 
@@ -119,6 +98,7 @@ fn open(rt: &HostRuntime, bench: Bench, path: &[u8]) -> ExitCode {
 // taken where there is one, and none of this where records come from standard input.
 pub(crate) fn run(rt: &HostRuntime, place: usize, lesson: usize, bench: Bench) -> ExitCode {
     let mut path = files::buffer();
+    let mut text = files::large_buffer();
     let length = match rt.arg(lesson, &mut path) {
         Ok(length) => length,
         Err(why) => return failed(rt, b"bench: the lesson's name", unnamed(why)),
@@ -126,5 +106,17 @@ pub(crate) fn run(rt: &HostRuntime, place: usize, lesson: usize, bench: Bench) -
     if place < lesson {
         return run(rt, lesson, lesson, bench);
     }
-    open(rt, bench, &path[..length])
+    let name = &path[..length];
+    let mut file = match files::open(rt, name) {
+        Ok(file) => file,
+        Err(error) => return failed(rt, name, error),
+    };
+    let end = match files::read_on(&mut file, &mut text, 0) {
+        Ok(end) => end,
+        Err(error) => return failed(rt, name, error),
+    };
+    if end < text.len() {
+        return play_text(rt, bench, name, &text[..end]);
+    }
+    play_long(rt, bench, name, &mut file, &text)
 }
