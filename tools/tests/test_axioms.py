@@ -34,15 +34,18 @@ class Crate:
         return []
     def words(self, flags, keeps):
         return ["--crate-name", self.name, *flags]
+    def stamp(self):
+        return "".join(path.read_text() for path in sorted(Path(self.folder, "src").glob("*.rt")))
 """
 
 
 class Axioms(Room):
     def setUp(self):
         super().setUp()
+        self.runs = 0
         self.copy("tools/after/10-axioms", "tools/prover.py", "tools/machine.py", "tools/find-rt")
         self.write("kit/bin/rtlib.py", RTLIB.format(root=self.root))
-        self.script("kit/bin/rt", "#!/bin/sh\nexit 9\n")
+        self.script("kit/bin/rt", "#!/bin/sh\n[ $1 = version ] && echo kit 9\n")
         self.script("kit/rattle", '#!/bin/sh\necho "$*" >>../../asked; cat said\n')
         self.write("crates.txt", "# rooms\nlamp:\nlamp_main: lamp\nlamp_c staticlib: lamp\n")
         self.write("crates/lamp/src/lib.rt", "")
@@ -57,8 +60,11 @@ class Axioms(Room):
         self.write("crates/lamp_c/said", c)
         self.write("ci", ci.format(proved=PROVED, main=main, c=c))
 
-    def run_it(self, **settings):
-        setting = {**os.environ, "PATH": f"{self.root / 'kit/bin'}:{os.environ['PATH']}", **settings}
+    def run_it(self, cache=None, **settings):
+        """What is kept is kept in a folder of its own, or in the one that is named."""
+        self.runs += 1
+        setting = {**os.environ, "PATH": f"{self.root / 'kit/bin'}:{os.environ['PATH']}", **settings,
+                   "XDG_CACHE_HOME": str(self.root / (cache or f"cache-{self.runs}"))}
         done = subprocess.run([self.root / "tools/after/10-axioms"], stderr=subprocess.PIPE, encoding="utf-8", env=setting)
         return done.returncode, done.stderr
 
@@ -84,6 +90,29 @@ class Axioms(Room):
         self.said(ci="== lamp_main\n{main}rt: lamp_c is kept: an earlier run on this machine proved the same\n")
         self.assertEqual(self.run_it(HAILSTOAT_PROVED=str(self.root / "ci")), (0, ""))
         self.assertEqual(self.asked(), "check --crate-name lamp_c --jobs 1\n")
+
+    def test_what_was_said_once_is_not_asked_again(self):
+        for settings in ({}, {"HAILSTOAT_PROVED": str(self.root / "ci")}):
+            cache = f"kept-{len(settings)}"
+            self.assertEqual(self.run_it(cache, **settings), (0, ""))
+            self.write("asked", "")
+            self.assertEqual((self.run_it(cache), self.asked()), ((0, ""), ""))
+        self.write("crates/lamp_c/src/lib.rt", "// changed")
+        self.assertEqual(self.run_it(cache), (0, ""))
+        self.assertEqual(self.asked(), "check --crate-name lamp_c --jobs 1\n")
+
+    def test_what_another_kit_said_is_asked_again(self):
+        self.assertEqual(self.run_it("kept"), (0, ""))
+        self.script("kit/bin/rt", "#!/bin/sh\n[ $1 = version ] && echo kit 10\n")
+        self.write("asked", "")
+        self.assertEqual(self.run_it("kept"), (0, ""))
+        self.assertEqual(self.asked().count("\n"), 2)
+
+    def test_a_prover_that_breaks_off_is_not_kept(self):
+        self.script("kit/rattle", "#!/bin/sh\necho killed; exit 3\n")
+        self.assertEqual(self.run_it("kept")[0], 1)
+        self.script("kit/rattle", '#!/bin/sh\ncat said\n')
+        self.assertEqual(self.run_it("kept"), (0, ""))
 
     def test_one_more(self):
         self.said(main=ASSUMED.replace("2 of the 50", "3 of the 50") + PROVED)

@@ -25,6 +25,8 @@ class Crate:
         return []
     def words(self, flags, keeps):
         return ["--crate-name", self.name, *flags]
+    def stamp(self):
+        return ""
 """
 
 TWIN = "file: src/lib.rt\nold: 1\nnew: 0\nfile: specs/Lamp.antt\nold: 1\nnew: 0\n"
@@ -62,9 +64,10 @@ SYNTAX = """specs/Lamp.antt:3:9: error: Parse: expected a term
 class Edits(Room):
     def setUp(self):
         super().setUp()
+        self.runs = 0
         self.copy("tools/after/20-edits", "tools/edits.py", "tools/prover.py", "tools/machine.py", "tools/find-rt")
         self.write("kit/bin/rtlib.py", RTLIB.format(root=self.root))
-        self.script("kit/bin/rt", "#!/bin/sh\nexit 9\n")
+        self.script("kit/bin/rt", "#!/bin/sh\n[ $1 = version ] && echo kit 9\n")
         self.script("kit/rattle", RATTLE.format(root=self.root))
         self.write("crates/lamp/src/lib.rt", "pub fn shine() -> u8 {\n    1\n}\n")
         self.write("crates/lamp/specs/Lamp.antt", "on = 1\n")
@@ -76,8 +79,11 @@ class Edits(Room):
         self.write("crates/lamp/must-fail/dark_twin.edit", line + TWIN)
 
     def run_it(self):
+        """Each run keeps what it hears in a folder of its own."""
+        self.runs += 1
         done = subprocess.run([self.root / "tools/after/20-edits"], stdout=subprocess.PIPE, stderr=subprocess.PIPE, encoding="utf-8",
-                              env={**os.environ, "PATH": f"{self.root / 'kit/bin'}:{os.environ['PATH']}"})
+                              env={**os.environ, "PATH": f"{self.root / 'kit/bin'}:{os.environ['PATH']}",
+                                   "XDG_CACHE_HOME": str(self.root / f"cache-{self.runs}")})
         return done.returncode, done.stderr
 
     def fails(self, words):

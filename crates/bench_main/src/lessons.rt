@@ -66,7 +66,8 @@ fn failed(rt: &HostRuntime, path: &[u8], error: Error) -> ExitCode {
     ExitCode::SUCCESS
 }
 
-// A text of which no more was read than there was room for.
+// A text of which no more was read than there was room for. Its own room is taken where there is such a text, and in no caller.
+#[inline(never)]
 fn play_long(rt: &HostRuntime, bench: Bench, path: &[u8], file: &mut File, read: &[u8]) -> ExitCode
     requires { length read.now ≤ 65536 }
 {
