@@ -3,7 +3,7 @@ ghost use Rattle.std.specs.Prelude.{◌≡◌, ◌+◌, ◌≤◌, length};
 
 use crate::kinds::Sheet;
 use crate::told;
-use std::io::{Input, Read};
+use std::io::{Input, Read, Result};
 
 // No loop here is endless. Each read but the last brings a byte, and the numbers of that many lines fit 64 bits.
 const READS: u64 = 140737488355328;
@@ -57,25 +57,18 @@ fn walk(rt: &impl Eprint, block: &[u8], start: Sheet, first: u64, out: &mut [u8]
     Walked { sheet, number, end }
 }
 
-fn write(rt: &(impl Print + Eprint), answers: &[u8]) -> bool {
-    let Err(error) = rt.write_all(answers) else {
-        return true;
-    };
-    told::write_failed(rt, error);
-    false
-}
-
 // The last line, where it is not ended.
-fn finish(rt: &(impl Print + Eprint), sheet: Sheet, number: u64) {
+fn finish(rt: &(impl Print + Eprint), sheet: Sheet, number: u64) -> Result<()> {
     if sheet.is_empty() {
-        return;
+        return Ok(());
     }
     let mut out = [0u8; 16];
     let end = answer(rt, sheet, number, &mut out, 0);
-    write(rt, &out[..end]);
+    rt.write_all(&out[..end])
 }
 
-pub(crate) fn run(rt: &(impl Input + Print + Eprint), start: Sheet) {
+// Input that cannot be read is told, and what cannot be written is an error.
+pub(crate) fn run(rt: &(impl Input + Print + Eprint), start: Sheet) -> Result<()> {
     let mut input = rt.reader();
     let mut block = [0u8; 65536];
     let mut out = answers();
@@ -86,19 +79,17 @@ pub(crate) fn run(rt: &(impl Input + Print + Eprint), start: Sheet) {
         reads -= 1;
         let Ok(count) = input.read(&mut block) else {
             told::read_failed(rt);
-            return;
+            return Ok(());
         };
         if count == 0 {
-            finish(rt, sheet, number);
-            return;
+            return finish(rt, sheet, number);
         }
         let walked = walk(rt, &block[..count], sheet, number, &mut out);
         let end = walked.end;
-        if !write(rt, &out[..end]) {
-            return;
-        }
+        rt.write_all(&out[..end])?;
         let begun = walked.sheet;
         sheet = begun;
         number = walked.number;
     }
+    Ok(())
 }

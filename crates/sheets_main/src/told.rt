@@ -1,8 +1,6 @@
-// What is said on standard error. A byte 1 stands before each fault, a byte 2 before words that are wrong, and a byte 3 before what is no fault
-// where the system's signal ends a program for it, as in `bench_main`.
-use std::io::{Error, ErrorKind};
+// What is said on standard error. A byte 1 stands before each fault and a byte 2 before words that are wrong, as in `bench_main`.
+// Where it cannot be said, nobody is left to be told so.
 
-// Where standard error cannot be written there is nowhere to say so.
 fn say(rt: &impl Eprint, words: &str) {
     let _ = rt.eprint(words);
 }
@@ -19,11 +17,6 @@ pub(crate) fn read_failed(rt: &impl Eprint) {
     say(rt, "\x01bench: standard input could not be read\n");
 }
 
-// A reader of the answers that went away is usual.
-pub(crate) fn write_failed(rt: &impl Eprint, error: Error) {
-    if error.kind() == ErrorKind::BrokenPipe {
-        say(rt, "\x03bench: the answers could not be written\n");
-    } else {
-        say(rt, "\x01bench: the answers could not be written\n");
-    }
+pub(crate) fn write_failed(rt: &impl Eprint) {
+    say(rt, "\x01bench: the answers could not be written\n");
 }
