@@ -56,7 +56,8 @@ pub(crate) fn remove(rt: &HostRuntime, name: &[u8]) -> io::Result<()> {
 // One read into the block behind `end`, and the end then. At the end of the input it does not move.
 pub(crate) fn fill<R: Read>(input: &mut R, block: &mut [u8], end: usize) -> io::Result<usize>
     requires { end ≤ length block.old }
-    ensures { IfOk result (λ filled. (end ≤ filled) × (filled ≤ length block.old)) }
+    ensures within { IfOk result (λ filled. (end ≤ filled) × (filled ≤ length block.old)) }
+    ensures kept { length block.new ≡ length block.old }
 {
     let got = input.read(&mut block[end..])?;
     Ok(end + got)
@@ -65,7 +66,8 @@ pub(crate) fn fill<R: Read>(input: &mut R, block: &mut [u8], end: usize) -> io::
 // Reads behind `start` until the file ends, the buffer is full or a read fails.
 pub(crate) fn read_on(file: &mut File, text: &mut [u8], start: usize) -> io::Result<usize>
     requires { start ≤ length text.old }
-    ensures { IfOk result (λ end. end ≤ length text.old) }
+    ensures within { IfOk result (λ end. end ≤ length text.old) }
+    ensures kept { length text.new ≡ length text.old }
 {
     let mut end = start;
     while end < text.len() {
