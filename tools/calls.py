@@ -3,7 +3,8 @@
 A function without a type is called as `room::name(`, or by its name where the file has `use room::name` or that name among others,
 `use room::{other, name}`. One with a type is
 called as `Type::name(`, or, where it takes a self, as `.name(`. Where the caller knows several types with a function of that
-name, what stands before the point must be of this type, by the caller's own words: a parameter, a field, a `let` of either.
+name, what stands before the point must be of this type, by the caller's own words: a parameter, of a closure too, a field, a `let` of either, or
+what a pattern takes out of a case of an enum.
 """
 import re
 
@@ -18,7 +19,7 @@ class Calls:
         """`crates` has the source files of each room, by room and path."""
         self.known = known(root)
         self.texts = {room: [without_comments(text) for text in files.values()] for room, files in crates.items()}
-        self.fields, self.methods = {}, {}
+        self.fields, self.methods, self.cases = {}, {}, {}
         for room, texts in self.texts.items():
             for text in texts:
                 self.read(room, text)
@@ -28,6 +29,9 @@ class Calls:
         for body in re.findall(rf"(?ms)^{PUBLIC}struct \w+ \{{$(.*?)^\}}$", text):
             for field, kind in re.findall(rf"(?m)^ *{PUBLIC}(\w+): {TYPE}", body):
                 self.fields.setdefault(field, set()).add(kind)
+        for body in re.findall(rf"(?ms)^{PUBLIC}enum \w+ \{{$(.*?)^\}}$", text):
+            for case, parts in re.findall(r"(?m)^ *(\w+)\(([^()]*)\),", body):
+                self.cases.setdefault(case, []).append([re.match(TYPE, part.strip()) for part in parts.split(",")])
         for function in functions(text):
             if function.takes_self:
                 self.methods.setdefault(function.name, set()).add((room, function.owner))
@@ -36,13 +40,23 @@ class Calls:
         """The types that a word can be of in a function, by its own words."""
         if word == "self":
             return {caller.owner}
-        parameter = re.search(rf"\b{word}: {TYPE}", caller.head)
+        parameter = re.search(rf"\b{word}: {TYPE}", caller.head) or re.search(rf"\|(?:[^|]*\s)?{word}: {TYPE}[^|]*\|", caller.body)
         if parameter:
             return {parameter[1]}
         let = re.search(rf"\blet (?:mut )?{word} = (?:{TYPE}(?:::| \{{)|[^;]*?\.(\w+);)", caller.body)
         if let:
             return {let[1]} if let[1] else self.fields.get(let[2], set())
-        return self.fields.get(word, set())
+        return self.taken_out(word, caller) or self.fields.get(word, set())
+
+    def taken_out(self, word, caller):
+        """The types that a word can be of where a pattern takes it out of a case."""
+        found = set()
+        for case, parts in re.findall(r"\b[A-Z]\w*::(\w+)\(([^()]*)\)", caller.body):
+            names = [part.strip() for part in parts.split(",")]
+            if word in names:
+                at = names.index(word)
+                found |= {kinds[at][1] for kinds in self.cases.get(case, []) if len(kinds) == len(names) and kinds[at]}
+        return found
 
     def by_method(self, room, function, caller_room, text):
         """Whether a file calls a function that takes a self, behind a point."""

@@ -49,12 +49,19 @@ def number_of(text):
     return plain and int(plain[1], 0)
 
 
+CONSTANT = r"(?m)^\s*(?:pub(?:\(crate\))? )?const ([A-Z0-9_]+): u\w+ = ([^;\[]+);"
+CASE = r"(?m)^\s+([A-Z][a-z]\w*) = (\d+),$"
+
+
 def constants(root):
-    """The constants of the rooms: of each name every file and number that it stands for."""
+    """The constants of the rooms, and the cases of their enums that have a number, spelt as constants: of each name every file and
+    number that it stands for."""
     found = {}
     for room in ROOMS:
         for path in sorted((root / "crates" / room / "src").rglob("*.rt")):
-            for name, text in re.findall(r"(?m)^\s*(?:pub(?:\(crate\))? )?const ([A-Z0-9_]+): u\w+ = ([^;\[]+);", path.read_text("utf-8")):
+            code = path.read_text("utf-8")
+            cases = [(re.sub(r"(?<=.)(?=[A-Z])", "_", name).upper(), text) for name, text in re.findall(CASE, code)]
+            for name, text in re.findall(CONSTANT, code) + cases:
                 found.setdefault(name, []).append((path.relative_to(root).as_posix(), number_of(text)))
     return found
 

@@ -1,11 +1,9 @@
 """A small tree on which tools/before/07-names finds nothing wrong: code, header, usage, definitions and pages."""
 
-CODE = """impl Answer {
-    pub const SEAT_ABOVE: u8 = 1;
-
-    pub const NOT_READY: u8 = 8;
-
-    pub const NOT_LISTED: u8 = 10;
+CODE = """enum Refusal {
+    SeatAbove = 1,
+    NotReady = 8,
+    NotListed = 10,
 }
 
 pub const LCR_BREAK: u8 = 6;

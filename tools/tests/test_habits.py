@@ -87,6 +87,23 @@ class Habits(Room):
         self.assertEqual(self.told(plates=PLATES, table=table.replace("laid.full;", "Cup { milk: false };")), [])
         self.assertEqual(len(self.told(plates=PLATES, table=table.replace("laid.full;", "Plate { mark: 3 };"))), 1)
 
+    def test_of_two_types_the_case_that_a_pattern_takes_apart_tells_which(self):
+        table = """enum Laid {
+    Full(u8, Cup),
+    Flat(Plate),
+}
+
+fn lay(laid: Laid) -> Laid {
+    match laid {
+        Laid::Full(n, one) => Laid::Full(n, one.fill(3)),
+        Laid::Flat(one) => laid,
+    }
+}
+"""
+        self.assertEqual(self.told(plates=PLATES, table=table.replace("Flat(one)", "Flat(_)")), [])
+        self.assertEqual(len(self.told(plates=PLATES, table=table.replace("Flat(one)", "Flat(_)").replace("u8, Cup", "u8, Plate"))), 1)
+        self.assertEqual(len(self.told(plates=PLATES, table=table.replace("n, one)", "_, n)").replace("Flat(one)", "Flat(_)"))), 1)
+
     def test_a_function_without_a_type_is_called_by_its_room(self):
         cups = "pub fn wipe(c: u8) -> u8 {\n    c\n}\n"
         self.assertEqual(self.told(cups=cups, table="fn lay() -> u8 {\n    cups::wipe(3)\n}\n"), [])
@@ -95,6 +112,12 @@ class Habits(Room):
         for other in ("fn lay() -> u8 {\n    wipe(3)\n}\n", "fn lay(c: Cloth) -> u8 {\n    c.wipe(3)\n}\n", "use cups::wipe;\n",
                       "use cups::{wiped};\n\nfn lay() -> u8 {\n    wipe(3)\n}\n", "use plates::{wipe};\n\nfn lay() -> u8 {\n    wipe(3)\n}\n"):
             self.assertEqual(self.told(cups=cups, table=other), ["crates/cups/src/lib.rt:1: no other room calls cups::wipe"])
+
+    def test_what_a_pattern_binds_has_the_type_that_the_variant_holds(self):
+        arms = "        Laid::Full(_, held) => held.fill(3),\n        Laid::Flat(_) => {}\n"
+        laid = f"enum Laid {{\n    Full(u8, Cup),\n    Flat(Plate),\n}}\n\nfn lay(laid: Laid) {{\n    match laid {{\n{arms}    }}\n}}\n"
+        self.assertEqual(self.told(table=laid, plates=PLATES), [])
+        self.assertEqual(len(self.told(table=laid.replace("Full(u8, Cup)", "Full(u8, Plate)"), plates=PLATES)), 1)
 
     def test_an_exception_is_one_that_nobody_calls(self):
         self.addCleanup(setattr, habits, "UNCALLED", {})

@@ -96,7 +96,7 @@ class Names(Room):
 
     def test_names_of_definitions_that_code_or_header_have_not(self):
         code = "crates/base/src/lib.rt"
-        self.assertTold("crates/base does not have refusal NOT_LISTED once, as 10", code, "NOT_LISTED", "UNLISTED")
+        self.assertTold("crates/base does not have refusal NOT_LISTED once, as 10", code, "NotListed", "Unlisted")
         self.assertTold("crates/base does not have mark MARK_PARITY once, as 0", code, "MARK_PARITY", "PARITY")
         self.assertTold("crates/base does not have mark BREAK once, as 1", code, "const BREAK: u8 = 1", "const BREAK: u8 = 4")
         self.assertTold("crates/records does not have kind READ once, as 0", "crates/records/src/lib.rt", "READ", "TAKE")

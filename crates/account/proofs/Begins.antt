@@ -1,13 +1,12 @@
 -- A page begins with its head, whatever is joined to it.
-use Prim.Native.Nat.{ℕ, ◌+◌, ◌-◌, ◌≤◌, ◌<◌}
-use mathlib.Core.Bool.{Bool, ◌&&◌}
+use Prim.Native.Nat.{ℕ, ◌-◌, ◌≤◌, ◌<◌}
+use mathlib.Core.Bool.{◌&&◌}
 use mathlib.Core.List.{List, [], ◌∷◌, ◌++◌}
 use mathlib.Core.Path.{◌≡◌, refl, sym, ap, ◌∙◌}
 use native.Mathlib.Omega.{arith}
 use lib.Dec.{ltb, leb, eqb}
-use lib.ListN.{length, take, set, length-append, length-take}
+use lib.ListN.{length, take, length-append, length-take}
 use lib.Seq.{take_all, take-take, take-set-le, take_at}
-use Rattle.base.specs.Pick.{pick}
 use Rattle.base.specs.PickLaws.{pick_either}
 use Rattle.text.specs.Line.{space, newline}
 use Rattle.page.specs.Pieces.{piece_most}

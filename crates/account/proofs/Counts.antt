@@ -1,6 +1,5 @@
 -- All pieces of a record have room on its page.
 use Prim.Native.Nat.{ℕ, ◌≤◌, ◌<◌}
-use mathlib.Core.List.{List}
 use native.Mathlib.Omega.{arith}
 use lib.ListN.{length, length-append}
 use Rattle.page.specs.Pages.{page_most, headed, joined_all}

@@ -1,7 +1,6 @@
 -- The pages of lessons compute.
 use mathlib.Core.Path.{refl}
 use Rattle.base.specs.Pick.{pick}
-use Rattle.base.specs.Bits as bits
 use Rattle.base.specs.Answers.{refusal_of, value_of}
 use Rattle.text.specs.Line.{digits_within, decimal, capital, output_digit, line}
 use Rattle.page.specs.Pieces.{hex, letter}

@@ -1,21 +1,16 @@
 -- All statements of this room hold.
-use Prim.Native.Nat.{ℕ, ◌<◌}
+use Prim.Native.Nat.{ℕ}
 use mathlib.Core.List.{List}
-use mathlib.Core.Path.{◌≡◌, refl, sym, ap, subst, ◌∙◌}
+use mathlib.Core.Path.{sym, ap, subst, ◌∙◌}
 use native.Mathlib.Omega.{arith}
 use lib.ListN.{length, take}
-use Rattle.page.specs.Pages.{page_most, shown, headed, joined_all, ended}
+use Rattle.page.specs.Pages.{shown, headed, joined_all, ended}
 use Rattle.page.specs.Notes.{commented}
 use Rattle.page.specs.FitLaws.{head_stands, all_stand, commented_stands, Ending, ending, fits_terminal}
-use Rattle.page.specs.declared.Page.{Page}
-use Rattle.records.specs.Events.{Record}
-use Rattle.bench.specs.declared.Bench.{Bench}
 use Rattle.bench.specs.Steps.{outcome}
-use Rattle.account.specs.Head.{unended, blanks}
 use Rattle.account.specs.HeadLaws.{front, head_front, unended_line}
 use Rattle.account.specs.Told.{pieces, told}
-use Rattle.account.specs.Sized.{Sized}
-use Rattle.account.specs.Kept.{head_of, KeepsWidth, Ends, EndsLine, ListingFirst}
+use Rattle.account.specs.Kept.{head_of, KeepsWidth, EndsLine, ListingFirst}
 use Rattle.account.specs.Statements.{Statements}
 use Rattle.names.specs.FitLaws.{all_one_line}
 use Rattle.account.proofs.Fit.{pieces_fit, head_width, head_line}

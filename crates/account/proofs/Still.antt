@@ -1,5 +1,4 @@
 -- A record that is refused moves nothing.
-use mathlib.Core.List.{List}
 use mathlib.Core.Path.{◌≡◌, ap, ◌∙◌}
 use Rattle.page.specs.Pages.{headed, joined, joined_all, ended}
 use Rattle.page.specs.Notes.{commented}

@@ -1,5 +1,5 @@
 -- One record told: a page with the listing's own line, what was done, what came of it, what moved, and the comment.
-use Rattle.std.specs.Prelude.{ℕ, Bool, false, List, [], ◌∷◌, ◌++◌}
+use Rattle.std.specs.Prelude.{ℕ, Bool, false, List, ◌∷◌, ◌++◌}
 use Rattle.base.specs.Pick.{pick}
 use Rattle.receiver.specs.Receiver.{none_queued}
 use Rattle.channel.specs.declared.Channel.{Channel}

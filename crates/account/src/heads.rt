@@ -20,7 +20,7 @@ fn figures(piece: Piece, value: u16, output: bool) -> Piece
         text::capital(digits / 16),
         text::capital(digits),
         b' ',
-        base::pick_byte(output, b'1', b'0'),
+        b'0' + u8::from(output),
     ];
     piece.text(&shown)
 }

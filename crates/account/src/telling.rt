@@ -1,10 +1,11 @@
 // A record told, as it is done.
 ghost use Rattle.std.specs.Prelude.{◌≡◌, []};
-ghost use Rattle.records.specs.Events.{whole, short};
+ghost use Rattle.records.specs.Events.{record_of, short};
 ghost use Rattle.bench.specs.Steps.{outcome};
 ghost use Rattle.account.specs.Told.{channel_at, divisor_at, told};
 
 use crate::{Told, heads};
+use base::Whole;
 use bench::{Bench, Outcome};
 use channel::Channel;
 use records::Event;
@@ -16,9 +17,7 @@ const LONGEST_LINE: usize = 31;
 fn channel_at(bench: Bench, n: u8) -> Channel
     ensures { result ≡ channel_at bench n }
 {
-    let at = bench::chair(n);
-    let held = bench.seats[at];
-    held.channel
+    bench.seats[bench::chair(n)].channel
 }
 
 fn divisor_at(bench: Bench, n: u8) -> bool
@@ -31,42 +30,39 @@ fn divisor_at(bench: Bench, n: u8) -> bool
 }
 
 // A record as the listing answers it. A program that lists and tells has its step in that one place, where it is compiled into the loop.
-fn answered(bench: Bench, n: u64, kind: u8, seat: u8, number: u8, value: u8) -> Outcome
-    ensures { result ≡ outcome bench (whole kind seat number value) }
+fn answered(bench: Bench, n: u64, whole: Whole) -> Outcome
+    ensures { result ≡ outcome bench (record_of whole) }
 {
+    let bytes = [whole.kind, whole.seat, whole.number, whole.value];
     let mut line = [0u8; LONGEST_LINE];
-    let ran = listing::run(bench, n, &[kind, seat, number, value], true, &mut line);
+    let ran = listing::run(bench, n, &bytes, true, &mut line);
     let next = ran.bench;
-    let answer = ran.answer;
-    let output = next.controller.output();
     Outcome {
         bench: next,
-        answer,
-        output,
+        answer: ran.answer,
+        output: next.controller.output(),
     }
 }
 
 // A record of four bytes, which has this number in the listing.
-pub fn record(
-    bench: Bench,
-    n: u64,
-    kind: u8,
-    seat: u8,
-    number: u8,
-    value: u8,
-    comment: &[u8],
-) -> Told
-    ensures { (result.bench ≡ (outcome bench (whole kind seat number value)).bench) × (result.page ≡ told bench n (whole kind seat number value) comment.now) }
+pub fn record(bench: Bench, n: u64, whole: Whole, comment: &[u8]) -> Told
+    ensures { (result.bench ≡ (outcome bench (record_of whole)).bench) × (result.page ≡ told bench n (record_of whole) comment.now) }
 {
+    let Whole {
+        kind,
+        seat,
+        number,
+        ..
+    } = whole;
     let before = channel_at(bench, seat);
     let divisor = divisor_at(bench, seat);
-    let stepped = answered(bench, n, kind, seat, number, value);
+    let stepped = answered(bench, n, whole);
     let next = stepped.bench;
     let answer = stepped.answer;
     let head = heads::begun(n, answer, stepped.output);
     let selected = bench.controller.operation.selected;
     let empty = before.receiver.is_empty();
-    let done = deeds::done(kind, seat, number, value, divisor, bench.controller);
+    let done = deeds::done(whole, divisor, bench.controller);
     let came = answers::came(kind, number, divisor, selected, empty, answer);
     let moved = moves::at_seat(
         head.join(done).join(came),

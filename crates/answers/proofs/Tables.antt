@@ -18,7 +18,8 @@ abbrev pub Lacks : Type 0 → ℕ → List Row → Type 0
 Lacks besides n [] = besides
 Lacks besides n (r ∷ rows) = Lacks (besides × (n ≡ r.number → ⊥)) n rows
 
-holds_besides : (besides : Type 0) (n : ℕ) (rows : List Row) → Lacks besides n rows → besides
+-- what holds besides
+pub holds_besides : (besides : Type 0) (n : ℕ) (rows : List Row) → Lacks besides n rows → besides
 holds_besides besides n [] lacks = lacks
 holds_besides besides n (r ∷ rows) lacks = (holds_besides (besides × (n ≡ r.number → ⊥)) n rows lacks).0
 

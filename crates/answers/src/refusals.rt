@@ -1,26 +1,9 @@
 // Refusals by their numbers: the words of `names/Names`.
 ghost use Rattle.std.specs.Prelude.{◌≡◌};
 ghost use Rattle.page.specs.Pieces.{with};
-ghost use Rattle.names.specs.Words.{later_words, refusal_words};
+ghost use Rattle.names.specs.Words.{refusal_words};
 
 use page::Piece;
-
-fn later_refusal(piece: Piece, number: u8) -> Piece
-    ensures { result ≡ with piece (later_words number) }
-{
-    match number {
-        11 => piece.text(b"no settings line, or an LCR byte that none gives"),
-        12 => piece.text(b"lent buffer too short"),
-        13 => piece.text(b"wrong mark"),
-        14 => piece.text(b"unknown version"),
-        15 => piece.text(b"a saved bench that cannot be"),
-        16 => piece.text(b"data beyond the word length"),
-        17 => piece.text(b"parity mark with parity off"),
-        18 => piece.text(b"break with data not 0"),
-        19 => piece.text(b"reception that no tally can hold"),
-        _ => piece.text(b"no refusal"),
-    }
-}
 
 pub(crate) fn refusal(piece: Piece, number: u8) -> Piece
     ensures { result ≡ with piece (refusal_words number) }
@@ -36,6 +19,15 @@ pub(crate) fn refusal(piece: Piece, number: u8) -> Piece
         8 => piece.text(b"controller not ready"),
         9 => piece.text(b"not served (cascaded controllers, 8080 mode, poll)"),
         10 => piece.text(b"rate or clock not in the divisor list"),
-        _ => later_refusal(piece, number),
+        11 => piece.text(b"no settings line, or an LCR byte that none gives"),
+        12 => piece.text(b"lent buffer too short"),
+        13 => piece.text(b"wrong mark"),
+        14 => piece.text(b"unknown version"),
+        15 => piece.text(b"a saved bench that cannot be"),
+        16 => piece.text(b"data beyond the word length"),
+        17 => piece.text(b"parity mark with parity off"),
+        18 => piece.text(b"break with data not 0"),
+        19 => piece.text(b"reception that no tally can hold"),
+        _ => piece.text(b"no refusal"),
     }
 }

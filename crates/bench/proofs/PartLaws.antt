@@ -1,5 +1,5 @@
 -- A record's outcome is what it makes of its seat and the controller, stored back; a master reset resets the other seats besides.
-use Rattle.std.specs.Prelude.{ℕ, zero, suc, Bool, true, false, List, [], ◌∷◌, map, ◌⊎◌, ◌≡◌, refl, eqb, get_or, set}
+use Rattle.std.specs.Prelude.{ℕ, zero, suc, Bool, true, false, List, [], ◌∷◌, map, ◌⊎◌, ◌≡◌, refl, eqb, get_or, set, Ok}
 use Rattle.std.proofs.Common.{inl, inr, ⊎_elim, ap, ap₂, sym, ◌∙◌, eqb-true}
 use Rattle.base.specs.Pick.{pick}
 use Rattle.base.specs.PickLaws.{pick_false, pick_either, never, either_way}
@@ -16,9 +16,7 @@ use Rattle.controller.specs.Turns.{settled, output_of}
 use Rattle.records.specs.declared.Touched.{Touched}
 use Rattle.records.specs.declared.Event.{Event}
 use Rattle.records.specs.declared.Event.TheVariants.{MasterReset, ReadController, WriteController, Acknowledge}
-use Rattle.records.specs.declared.Decoded.{Decoded}
-use Rattle.records.specs.declared.Decoded.TheVariants.{Taken}
-use Rattle.records.specs.Events.{Record, whole, short, early, event, event_of, decoded, seat_named, resets}
+use Rattle.records.specs.Events.{Record, whole, short, early, event, event_of, decoded, seat_named, resets, Decoded}
 use Rattle.records.specs.Parts.{besides, met_parts, dealt_parts, parted}
 use Rattle.bench.specs.declared.Bench.{Bench}
 use Rattle.bench.specs.declared.Outcome.{Outcome}
@@ -80,7 +78,7 @@ pub parted_outcome : (b : Bench) (r : Record) → resets r ≡ false → partly 
 parted_outcome b r other = taken_same b (seat_named r) r (record_same b r other) ∙ sym (outcome_dealt b r)
 
 -- kind 5 is a master reset, whatever the other bytes
-decoded_5 : (s n v : ℕ) → decoded (whole 5 s n v) ≡ Taken MasterReset
+decoded_5 : (s n v : ℕ) → decoded (whole 5 s n v) ≡ Ok MasterReset
 unfolding decoded early event_of refusal_by first_of pick
 decoded_5 s n v = refl
 

@@ -12,7 +12,7 @@ use Rattle.bench.specs.Refusals as refusals
 use Rattle.bench.specs.Steps as steps
 use Rattle.bench.specs.declared.Outcome.{Outcome}
 use Rattle.bench.specs.Runs.{outcomes, after_all}
-use Rattle.bench.specs.Tallies.{tallies_of}
+use Rattle.bench.specs.Tallies.{asked_of, handed}
 
 -- the outcomes of some records from power-up; it opens what a run computes with
 unfoldable pub run : List Record → List Outcome
@@ -45,6 +45,6 @@ unfolding run
 master_reset_is_000 = refl
 
 -- `other_seat`: 41 arrives at seat 0, so one has arrived there, and none at seat 1
-tallies_of_its_own : map (λ n. (tallies_of (after_all seats.power_up (whole 1 0 3 0x83 ∷ whole 1 0 0 0x0C ∷ whole 2 0 0 0x41 ∷ [])) n).five.arrived) (0 ∷ 1 ∷ []) ≡ 1 ∷ 0 ∷ []
-unfolding run tallies_of
+tallies_of_its_own : map (λ n. (handed (asked_of (after_all seats.power_up (whole 1 0 3 0x83 ∷ whole 1 0 0 0x0C ∷ whole 2 0 0 0x41 ∷ [])) n)).five.arrived) (0 ∷ 1 ∷ []) ≡ 1 ∷ 0 ∷ []
+unfolding run asked_of handed
 tallies_of_its_own = refl

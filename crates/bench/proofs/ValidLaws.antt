@@ -1,5 +1,5 @@
 -- Valid at power-up, and after every record, refused or not.
-use Rattle.std.specs.Prelude.{ℕ, zero, suc, ◌<◌, true, ◌&&◌, List, [], ◌∷◌, map, ◌≡◌, refl, eqb, length, get_or, set, replicate}
+use Rattle.std.specs.Prelude.{ℕ, zero, suc, ◌<◌, true, ◌&&◌, List, [], ◌∷◌, map, ◌≡◌, refl, eqb, length, get_or, set, replicate, Ok, Err}
 use Rattle.std.proofs.Common.{le_of_suc-le-suc, not-suc-le-zero, sym, subst, ◌∙◌, eqb-true, eq-eqb}
 use Rattle.std.proofs.Math.Path.{ap}
 use Rattle.base.specs.Pick.{pick}
@@ -18,9 +18,7 @@ use Rattle.controller.specs.Refusals as controller-refusal
 use Rattle.controller.specs.RefusalLaws.{step_done}
 use Rattle.records.specs.declared.Event.{Event}
 use Rattle.records.specs.declared.Event.TheVariants.{OfSeat, MasterReset, ReadController, WriteController, Acknowledge}
-use Rattle.records.specs.declared.Decoded.{Decoded}
-use Rattle.records.specs.declared.Decoded.TheVariants.{Taken, NoEvent}
-use Rattle.records.specs.Events.{Record, decoded, seat_count}
+use Rattle.records.specs.Events.{Record, decoded, seat_count, Decoded}
 use Rattle.bench.specs.declared.Bench.{Bench}
 use Rattle.bench.specs.declared.Outcome.{Outcome}
 use Rattle.bench.specs.Refusals.{room_grounds}
@@ -117,8 +115,8 @@ module _ (b : Bench) (s : Sound b) where
 
   sound_dealt : (d : Decoded) → (sound_seats (dealt b d).bench.seats ≡ true) × (controller-valid.valid (dealt b d).bench.controller ≡ true)
   unfolding dealt
-  sound_dealt (Taken e) = (seats_met e, controller_met e)
-  sound_dealt (NoEvent n) = (s.seats, s.controller)
+  sound_dealt (Ok e) = (seats_met e, controller_met e)
+  sound_dealt (Err n) = (s.seats, s.controller)
 
   sound_kept : (r : Record) → Sound (outcome b r).bench
   sound_kept r =

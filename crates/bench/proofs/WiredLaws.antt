@@ -1,5 +1,5 @@
 -- The controller's levels are the seats' lines: at power-up, and after every record.
-use Rattle.std.specs.Prelude.{ℕ, ◌^◌, ◌<◌, Bool, ◌≡◌, eqb, length}
+use Rattle.std.specs.Prelude.{ℕ, ◌^◌, ◌<◌, Bool, ◌≡◌, eqb, length, Ok, Err}
 use Rattle.std.proofs.Math.Path.{refl, ap, sym}
 use Rattle.std.proofs.Common.{subst, ◌∙◌, eqb-true}
 use Rattle.std.proofs.Math.Nat.{mod-mod}
@@ -22,15 +22,12 @@ use Rattle.controller.specs.declared.Controller.{Controller}
 use Rattle.controller.specs.declared.Signalled as controller
 use Rattle.controller.specs.Signals.{write, acknowledge}
 use Rattle.controller.specs.Turns.{settled}
-use Rattle.controller.specs.Steps.{effect}
 use Rattle.controller.specs.Refusals as controller-refusal
 use Rattle.controller.specs.RefusalLaws.{step_done}
 use Rattle.controller.proofs.FrameLaws.{LevelMoves, stays, level_moves}
 use Rattle.records.specs.declared.Event.{Event}
 use Rattle.records.specs.declared.Event.TheVariants.{OfSeat, MasterReset, ReadController, WriteController, Acknowledge}
-use Rattle.records.specs.declared.Decoded.{Decoded}
-use Rattle.records.specs.declared.Decoded.TheVariants.{Taken, NoEvent}
-use Rattle.records.specs.Events.{Record, decoded, seat_count}
+use Rattle.records.specs.Events.{Record, decoded, seat_count, Decoded}
 use Rattle.bench.specs.declared.Bench.{Bench}
 use Rattle.bench.specs.declared.Outcome.{Outcome}
 use Rattle.bench.specs.Refusals.{room_grounds}
@@ -105,8 +102,8 @@ module _ (b : Bench) (w : Wired b) where
 
   wired_dealt : (d : Decoded) → Wired (dealt b d).bench
   unfolding dealt
-  wired_dealt (Taken e) = wired_met e
-  wired_dealt (NoEvent n) = w
+  wired_dealt (Ok e) = wired_met e
+  wired_dealt (Err n) = w
 
   pub wired_kept : (r : Record) → Wired (outcome b r).bench
   wired_kept r = subst (λ (o : Outcome). Wired o.bench) (sym (outcome_dealt b r)) (wired_dealt (decoded r))

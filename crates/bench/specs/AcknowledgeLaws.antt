@@ -1,5 +1,5 @@
 -- The output tells the next acknowledge.
-use Rattle.std.specs.Prelude.{ℕ, true, false, ◌≡◌, refl}
+use Rattle.std.specs.Prelude.{ℕ, true, false, ◌≡◌, refl, Ok}
 use Rattle.std.proofs.Math.Path.{ap}
 use Rattle.std.proofs.Common.{sym, ◌∙◌}
 use Rattle.base.specs.Pick.{pick}
@@ -9,7 +9,6 @@ use Rattle.controller.specs.declared.Signalled as controller
 use Rattle.controller.specs.State.{ready}
 use Rattle.controller.specs.Turns.{output_of, grant, vector}
 use Rattle.controller.proofs.OutputLaws.{output_high, output_low}
-use Rattle.records.specs.declared.Decoded.TheVariants.{Taken}
 use Rattle.records.specs.declared.Event.TheVariants.{Acknowledge}
 use Rattle.records.specs.Events.{whole, early, event_of, decoded}
 use Rattle.bench.specs.declared.Bench.{Bench}
@@ -18,7 +17,7 @@ use Rattle.bench.specs.Steps.{shown, met, outcome, dealt}
 use Rattle.bench.specs.MeetLaws.{acknowledge_met, outcome_dealt}
 
 -- kind 8 is an acknowledge, whatever the other bytes
-decoded_8 : (s n v : ℕ) → decoded (whole 8 s n v) ≡ Taken Acknowledge
+decoded_8 : (s n v : ℕ) → decoded (whole 8 s n v) ≡ Ok Acknowledge
 unfolding decoded early event_of refusal_by first_of pick
 decoded_8 s n v = refl
 

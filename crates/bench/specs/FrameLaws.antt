@@ -1,5 +1,5 @@
 -- What an event leaves alone: a seat event the other seats, a controller event every seat; a master reset acts seat by seat.
-use Rattle.std.specs.Prelude.{ℕ, zero, suc, ◌<◌, true, false, List, [], ◌∷◌, map, ◌≡◌, refl, eqb, length, set}
+use Rattle.std.specs.Prelude.{ℕ, zero, suc, ◌<◌, true, false, List, [], ◌∷◌, map, ◌≡◌, refl, eqb, length, set, Ok, Err}
 use Rattle.std.proofs.Math.Path.{ap}
 use Rattle.std.proofs.Common.{sym, subst, ◌∙◌, ⊎_elim, le_of_suc-le-suc, not-suc-le-zero, arith, length-set, get_or-set_other, eqb-true}
 use Rattle.std.proofs.Math.ListN.{get_or}
@@ -14,9 +14,7 @@ use Rattle.seat.specs.Seats.{no_seat, reset}
 use Rattle.seat.specs.Steps.{stepped}
 use Rattle.seat.specs.Acts.{acted_all}
 use Rattle.records.specs.declared.Event.TheVariants.{OfSeat, MasterReset, ReadController, WriteController, Acknowledge}
-use Rattle.records.specs.declared.Decoded.{Decoded}
-use Rattle.records.specs.declared.Decoded.TheVariants.{Taken, NoEvent}
-use Rattle.records.specs.Events.{seat_count}
+use Rattle.records.specs.Events.{seat_count, Decoded}
 use Rattle.records.specs.TouchLaws.{touched_seat}
 use Rattle.bench.specs.declared.Bench.{Bench}
 use Rattle.bench.specs.declared.Outcome.{Outcome}
@@ -94,12 +92,12 @@ reset_length b = mapped_length reset b.seats
 -- how many seats there are stays
 pub as_many : (b : Bench) (d : Decoded) → length (dealt b d).bench.seats ≡ length b.seats
 unfolding dealt
-as_many b (Taken (OfSeat n e)) = ap length (seats_after b n e) ∙ length-set b.seats (chair n) _
-as_many b (Taken MasterReset) = reset_length b
-as_many b (Taken (ReadController port)) = ap length (read_leaves b port)
-as_many b (Taken (WriteController port byte)) = ap length (write_leaves b port byte)
-as_many b (Taken Acknowledge) = ap length (acknowledge_leaves b)
-as_many b (NoEvent number) = refl
+as_many b (Ok (OfSeat n e)) = ap length (seats_after b n e) ∙ length-set b.seats (chair n) _
+as_many b (Ok MasterReset) = reset_length b
+as_many b (Ok (ReadController port)) = ap length (read_leaves b port)
+as_many b (Ok (WriteController port byte)) = ap length (write_leaves b port byte)
+as_many b (Ok Acknowledge) = ap length (acknowledge_leaves b)
+as_many b (Err number) = refl
 
 -- the seats decide what stands at each
 seat_by_seats : (a b : Bench) (n : ℕ) → a.seats ≡ b.seats → seat a n ≡ seat b n
@@ -114,7 +112,7 @@ seat_by_chair b m n e = ap (λ (k : ℕ). get_or b.seats k no_seat) e
 pub seat_acts : (b : Bench) → length b.seats ≡ seat_count → (n : ℕ) (d : Decoded)
     → seat (dealt b d).bench n ≡ acted_all (seat b n) (own (chair n) d)
 unfolding dealt own
-seat_acts b all n (Taken (OfSeat m e)) =
+seat_acts b all n (Ok (OfSeat m e)) =
     ⊎_elim
     (λ (here : eqb (chair m) (chair n) ≡ true).
     let same : chair m ≡ chair n = eqb-true _ _ here in
@@ -124,8 +122,8 @@ seat_acts b all n (Taken (OfSeat m e)) =
     (λ (elsewhere : eqb (chair m) (chair n) ≡ false).
     other_seat b m n e (λ z. eqb-false _ _ elsewhere (sym z)) ∙ sym (ap (acted_all (seat b n)) (pick_false _ _ _ elsewhere)))
     (either_way (eqb (chair m) (chair n)))
-seat_acts b all n (Taken MasterReset) = reset_seat b all n
-seat_acts b all n (Taken (ReadController port)) = seat_by_seats _ b n (read_leaves b port)
-seat_acts b all n (Taken (WriteController port byte)) = seat_by_seats _ b n (write_leaves b port byte)
-seat_acts b all n (Taken Acknowledge) = seat_by_seats _ b n (acknowledge_leaves b)
-seat_acts b all n (NoEvent number) = refl
+seat_acts b all n (Ok MasterReset) = reset_seat b all n
+seat_acts b all n (Ok (ReadController port)) = seat_by_seats _ b n (read_leaves b port)
+seat_acts b all n (Ok (WriteController port byte)) = seat_by_seats _ b n (write_leaves b port byte)
+seat_acts b all n (Ok Acknowledge) = seat_by_seats _ b n (acknowledge_leaves b)
+seat_acts b all n (Err number) = refl

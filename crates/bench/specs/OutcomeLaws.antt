@@ -1,5 +1,5 @@
 -- Refused or not can be read off the answer; a refused record leaves the bench equal.
-use Rattle.std.specs.Prelude.{true, false, ◌≡◌, refl}
+use Rattle.std.specs.Prelude.{ℕ, true, false, ◌≡◌, refl, Option, Some, None}
 use Rattle.std.proofs.Math.Path.{ap, sym}
 use Rattle.std.proofs.Common.{◌∙◌, eqb-true, eq-eqb, ne_eqb}
 use Rattle.std.proofs.Math.Logic.{⊎_elim}
@@ -9,8 +9,6 @@ use Rattle.base.specs.Answers.{refusal_of}
 use Rattle.base.specs.declared.Answer.TheVariants as answer
 use Rattle.seat.specs.StepLaws.{effect_taken}
 use Rattle.controller.specs.declared.Controller.{Controller}
-use Rattle.controller.specs.declared.Turn.{Turn}
-use Rattle.controller.specs.declared.Turn.TheVariants.{Line, Nobody}
 use Rattle.controller.specs.Turns.{answered, acknowledged, granted, output_of}
 use Rattle.records.specs.declared.Event.{Event}
 use Rattle.records.specs.declared.Event.TheVariants.{OfSeat, MasterReset, ReadController, WriteController, Acknowledge}
@@ -22,10 +20,10 @@ use Rattle.bench.specs.Seats.{seat}
 use Rattle.bench.specs.Steps.{after, answer_to, shown, outcome}
 
 -- an acknowledge is a vector, or spurious
-turn_taken : (c : Controller) (t : Turn) → refusal_of (answered c t).answer ≡ 0
+turn_taken : (c : Controller) (t : Option ℕ) → refusal_of (answered c t).answer ≡ 0
 unfolding refusal_of
-turn_taken c (Line n) = refl
-turn_taken c Nobody = refl
+turn_taken c (Some n) = refl
+turn_taken c None = refl
 
 -- what is done is answered with no refusal
 pub answer_taken : (b : Bench) (e : Event) → refusal_of (answer_to b e) ≡ 0

@@ -1,11 +1,9 @@
 -- Runs of records: the bench after them; and what of a run concerns one seat.
-use Rattle.std.specs.Prelude.{ℕ, List, [], ◌∷◌, ◌++◌, eqb}
+use Rattle.std.specs.Prelude.{ℕ, List, [], ◌∷◌, ◌++◌, eqb, Ok, Err}
 use Rattle.base.specs.Pick.{pick}
 use Rattle.seat.specs.Acts.{Act, event, resets}
 use Rattle.records.specs.declared.Event.TheVariants.{OfSeat, MasterReset, ReadController, WriteController, Acknowledge}
-use Rattle.records.specs.declared.Decoded.{Decoded}
-use Rattle.records.specs.declared.Decoded.TheVariants.{Taken, NoEvent}
-use Rattle.records.specs.Events.{Record, decoded}
+use Rattle.records.specs.Events.{Record, decoded, Decoded}
 use Rattle.bench.specs.declared.Bench.{Bench}
 use Rattle.bench.specs.declared.Outcome.{Outcome}
 use Rattle.bench.specs.Seats.{chair}
@@ -23,12 +21,12 @@ outcomes b (r ∷ rs) = outcome b r ∷ outcomes (outcome b r).bench rs
 
 -- what a decoded record does to seat n: nothing, where it is another seat's, the controller's, or refused
 unfoldable pub own : ℕ → Decoded → List Act
-own n (Taken (OfSeat m e)) = pick (eqb (chair m) n) (event e ∷ []) []
-own n (Taken MasterReset) = resets ∷ []
-own n (Taken (ReadController port)) = []
-own n (Taken (WriteController port byte)) = []
-own n (Taken Acknowledge) = []
-own n (NoEvent number) = []
+own n (Ok (OfSeat m e)) = pick (eqb (chair m) n) (event e ∷ []) []
+own n (Ok MasterReset) = resets ∷ []
+own n (Ok (ReadController port)) = []
+own n (Ok (WriteController port byte)) = []
+own n (Ok Acknowledge) = []
+own n (Err number) = []
 
 -- seat n's own events among these records
 abbrev pub own_all : ℕ → List Record → List Act

@@ -1,5 +1,5 @@
 -- One record on the bench: refused, or done; the answer, and the output after it.
-use Rattle.std.specs.Prelude.{ℕ, map, eqb}
+use Rattle.std.specs.Prelude.{ℕ, map, eqb, Ok, Err}
 use Rattle.base.specs.Pick.{pick}
 use Rattle.base.specs.Refusals.{refusal_by}
 use Rattle.base.specs.declared.Answer.{Answer}
@@ -13,9 +13,7 @@ use Rattle.controller.specs.Steps as controller
 use Rattle.rank.specs.Sets.{with_line}
 use Rattle.records.specs.declared.Event.{Event}
 use Rattle.records.specs.declared.Event.TheVariants.{OfSeat, MasterReset, ReadController, WriteController, Acknowledge}
-use Rattle.records.specs.declared.Decoded.{Decoded}
-use Rattle.records.specs.declared.Decoded.TheVariants.{Taken, NoEvent}
-use Rattle.records.specs.Events.{Record, event}
+use Rattle.records.specs.Events.{Record, event, Decoded}
 use Rattle.bench.specs.declared.Bench.{Bench}
 use Rattle.bench.specs.declared.Outcome.{Outcome}
 use Rattle.bench.specs.Refusals.{room_grounds, refusal}
@@ -66,5 +64,5 @@ met b e =
 
 -- a decoded record: its event is met, or its refusal shown
 unfoldable pub dealt : Bench → Decoded → Outcome
-dealt b (Taken e) = met b e
-dealt b (NoEvent n) = shown b (answer.Refused n)
+dealt b (Ok e) = met b e
+dealt b (Err n) = shown b (answer.Refused n)

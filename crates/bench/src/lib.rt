@@ -4,7 +4,7 @@
 use base::Answer;
 use controller::Controller;
 use records::SEATS;
-use seat::{Five, Seat};
+use seat::Seat;
 
 mod seats;
 mod steps;
@@ -28,13 +28,6 @@ pub struct Outcome {
     pub bench: Bench,
     pub answer: Answer,
     pub output: bool,
-}
-
-// The five tallies of a seat, which are 0 where the call is refused.
-#[derive(Clone, Copy)]
-pub struct Tallied {
-    pub answer: Answer,
-    pub five: Five,
 }
 
 impl Bench {

@@ -6,16 +6,10 @@ ghost use Rattle.bench.specs.Seats.{chair as Seats·chair};
 use records::SEATS;
 use seat::Seat;
 
-pub fn reset_all(mut s: [Seat; SEATS]) -> [Seat; SEATS]
-    ensures { result ≡ map reset s }
+pub fn reset_all(seats: [Seat; SEATS]) -> [Seat; SEATS]
+    ensures { result ≡ map reset seats }
 {
-    let mut i: usize = 0;
-    while i < SEATS {
-        let seat = s[i];
-        s[i] = seat.reset();
-        i = i + 1;
-    }
-    s
+    seats.map(|seat| seat.reset())
 }
 
 // Where seat n stands; a number that is no seat's counts round.

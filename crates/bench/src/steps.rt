@@ -2,12 +2,12 @@
 ghost use Rattle.std.specs.Prelude.{◌≡◌};
 ghost use Rattle.controller.specs.Steps.{placed};
 ghost use Rattle.controller.specs.Turns.{output_of};
-ghost use Rattle.records.specs.Events.{whole, short};
+ghost use Rattle.records.specs.Events.{record_of, short};
 ghost use Rattle.records.specs.declared.Event.TheVariants.{MasterReset};
 ghost use Rattle.bench.specs.Steps.{shown, met, outcome};
 
 use crate::{Bench, Outcome, seats};
-use base::Answer;
+use base::{Answer, Refusal, Whole};
 use records::Event;
 
 impl Bench {
@@ -26,41 +26,30 @@ impl Bench {
     pub fn reset(mut self) -> Outcome
         ensures { result ≡ met self MasterReset }
     {
-        let before = self.seats;
-        let fresh = seats::reset_all(before);
-        self.seats = fresh;
+        self.seats = seats::reset_all(self.seats);
         self.controller = self.controller.settle(0);
         self.show(Answer::Done)
     }
 
     // The seat is copied out at its chair, and stored back there with the controller.
-    pub fn step(mut self, kind: u8, seat: u8, number: u8, value: u8) -> Outcome
-        ensures { result ≡ outcome self (whole kind seat number value) }
+    pub fn step(mut self, whole: Whole) -> Outcome
+        ensures { result ≡ outcome self (record_of whole) }
     {
-        if kind == Event::MASTER_RESET {
+        if whole.kind == Event::MASTER_RESET {
             return self.reset();
         }
-        let at = seats::chair(seat);
-        let held = self.seats[at];
-        let touched = records::step_parts(held, self.controller, kind, seat, number, value);
-        let next = touched.seat;
-        self.seats[at] = next;
-        let moved = touched.controller;
-        self.controller = moved;
-        let answer = touched.answer;
-        let output = self.controller.output();
-        Outcome {
-            bench: self,
-            answer,
-            output,
-        }
+        let at = seats::chair(whole.seat);
+        let touched = records::step_parts(self.seats[at], self.controller, whole);
+        self.seats[at] = touched.seat;
+        self.controller = touched.controller;
+        self.show(touched.answer)
     }
 
     // A record of one to three bytes at the end of input.
     pub fn step_short(self) -> Outcome
         ensures { result ≡ outcome self short }
     {
-        self.show(Answer::Refused(Answer::SHORT))
+        self.show(Answer::Refused(Refusal::Short.number()))
     }
 
     pub fn place(self, line: u8) -> Answer

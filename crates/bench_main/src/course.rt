@@ -1,6 +1,7 @@
 // A run: records in, lines or pages out, and between them the saves that are due.
 ghost use Rattle.std.specs.Prelude.{◌≡◌, ◌+◌, ◌-◌, ◌*◌, ◌%◌, ◌≤◌, ◌<◌, length};
 
+use crate::files::Lines;
 use crate::telling::Telling;
 use crate::{saves, states, tallies, telling, timelines, told};
 use bench::Bench;
@@ -61,9 +62,9 @@ pub(crate) fn list(
     start: Course,
     records: &[u8],
     last: bool,
-    out: &mut [u8],
+    out: &mut Lines,
 ) -> Course
-    requires { (length out.old ≡ 524288) × (start.number + length records.now ≤ 1152921504606846976) × (length records.now ≤ 65536) }
+    requires { (start.number + length records.now ≤ 1152921504606846976) × (length records.now ≤ 65536) }
     ensures { result.number ≤ start.number + length records.now }
 {
     let telling = start.telling;
@@ -86,9 +87,9 @@ fn part(
     records: &[u8],
     text: &[u8],
     last: bool,
-    out: &mut [u8],
+    out: &mut Lines,
 ) -> Course
-    requires { (length out.old ≡ 524288) × (start.number + length records.now ≤ 1152921504606846976) × (length records.now ≤ 65536) }
+    requires { (start.number + length records.now ≤ 1152921504606846976) × (length records.now ≤ 65536) }
     ensures { result.number ≤ start.number + length records.now }
 {
     if start.telling.is_plain() {
@@ -104,9 +105,9 @@ pub(crate) fn play(
     records: &[u8],
     text: &[u8],
     last: bool,
-    out: &mut [u8],
+    out: &mut Lines,
 ) -> Course
-    requires { (length out.old ≡ 524288) × (start.number + length records.now ≤ 1152921504606846976) }
+    requires { (start.number + length records.now ≤ 1152921504606846976) }
     ensures { result.number ≤ start.number + length records.now }
 {
     let mut course = start;

@@ -6,31 +6,25 @@ use std::io::{Error, ErrorKind, Read};
 use std::{fs, io};
 
 // Room for the lines of 16384 records, 32 bytes for each.
-pub(crate) fn lines() -> [u8; 524288]
-    ensures { 524288 ≡ length result }
-{
-    [0u8; 524288]
-}
+pub(crate) type Lines = [u8; 524288];
 
 // Room for any name, and for an image.
-pub(crate) fn buffer() -> [u8; 4096]
-    ensures { 4096 ≡ length result }
-{
-    [0u8; 4096]
-}
+pub(crate) type Buffer = [u8; 4096];
 
-pub(crate) fn large_buffer() -> [u8; 65536]
-    ensures { 65536 ≡ length result }
+pub(crate) type LargeBuffer = [u8; 65536];
+
+// No word of a command line is longer.
+pub(crate) type LongWord = [u8; 131072];
+
+pub(crate) fn room<const N: usize>() -> [u8; N]
+    ensures { N ≡ length result }
 {
-    [0u8; 65536]
+    [0u8; N]
 }
 
 // The library names a file by text alone.
 fn as_text(name: &[u8]) -> io::Result<&str> {
-    match std::str::from_utf8(name) {
-        Ok(text) => Ok(text),
-        Err(_) => Err(Error::from(ErrorKind::InvalidFilename)),
-    }
+    std::str::from_utf8(name).map_err(|_| Error::from(ErrorKind::InvalidFilename))
 }
 
 pub(crate) fn open(rt: &HostRuntime, name: &[u8]) -> io::Result<File> {

@@ -1,4 +1,5 @@
 // Records from standard input, in blocks.
+use crate::files::{LargeBuffer, Lines};
 use crate::{course, files, told};
 use bench::Bench;
 use std::process::ExitCode;
@@ -12,14 +13,12 @@ const EVERY_SEAT: u8 = 255;
 // Bytes from `start` to `end` of `input` are read and not yet answered: at most three, of a record that is still to be completed.
 // A block holds whole records, so that such a record always has its room behind it.
 pub(crate) fn run(rt: &HostRuntime, bench: Bench) -> ExitCode {
-    let mut input = files::large_buffer();
-    let mut out = files::lines();
+    let mut input: LargeBuffer = files::room();
+    let mut out: Lines = files::room();
     let mut course = course::begin(rt, bench, EVERY_SEAT);
     let mut start: usize = 0;
     let mut end: usize = 0;
-    let mut reads: u64 = READS;
-    while 0 < reads {
-        reads -= 1;
+    for _left in (0..READS).rev() {
         let Ok(filled) = files::fill(&mut rt.stdin(), &mut input, end) else {
             told::input_failed(rt);
             course::abandon(rt, course);

@@ -1,7 +1,8 @@
 // A lesson from a file: its text is read whole, and run only where it has no fault.
-ghost use Rattle.std.specs.Prelude.{◌≡◌, ◌≤◌, length};
+ghost use Rattle.std.specs.Prelude.{◌≤◌, length};
 ghost use Rattle.lesson.specs.Lesson.{longest};
 
+use crate::files::{Buffer, LargeBuffer, Lines};
 use crate::{course, files, told};
 use bench::Bench;
 use lesson::Lesson;
@@ -17,32 +18,22 @@ const NAME_TOO_LONG: i32 = 36;
 const INVALID: i32 = 22;
 
 // A lesson's text is shorter.
-fn long_text() -> [u8; 16777216]
-    ensures { 16777216 ≡ length result }
-{
-    [0u8; 16777216]
-}
+type LongText = [u8; 16777216];
 
 // Room for 262144 records.
-fn records() -> [u8; 1048576]
-    ensures { 1048576 ≡ length result }
-{
-    [0u8; 1048576]
-}
+type Records = [u8; 1048576];
 
 // The seats that the records name. One that is cut off names none.
 fn named(records: &[u8]) -> u8 {
-    let mut used: u8 = 0;
-    for k in 0..records.len() / 4 {
-        used = sight::named(used, records[4 * k], records[4 * k + 1]);
-    }
-    used
+    records
+        .chunks_exact(4)
+        .fold(0, |used, one| sight::named(used, one[0], one[1]))
 }
 
 fn play(rt: &HostRuntime, bench: Bench, text: &[u8], records: &[u8]) -> ExitCode
     requires { length records.now ≤ 1048576 }
 {
-    let mut out = files::lines();
+    let mut out: Lines = files::room();
     let start = course::begin(rt, bench, named(records));
     course::finish(rt, course::play(rt, start, records, text, true, &mut out))
 }
@@ -51,7 +42,7 @@ fn play(rt: &HostRuntime, bench: Bench, text: &[u8], records: &[u8]) -> ExitCode
 fn play_text(rt: &HostRuntime, bench: Bench, path: &[u8], text: &[u8]) -> ExitCode
     requires { length text.now ≤ longest }
 {
-    let mut records = records();
+    let mut records: Records = files::room();
     match lesson::read(text, &mut records) {
         Lesson::Bytes(count) => return play(rt, bench, text, &records[..count]),
         Lesson::Fault(line, column, cause) => told::fault(rt, path, line, column, cause),
@@ -71,7 +62,7 @@ fn failed(rt: &HostRuntime, path: &[u8], error: Error) -> ExitCode {
 fn play_long(rt: &HostRuntime, bench: Bench, path: &[u8], file: &mut File, read: &[u8]) -> ExitCode
     requires { length read.now ≤ 65536 }
 {
-    let mut text = long_text();
+    let mut text: LongText = files::room();
     text[..read.len()].copy_from_slice(read);
     match files::read_on(file, &mut text, read.len()) {
         Err(error) => failed(rt, path, error),
@@ -98,8 +89,8 @@ fn unnamed(why: FillError) -> Error {
 // It calls itself, so the compiler does not put it into its caller, nor a function with a large room into it: the room for a long text is
 // taken where there is one, and none of this where records come from standard input.
 pub(crate) fn run(rt: &HostRuntime, place: usize, lesson: usize, bench: Bench) -> ExitCode {
-    let mut path = files::buffer();
-    let mut text = files::large_buffer();
+    let mut path: Buffer = files::room();
+    let mut text: LargeBuffer = files::room();
     let length = match rt.arg(lesson, &mut path) {
         Ok(length) => length,
         Err(why) => return failed(rt, b"bench: the lesson's name", unnamed(why)),

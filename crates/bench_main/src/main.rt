@@ -23,14 +23,11 @@ fn main(rt: HostRuntime) -> ExitCode {
         told::wrong_words(&rt, words.wrong);
         return ExitCode::SUCCESS;
     }
-    let start = images::open(&rt, words.place_of(options::IMAGE));
-    if !start.ready {
+    let Some(bench) = images::open(&rt, words.place_of(options::IMAGE)) else {
         return ExitCode::SUCCESS;
-    }
-    let bench = start.bench;
-    let lesson = words.place_of(options::LESSON);
-    if lesson == 0 {
+    };
+    let Some(lesson) = words.place_of(options::LESSON) else {
         return input::run(&rt, bench);
-    }
-    lessons::run(&rt, lesson - 1, lesson, bench)
+    };
+    lessons::run(&rt, lesson.saturating_sub(1), lesson, bench)
 }

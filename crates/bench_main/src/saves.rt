@@ -1,6 +1,7 @@
 // The saves that the words ask for: how far a run may go before the next, and those that are due.
 ghost use Rattle.std.specs.Prelude.{◌+◌, ◌≤◌, ◌<◌, length};
 
+use crate::files::Buffer;
 use crate::{files, told, words};
 use bench::Bench;
 use options::{Due, Now, Words};
@@ -16,16 +17,10 @@ pub(crate) fn stop(rt: &HostRuntime, from: u64, most: u64) -> u64
     requires { from < most }
     ensures { (from < result) × (result ≤ most) }
 {
-    let mut word = words::long_word();
-    let mut words = Words::start();
-    let mut stop = most;
-    for place in 1..usize::MAX {
-        let Some(length) = words::next(rt, place, &mut word) else {
-            break;
-        };
-        stop = words.stop(from, stop);
-        words = words.after(place, &word[..length]);
-    }
+    let start = (Words::start(), most);
+    let (_, stop) = words::walk(rt, start, |(words, stop), place, word| {
+        (words.after(place, word), words.stop(from, stop))
+    });
     stop
 }
 
@@ -88,8 +83,8 @@ fn save(rt: &HostRuntime, bench: Bench, file: &[u8]) {
         told::long_name(rt);
         return;
     }
-    let mut name = files::buffer();
-    let mut bytes = files::buffer();
+    let mut name: Buffer = files::room();
+    let mut bytes: Buffer = files::room();
     let end = put_name(file, &mut name);
     image::save(bench, &mut bytes, 0);
     put(rt, file, &name[..end], &bytes[..image::LENGTH]);
@@ -97,17 +92,12 @@ fn save(rt: &HostRuntime, bench: Bench, file: &[u8]) {
 
 // Saves the bench wherever a save is due now. Of one that is missed it is told how many records there were.
 pub(crate) fn make(rt: &HostRuntime, bench: Bench, now: Now, records: u64) {
-    let mut word = words::long_word();
-    let mut words = Words::start();
-    for place in 1..usize::MAX {
-        let Some(length) = words::next(rt, place, &mut word) else {
-            break;
-        };
+    words::walk(rt, Words::start(), |words: Words, place, word| {
         match words.due(now) {
             Due::No => {}
-            Due::Save => save(rt, bench, &word[..length]),
-            Due::Missed => told::missed(rt, &word[..length], records),
+            Due::Save => save(rt, bench, word),
+            Due::Missed => told::missed(rt, word, records),
         }
-        words = words.after(place, &word[..length]);
-    }
+        words.after(place, word)
+    });
 }

@@ -5,11 +5,12 @@ use records::SEATS;
 
 pub(crate) fn tell(rt: &HostRuntime, bench: Bench) {
     let words = words::read(rt);
-    if words.place_of(options::TALLIES) == 0 {
+    if words.place_of(options::TALLIES).is_none() {
         return;
     }
     for n in 0..SEATS {
-        let tallied = bench.tallies(n as u8);
-        told::tallies(rt, n as u8, tallied.five);
+        if let Ok(five) = bench.tallies(n as u8) {
+            told::tallies(rt, n as u8, five);
+        }
     }
 }

@@ -2,8 +2,10 @@
 ghost use Rattle.std.specs.Prelude.{◌≡◌, ◌+◌, ◌≤◌, ◌<◌, length};
 
 use crate::course::Course;
+use crate::files::Lines;
 use crate::{course, states, timelines, told, words};
 use account::Told;
+use base::Whole;
 use bench::Bench;
 use page::Page;
 use sight::Sight;
@@ -35,12 +37,12 @@ impl Telling {
 
 pub(crate) fn begin(rt: &HostRuntime, bench: Bench, named: u8) -> Telling {
     let words = words::read(rt);
-    let each = words.place_of(options::EACH) != 0;
+    let each = words.place_of(options::EACH).is_some();
     let used = states::in_use(bench, named);
     Telling {
-        explain: words.place_of(options::EXPLAIN) != 0,
+        explain: words.place_of(options::EXPLAIN).is_some(),
         each,
-        last: (words.place_of(options::SHOW) != 0) & !each,
+        last: words.place_of(options::SHOW).is_some() & !each,
         place: 0,
         file: timelines::begin(rt, words.place_of(options::TIMELINE), used, bench),
         used,
@@ -60,11 +62,17 @@ pub(crate) fn write(file: &mut File, page: Page) -> io::Result<()> {
 }
 
 // A record that the input cuts off has fewer bytes.
-fn account(bench: Bench, number: u64, one: &[u8], comment: &[u8]) -> Told {
-    if one.len() < RECORD_BYTES {
-        return account::short(bench, number);
-    }
-    account::record(bench, number, one[0], one[1], one[2], one[3], comment)
+fn account(bench: Bench, n: u64, one: &[u8], comment: &[u8]) -> Told {
+    let &[kind, seat, number, value, ..] = one else {
+        return account::short(bench, n);
+    };
+    let whole = Whole {
+        kind,
+        seat,
+        number,
+        value,
+    };
+    account::record(bench, n, whole, comment)
 }
 
 fn explain(rt: &HostRuntime, start: Course, one: &[u8], text: &[u8]) -> Course
@@ -94,9 +102,9 @@ fn answer(
     one: &[u8],
     text: &[u8],
     last: bool,
-    out: &mut [u8],
+    out: &mut Lines,
 ) -> Course
-    requires { (length out.old ≡ 524288) × (start.number + length one.now ≤ 1152921504606846976) × (0 < length one.now) × (length one.now ≤ 4) }
+    requires { (start.number + length one.now ≤ 1152921504606846976) × (0 < length one.now) × (length one.now ≤ 4) }
     ensures { result.number ≤ start.number + length one.now }
 {
     if start.telling.explain {
@@ -120,16 +128,6 @@ fn follow(rt: &HostRuntime, start: Course, before: Sight) -> Course
     course
 }
 
-fn record_end(at: usize, all: usize) -> usize
-    requires { at < all }
-    ensures { (at < result) × (result ≤ all) × (result ≤ at + 4) }
-{
-    if all - at <= RECORD_BYTES {
-        return all;
-    }
-    at + RECORD_BYTES
-}
-
 // Some records, one by one.
 pub(crate) fn tell(
     rt: &HostRuntime,
@@ -137,17 +135,15 @@ pub(crate) fn tell(
     records: &[u8],
     text: &[u8],
     last: bool,
-    out: &mut [u8],
+    out: &mut Lines,
 ) -> Course
-    requires { (length out.old ≡ 524288) × (start.number + length records.now ≤ 1152921504606846976) }
+    requires { (start.number + length records.now ≤ 1152921504606846976) }
     ensures { result.number ≤ start.number + length records.now }
 {
     let mut course = start;
-    let mut at: usize = 0;
-    while at < records.len() {
-        let end = record_end(at, records.len());
+    for one in records.chunks(RECORD_BYTES) {
         let before = Sight::of(course.bench);
-        course = answer(rt, course, &records[at..end], text, last, &mut *out);
+        course = answer(rt, course, one, text, last, &mut *out);
         if course.failed.is_some() {
             return course;
         }
@@ -155,7 +151,6 @@ pub(crate) fn tell(
         if course.failed.is_some() {
             return course;
         }
-        at = end;
     }
     course
 }

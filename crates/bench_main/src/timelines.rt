@@ -1,6 +1,7 @@
 // The timeline's file. It is written beside the other under a name of its own, and given the other's name when it is whole.
 ghost use Rattle.std.specs.Prelude.{◌≤◌, length};
 
+use crate::files::{Buffer, LongWord};
 use crate::telling::{Telling, write};
 use crate::{files, saves, told, words};
 use bench::Bench;
@@ -50,28 +51,34 @@ fn make(rt: &HostRuntime, new: &[u8], used: u8, bench: Bench) -> Option<File> {
     }
 }
 
-// The file whose name stands at this place; 0 for none.
-pub(crate) fn begin(rt: &HostRuntime, place: usize, used: u8, bench: Bench) -> Option<File> {
-    if place == 0 {
-        return None;
-    }
-    let mut word = words::long_word();
+// The file whose name stands at this place, if there is one.
+pub(crate) fn begin(
+    rt: &HostRuntime,
+    place: Option<usize>,
+    used: u8,
+    bench: Bench,
+) -> Option<File> {
+    let place = place?;
+    let mut word: LongWord = files::room();
     let length = words::at(rt, place, &mut word);
     if saves::LONGEST < length {
         told::long_name(rt);
         return None;
     }
-    let mut name = files::buffer();
+    let mut name: Buffer = files::room();
     let end = saves::put_name(&word[..length], &mut name);
     make(rt, &name[..end], used, bench)
 }
 
 // The file, which is closed, is given its name where it is whole, and is removed where it is not.
 fn leave(rt: &HostRuntime, whole: bool) {
-    let mut word = words::long_word();
-    let mut name = files::buffer();
+    let mut word: LongWord = files::room();
+    let mut name: Buffer = files::room();
     let words = words::read(rt);
-    let length = words::at(rt, words.place_of(TIMELINE), &mut word);
+    let Some(place) = words.place_of(TIMELINE) else {
+        return;
+    };
+    let length = words::at(rt, place, &mut word);
     if saves::LONGEST < length {
         return;
     }

@@ -2,8 +2,9 @@
 // knows its status.
 ghost use Rattle.std.specs.Prelude.{◌≤◌, length};
 
-use crate::words;
-use base::Answer;
+use crate::files::LongWord;
+use crate::{files, words};
+use base::Refusal;
 use lesson::Cause;
 use seat::Five;
 use std::io::{Error, ErrorKind, Print, Write};
@@ -12,13 +13,12 @@ use std::process::ExitCode;
 // What a shell shows where the signal of a pipe without a reader ends a program. The library holds that signal back.
 const NO_READER: u8 = 141;
 
+// What the library puts before an error's number.
+const NUMBERED: &[u8] = b" (os error ";
+
 // Where standard error cannot be written there is nowhere to say so.
 fn say(rt: &HostRuntime, words: &[u8]) {
     let _ = Print::write_all(&rt.stderr(), words);
-}
-
-fn say_decimal(rt: &HostRuntime, n: u64) {
-    let _ = rt.stderr().print(n);
 }
 
 fn say_fault(rt: &HostRuntime, words: &[u8]) {
@@ -30,12 +30,11 @@ fn say_fault(rt: &HostRuntime, words: &[u8]) {
 fn reason_end(text: &[u8]) -> usize
     ensures { result ≤ length text.now }
 {
-    for at in 0..text.len() {
-        if text[at] == 0 || text[at..].starts_with(b" (os error ") {
-            return at;
-        }
-    }
-    text.len()
+    let end = text.iter().position(|c| *c == 0).unwrap_or(text.len());
+    text[..end]
+        .windows(NUMBERED.len())
+        .position(|words| words == NUMBERED)
+        .unwrap_or(end)
 }
 
 fn say_reason(rt: &HostRuntime, error: Error) {
@@ -72,15 +71,15 @@ pub(crate) fn input_failed(rt: &HostRuntime) {
 
 // ---- words
 
-// At place 0, which no word has, one is missing behind the last.
-pub(crate) fn wrong_words(rt: &HostRuntime, place: usize) {
-    let mut word = words::long_word();
-    let length = words::at(rt, place, &mut word);
+// Where there is no place, one is missing behind the last.
+pub(crate) fn wrong_words(rt: &HostRuntime, place: Option<usize>) {
     say(rt, b"\x02");
-    if place == 0 {
+    let Some(place) = place else {
         say(rt, b"bench: a word is missing at the end\n");
         return;
-    }
+    };
+    let mut word: LongWord = files::room();
+    let length = words::at(rt, place, &mut word);
     say(rt, b"bench: not understood: ");
     say(rt, &word[..length]);
     say(rt, b"\n");
@@ -88,33 +87,30 @@ pub(crate) fn wrong_words(rt: &HostRuntime, place: usize) {
 
 // ---- images
 
-fn say_why(rt: &HostRuntime, refusal: u8) {
+const NO_ROOM: u8 = Refusal::NoRoom as u8;
+
+const WRONG_MARK: u8 = Refusal::WrongMark as u8;
+
+const UNKNOWN_VERSION: u8 = Refusal::UnknownVersion as u8;
+
+fn why(refusal: u8) -> &'static str {
     match refusal {
-        Answer::NO_ROOM => say(rt, b"it is too short for a saved bench"),
-        Answer::WRONG_MARK => say(rt, b"it is no saved bench"),
-        Answer::UNKNOWN_VERSION => say(
-            rt,
-            b"a saved bench of a version that this one does not know",
-        ),
-        _ => say(rt, b"a saved bench that cannot be"),
+        NO_ROOM => "it is too short for a saved bench",
+        WRONG_MARK => "it is no saved bench",
+        UNKNOWN_VERSION => "a saved bench of a version that this one does not know",
+        _ => "a saved bench that cannot be",
     }
 }
 
 pub(crate) fn not_restored(rt: &HostRuntime, path: &[u8], refusal: u8) {
-    say_fault(rt, b"restore ");
-    say_decimal(rt, refusal as u64);
-    say(rt, b"\n");
+    let _ = eprintln!(rt; "\x01restore {refusal}");
     say_fault(rt, path);
-    say(rt, b": ");
-    say_why(rt, refusal);
-    say(rt, b"; nothing was run\n");
+    let _ = eprintln!(rt; ": {}; nothing was run", why(refusal));
 }
 
 pub(crate) fn missed(rt: &HostRuntime, path: &[u8], records: u64) {
     say_fault(rt, path);
-    say(rt, b": not saved; the listing has only ");
-    say_decimal(rt, records);
-    say(rt, b" records, numbered from 0\n");
+    let _ = eprintln!(rt; ": not saved; the listing has only {records} records, numbered from 0");
 }
 
 pub(crate) fn long_name(rt: &HostRuntime) {
@@ -123,34 +119,28 @@ pub(crate) fn long_name(rt: &HostRuntime) {
 
 // ---- tallies
 
-fn say_number(rt: &HostRuntime, name: &[u8], n: u64) {
-    say(rt, name);
-    say_decimal(rt, n);
-}
-
 pub(crate) fn tallies(rt: &HostRuntime, seat: u8, five: Five) {
-    say_number(rt, b"seat ", seat as u64);
-    say_number(rt, b" arrived ", five.arrived as u64);
-    say_number(rt, b" read ", five.read as u64);
-    say_number(rt, b" lost ", five.lost as u64);
-    say_number(rt, b" dropped ", five.dropped as u64);
-    say_number(rt, b" queued ", five.queued as u64);
-    say(rt, b"\n");
+    let Five {
+        arrived,
+        read,
+        lost,
+        dropped,
+        queued,
+    } = five;
+    let _ = eprintln!(rt;
+        "seat {seat} arrived {arrived} read {read} lost {lost} dropped {dropped} queued {queued}"
+    );
 }
 
 // ---- lessons
-
-fn short_record(rt: &HostRuntime, bytes: u8) {
-    say(rt, b"the record begun here has ");
-    say_decimal(rt, bytes as u64);
-    say(rt, b" of 4 bytes");
-}
 
 fn say_cause(rt: &HostRuntime, cause: Cause) {
     match cause {
         Cause::NoDigit => say(rt, b"no digit here"),
         Cause::OneDigit => say(rt, b"one digit alone"),
-        Cause::ShortRecord(bytes) => short_record(rt, bytes),
+        Cause::ShortRecord(bytes) => {
+            let _ = eprint!(rt; "the record begun here has {bytes} of 4 bytes");
+        }
         Cause::ByteOrderMark => say(rt, b"a byte order mark: save the text without one"),
         Cause::Utf16 => say(rt, b"UTF-16: save the text as ASCII or UTF-8"),
     }
@@ -159,11 +149,7 @@ fn say_cause(rt: &HostRuntime, cause: Cause) {
 // The place is told as compilers tell it, so that an editor finds it.
 pub(crate) fn fault(rt: &HostRuntime, path: &[u8], line: usize, column: usize, cause: Cause) {
     say_fault(rt, path);
-    say(rt, b":");
-    say_decimal(rt, line as u64);
-    say(rt, b":");
-    say_decimal(rt, column as u64);
-    say(rt, b": ");
+    let _ = eprint!(rt; ":{line}:{column}: ");
     say_cause(rt, cause);
     say(rt, b"; nothing was run\n");
 }

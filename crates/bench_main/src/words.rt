@@ -1,15 +1,12 @@
 // The program's words. They are walked anew for each question, so that there may be as many as one likes.
-ghost use Rattle.std.specs.Prelude.{◌≡◌, ◌≤◌, IfSome, length};
+ghost use Rattle.std.specs.Prelude.{◌≤◌, ℕ, List, IfSome, length};
+ghost use Rattle.std.specs.Borrow.{Bor};
+ghost use Rattle.std.specs.List.{FoldsTo};
 
+use crate::files;
+use crate::files::LongWord;
 use options::Words;
 use std::env::{Env, FillError};
-
-// No word of a command line is longer.
-pub(crate) fn long_word() -> [u8; 131072]
-    ensures { 131072 ≡ length result }
-{
-    [0u8; 131072]
-}
 
 // Puts the word at this place into the room and tells its length, which is 0 where it does not fit. Behind the last word there is none.
 pub(crate) fn next(rt: &HostRuntime, place: usize, room: &mut [u8]) -> Option<usize>
@@ -26,20 +23,27 @@ pub(crate) fn next(rt: &HostRuntime, place: usize, room: &mut [u8]) -> Option<us
 pub(crate) fn at(rt: &HostRuntime, place: usize, room: &mut [u8]) -> usize
     ensures { result ≤ length room.old }
 {
-    match next(rt, place, &mut *room) {
-        Some(length) => length,
-        None => 0,
-    }
+    next(rt, place, room).unwrap_or(0)
 }
 
-pub(crate) fn read(rt: &HostRuntime) -> Words {
-    let mut word = long_word();
-    let mut words = Words::start();
+// Walks over the words: `f` makes a new value of the last one, a word's place and the word.
+pub(crate) fn walk<T, F: Fn(T, usize, &[u8]) -> T>(rt: &HostRuntime, start: T, f: F) -> T
+    requires { F.IsAlwaysCallable f }
+    ensures { (walked : List (ℕ × Bor (List ℕ))) × FoldsTo (λ t w r. F.post f t w.0 w.1 r) start walked result }
+{
+    let mut word: LongWord = files::room();
+    let mut made = start;
     for place in 1..usize::MAX {
         let Some(length) = next(rt, place, &mut word) else {
             break;
         };
-        words = words.after(place, &word[..length]);
+        made = f(made, place, &word[..length]);
     }
-    words
+    made
+}
+
+pub(crate) fn read(rt: &HostRuntime) -> Words {
+    walk(rt, Words::start(), |words: Words, place, word| {
+        words.after(place, word)
+    })
 }

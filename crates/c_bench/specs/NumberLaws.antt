@@ -1,5 +1,5 @@
 -- No number of C is cut: one that is past a byte has, as 255, the outcome that it has as it is.
-use Rattle.std.specs.Prelude.{ℕ, ◌≤◌, Bool, ◌≡◌, eqb, ltb}
+use Rattle.std.specs.Prelude.{ℕ, ◌≤◌, Bool, ◌≡◌, eqb, ltb, Ok, Err}
 use Rattle.std.proofs.Math.Bool.{true, false}
 use Rattle.std.proofs.Common.{⊎_elim, ◌∙◌, arith, lt-ltb, ltb-true}
 use Rattle.std.proofs.Math.Path.{refl, ap, sym}
@@ -22,7 +22,6 @@ use Rattle.controller.specs.RefusalLaws.{refusal_by_grounds, step_refused}
 use Rattle.controller.specs.Steps.{step}
 use Rattle.records.specs.declared.Event.{Event}
 use Rattle.records.specs.declared.Touched.{Touched}
-use Rattle.records.specs.declared.Decoded.TheVariants as decoded-as
 use Rattle.records.specs.Events.{whole, early, event_of, decoded}
 use Rattle.records.specs.EarlyLaws.{early_kind, early_seat}
 use Rattle.records.specs.UsesLaws.{decoded_alike}
@@ -32,7 +31,7 @@ use Rattle.c_word.specs.NumberLaws.{told_up_to}
 
 -- ---- the kind: each is refused
 
-refused_by_lem : (k s n v number : ℕ) → early (whole k s n v) ≡ number → eqb number 0 ≡ false → decoded (whole k s n v) ≡ decoded-as.NoEvent number
+refused_by_lem : (k s n v number : ℕ) → early (whole k s n v) ≡ number → eqb number 0 ≡ false → decoded (whole k s n v) ≡ Err number
 unfolding decoded
 refused_by_lem k s n v number e some = rw e (pick_false _ _ _ some)
 
@@ -128,8 +127,8 @@ module _ (s : Seat) (c : Controller) (n v : ℕ) where
 
   -- what decoding refuses does not depend on the number
   dealt_alike : (k m : ℕ) (b : Bool) → met_parts s c (event_of k n m v) ≡ met_parts s c (event_of k n 255 v)
-      → dealt_parts s c (pick b (decoded-as.Taken (event_of k n m v)) (decoded-as.NoEvent (early (whole k n m v))))
-      ≡ dealt_parts s c (pick b (decoded-as.Taken (event_of k n 255 v)) (decoded-as.NoEvent (early (whole k n 255 v))))
+      → dealt_parts s c (pick b (Ok (event_of k n m v)) (Err (early (whole k n m v))))
+      ≡ dealt_parts s c (pick b (Ok (event_of k n 255 v)) (Err (early (whole k n 255 v))))
   unfolding early dealt_parts pick
   dealt_alike k m true same = same
   dealt_alike k m false same = refl

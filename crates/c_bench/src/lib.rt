@@ -4,14 +4,14 @@
 mod outputs;
 
 ghost use Rattle.std.specs.Prelude.{◌≡◌};
-ghost use Rattle.records.specs.Events.{whole};
 ghost use Rattle.records.specs.Parts.{parted};
 ghost use Rattle.records.specs.declared.Event.TheVariants.{MasterReset};
 ghost use Rattle.bench.specs.Steps.{met};
 ghost use Rattle.image.specs.Items.{restores, item_outcome};
 ghost use Rattle.c_bench.specs.Told.{Plays, SavesTold};
-ghost use Rattle.c_bench.specs.Parts.{Parted};
+ghost use Rattle.c_bench.specs.Parts.{Parted, asked_for, bytes_of};
 
+use base::Whole;
 use bench::Bench;
 use controller::Controller;
 pub use outputs::seat_outputs;
@@ -32,47 +32,48 @@ pub struct PartsPlayed {
     pub word: u64,
 }
 
+// A record in C's numbers, which has them in 32 bits.
+#[derive(Clone, Copy)]
+pub struct Asked {
+    pub kind: u32,
+    pub seat: u32,
+    pub number: u32,
+    pub value: u8,
+}
+
+impl Asked {
+    fn bytes(self) -> Whole
+        ensures { result ≡ bytes_of self }
+    {
+        Whole {
+            kind: c_word::as_byte(self.kind),
+            seat: c_word::as_byte(self.seat),
+            number: c_word::as_byte(self.number),
+            value: self.value,
+        }
+    }
+}
+
 // The one record that touches every seat.
 pub fn reset(b: Bench) -> Played
     ensures { Plays result (met b MasterReset) }
 {
     let o = b.reset();
-    let next = o.bench;
-    let answer = o.answer;
-    let told = c_word::word(answer, o.output);
     Played {
-        bench: next,
-        word: told,
+        bench: o.bench,
+        word: c_word::word(o.answer, o.output),
     }
 }
 
 // Any record but a master reset, on the two parts that it can touch.
-pub fn parts(
-    seat: Seat,
-    controller: Controller,
-    kind: u32,
-    n: u32,
-    number: u32,
-    value: u8,
-) -> PartsPlayed
-    ensures { Parted result (parted seat controller (whole kind n number value)) }
+pub fn parts(seat: Seat, controller: Controller, asked: Asked) -> PartsPlayed
+    ensures { Parted result (parted seat controller (asked_for asked)) }
 {
-    let t = records::step_parts(
-        seat,
-        controller,
-        c_word::as_byte(kind),
-        c_word::as_byte(n),
-        c_word::as_byte(number),
-        value,
-    );
-    let next = t.seat;
-    let moved = t.controller;
-    let answer = t.answer;
-    let told = c_word::word(answer, moved.output());
+    let t = records::step_parts(seat, controller, asked.bytes());
     PartsPlayed {
-        seat: next,
-        controller: moved,
-        word: told,
+        seat: t.seat,
+        controller: t.controller,
+        word: c_word::word(t.answer, t.controller.output()),
     }
 }
 
@@ -90,11 +91,8 @@ pub fn restore(b: Bench, buffer: &[u8], place: usize) -> Played
 {
     let o = image::restore(b, buffer, place);
     let next = o.bench;
-    let answer = o.answer;
-    let controller = next.controller;
-    let told = c_word::word(answer, controller.output());
     Played {
         bench: next,
-        word: told,
+        word: c_word::word(o.answer, next.controller.output()),
     }
 }

@@ -39,10 +39,10 @@ refused_8_not_spurious = refl
 
 -- `up_to_past`: 258, which is no seat, is not cut to 2
 number_258_is_not_2 : as_byte 258 ≡ 255
-unfolding up_to pick
+unfolding up_to
 number_258_is_not_2 = refl
 
 -- `up_to_past`: 65548, which is no divisor, is not cut to 12
 divisor_65548_is_not_12 : as_divisor 65548 ≡ 65535
-unfolding up_to pick
+unfolding up_to
 divisor_65548_is_not_12 = refl

@@ -1,4 +1,5 @@
 -- The packing can be undone, and a letter and an acknowledge be read from it.
+use mir.Val.{bool_byte}
 use Rattle.std.specs.Prelude.{ℕ, ◌+◌, ◌*◌, ◌/◌, ◌%◌, ◌^◌, ◌<◌, Bool, true, false, ◌≡◌, refl, eqb}
 use Rattle.std.proofs.Common.{sym, subst, ap, ◌∙◌, arith, ne_eqb}
 use Rattle.base.specs.Pick.{pick}
@@ -59,13 +60,19 @@ undone a high fits =
       output = rw lower.2 (digit_back high);
     }
 
+-- a yes or no as the code has it in a byte
+pub as_digit : (b : Bool) → bool_byte b ≡ digit b
+unfolding digit pick
+as_digit true = refl
+as_digit false = refl
+
 -- the word put together from its five parts
-pub put_together : (a : Answer) (high : Bool) (v r d m b : ℕ) → v ≡ value_of a → r ≡ refusal_of a → d ≡ pick high 1 0 → m ≡ (figures_of a).marks → b ≡ (figures_of a).behind
+pub put_together : (a : Answer) (high : Bool) (v r d m b : ℕ) → v ≡ value_of a → r ≡ refusal_of a → d ≡ bool_byte high → m ≡ (figures_of a).marks → b ≡ (figures_of a).behind
     → v < 0x10000 → r < 0x100 → m < 0x100 → b < 0x100
     → Tells (v + 0x10000 * r + 0x1000000 * d + 0x100000000 * m + 0x10000000000 * b) a high
-unfolding word_of digit
+unfolding word_of
 put_together a high v r d m b ev er ed em eb value refusal marks behind =
-    let e : packed v r d m b ≡ word_of a high = rw (ev, er, ed, em, eb) in
+    let e : packed v r d m b ≡ word_of a high = rw (ev, er, ed, as_digit, em, eb) in
     let fits : Fits a =
     record {
       answer = subst (λ (n : ℕ). n < 0x10000) ev value;
@@ -76,7 +83,7 @@ put_together a high v r d m b ev er ed em eb value refusal marks behind =
     (e, subst (λ (w : ℕ). Reads w a high) (sym e) (undone a high fits))
 
 -- and from three, where it is no letter
-pub put_together_plain : (a : Answer) (high : Bool) (v r d : ℕ) → v ≡ value_of a → r ≡ refusal_of a → d ≡ pick high 1 0 → is_letter a ≡ false
+pub put_together_plain : (a : Answer) (high : Bool) (v r d : ℕ) → v ≡ value_of a → r ≡ refusal_of a → d ≡ bool_byte high → is_letter a ≡ false
     → v < 0x10000 → r < 0x100
     → Tells (v + 0x10000 * r + 0x1000000 * d) a high
 put_together_plain a high v r d ev er ed other value refusal =
@@ -86,7 +93,7 @@ put_together_plain a high v r d ev er ed other value refusal =
     (put_together a high v r d 0 0 ev er ed (ap (λ (f : Figures). f.marks) none) (ap (λ (f : Figures). f.behind) none) value refusal (omega arith) (omega arith))
 
 -- and of a letter, which is no refusal, from four
-pub put_together_letter : (a : Answer) (high : Bool) (byte d : ℕ) (f : Figures) → Letter byte f ≡ a → d ≡ pick high 1 0
+pub put_together_letter : (a : Answer) (high : Bool) (byte d : ℕ) (f : Figures) → Letter byte f ≡ a → d ≡ bool_byte high
     → byte < 0x100 → f.marks < 0x100 → f.behind < 0x100
     → Tells (byte + 0x1000000 * d + 0x100000000 * f.marks + 0x10000000000 * f.behind) a high
 unfolding value_of refusal_of figures_of

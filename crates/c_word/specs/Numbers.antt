@@ -1,10 +1,9 @@
 -- The numbers of C, which has them in 32 bits, as the narrower ones that the rooms take.
-use Rattle.std.specs.Prelude.{ℕ, ltb}
-use Rattle.base.specs.Pick.{pick}
+use Rattle.std.specs.Prelude.{ℕ, min}
 
 -- a number as it is, and every one from the last on as the last
 unfoldable pub up_to : ℕ → ℕ → ℕ
-up_to last n = pick (ltb n last) n last
+up_to last n = min n last
 
 -- 255 is, as every number past a byte, no kind, seat, line, register, port, marks or clock, and no LCR byte that a line gives
 abbrev pub as_byte : ℕ → ℕ

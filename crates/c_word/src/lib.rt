@@ -1,39 +1,32 @@
 // What C and the rooms have between them: C's numbers of 32 bits as the rooms take them, and the one word that C is answered with.
 #![tactic(auto)]
 
-ghost use Rattle.std.specs.Prelude.{◌≡◌, ◌≤◌};
+ghost use Rattle.std.specs.Prelude.{◌≡◌};
 ghost use Rattle.c_word.specs.Word.{Tells};
-ghost use Rattle.c_word.specs.Numbers.{up_to, as_byte, as_divisor};
+ghost use Rattle.c_word.specs.Numbers.{as_byte, as_divisor};
 
 use base::Answer;
 
-fn up_to(last: u32, n: u32) -> u32
-    ensures { (result ≡ up_to last n) × (result ≤ last) }
-{
-    if n < last {
-        return n;
-    }
-    last
-}
-
 // Each number that is past a byte becomes 255, which the rooms refuse, or do not look at, as they would it.
+#[tactic(auto, unfolding(crate::specs::Numbers::up_to))]
 pub fn as_byte(n: u32) -> u8
     ensures { result ≡ as_byte n }
 {
-    up_to(255, n) as u8
+    n.min(255) as u8
 }
 
 // Each number that is past two bytes becomes 65535, which is listed at no clock, as it is not.
+#[tactic(auto, unfolding(crate::specs::Numbers::up_to))]
 pub fn as_divisor(n: u32) -> u16
     ensures { result ≡ as_divisor n }
 {
-    up_to(65535, n) as u16
+    n.min(65535) as u16
 }
 
 pub fn word(answer: Answer, output: bool) -> u64
     ensures { Tells result answer output }
 {
-    let high = base::pick_byte(output, 1, 0);
+    let high = u8::from(output);
     let Answer::Letter(byte, figures) = answer else {
         let value = answer.value();
         let refusal = answer.refusal();

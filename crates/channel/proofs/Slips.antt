@@ -1,6 +1,5 @@
 -- What is right where an edit of must-fail/ goes wrong: closed runs of a few events, each false under the edit that names it.
 use Prim.Native.Nat.{ℕ}
-use mathlib.Core.Bool.{false}
 use mathlib.Core.List.{List, [], ◌∷◌}
 use mathlib.Core.Path.{◌≡◌, refl}
 use Rattle.base.specs.Pick.{pick}

@@ -1,5 +1,6 @@
 -- One event on a seat: refused, or done.
 use Rattle.base.specs.Refusals.{joined}
+use Rattle.base.specs.declared.Answer.{Answer}
 use Rattle.base.specs.declared.Answer.TheVariants.{Done, Refused}
 use Rattle.channel.specs.declared.Channel.{Channel}
 use Rattle.channel.specs.declared.Stepped.{Stepped}
@@ -9,6 +10,10 @@ use Rattle.channel.specs.Parts.{divisor_shown}
 use Rattle.registers.specs.Registers.{register_at}
 use Rattle.registers.specs.Refusals.{refusal}
 use Rattle.channel.specs.Effects.{read_of, after_write, after_arrival, after_levels, after_time, time_answer}
+
+-- a channel as it stands, and what its event is answered with
+abbrev pub answered : Channel → Answer → Stepped
+answered c answer = record { channel = c; answer = answer }
 
 -- an accepted event
 unfoldable pub effect : Channel → SeatEvent → Stepped

@@ -13,11 +13,11 @@ mod writes;
 ghost use Rattle.std.specs.Prelude.{◌≡◌};
 ghost use Rattle.channel.specs.Parts.{power_up, master_reset};
 ghost use Rattle.channel.specs.Status.{line};
-ghost use Rattle.channel.specs.Steps.{stepped};
+ghost use Rattle.channel.specs.Steps.{stepped, answered as Steps·answered};
 
 // `levels` are the inputs last given, `changes` the bits 0 to 3 of the MSR.
 #[repr(C)]
-#[derive(Clone, Copy)]
+#[derive(Clone, Copy, Default)]
 pub struct Modem {
     pub levels: u8,
     pub changes: u8,
@@ -44,24 +44,14 @@ impl Channel {
         ensures { result ≡ power_up }
     {
         Channel {
-            settings: Settings {
-                ier: 0,
-                fcr: 0,
-                lcr: 0,
-                mcr: 0,
-                scratch: 0,
-                dll: 0,
-                dlm: 0,
-            },
+            settings: Settings::default(),
             receiver: Receiver::power_up(),
             transmitter: Transmitter::power_up(),
-            modem: Modem {
-                levels: 0,
-                changes: 0,
-            },
+            modem: Modem::default(),
         }
     }
 
+    #[tactic(auto, unfolding(crate::specs::Parts::master_reset))]
     pub fn master_reset(mut self) -> Channel
         ensures { result ≡ master_reset self }
     {
@@ -75,22 +65,30 @@ impl Channel {
         self
     }
 
+    #[tactic(auto, unfolding(crate::specs::Steps::stepped, base::specs::Refusals::number_given, base::specs::Pick::pick))]
     pub fn step(self, e: SeatEvent) -> Stepped
         ensures { result ≡ stepped self e }
     {
-        let refused = self.settings.refusal(e);
-        if refused == 0 {
-            match e {
-                SeatEvent::Read(number) => return self.read(number),
-                SeatEvent::Write(number, byte) => return self.written(number, byte),
-                SeatEvent::Arrival(marks, byte) => return self.arrived(marks, byte),
-                SeatEvent::Levels(levels) => return self.levels_given(levels),
-                SeatEvent::Time => return self.time_passed(),
-            }
+        if let Some(refusal) = self.settings.refusal(e) {
+            return self.answered(Answer::Refused(refusal.number()));
         }
+        // Each arm returns by itself: a value that all arms join in is copied once more in every event.
+        match e {
+            SeatEvent::Read(number) => return self.read(number),
+            SeatEvent::Write(number, byte) => return self.written(number, byte),
+            SeatEvent::Arrival(marks, byte) => return self.arrived(marks, byte),
+            SeatEvent::Levels(levels) => return self.levels_given(levels),
+            SeatEvent::Time => return self.time_passed(),
+        }
+    }
+
+    // The channel as it is now, with this answer.
+    pub(crate) fn answered(self, answer: Answer) -> Stepped
+        ensures { result ≡ Steps·answered self answer }
+    {
         Stepped {
             channel: self,
-            answer: Answer::Refused(refused),
+            answer,
         }
     }
 

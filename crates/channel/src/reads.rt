@@ -22,51 +22,41 @@ impl Channel {
         );
         let named = byte % 16 == status::IIR_HOLDING_EMPTY;
         self.transmitter = self.transmitter.iir_read(named);
-        Stepped {
-            channel: self,
-            answer: Answer::Byte(byte),
-        }
+        self.answered(Answer::Byte(byte))
     }
 
     // The answer and the channel after it, in the same arm.
-    pub(crate) fn read(mut self, number: u8) -> Stepped
-        ensures { result ≡ effect self (Read number) }
+    #[tactic(auto, unfolding(crate::specs::Effects::after_read, crate::specs::Effects::answer_at, crate::specs::Effects::lsr_read, crate::specs::Effects::msr_read, crate::specs::Status::lsr, crate::specs::Status::msr))]
+    fn shown_by(mut self, register: Register) -> Stepped
+        ensures { result ≡ read_of self register }
     {
-        let register = self.settings.register(number);
         match register {
             Register::RbrThr => {
                 let got = self.receiver.get();
-                let rest = got.receiver;
-                let figures = got.figures;
-                self.receiver = rest;
-                return Stepped {
-                    channel: self,
-                    answer: Answer::Letter(got.byte, figures),
-                };
+                self.receiver = got.receiver;
+                return self.answered(Answer::Letter(got.byte, got.figures));
             }
             Register::IirFcr => return self.iir_read(),
             Register::Lsr => {
                 let fifo = self.settings.is_fifo();
                 let byte = status::lsr(fifo, self.receiver, self.transmitter);
                 self.receiver = self.receiver.lsr_read(fifo);
-                return Stepped {
-                    channel: self,
-                    answer: Answer::Byte(byte),
-                };
+                return self.answered(Answer::Byte(byte));
             }
             Register::Msr => {
                 let inputs = registers::inputs(self.settings.mcr, self.modem.levels);
                 let byte = registers::modem_status(self.modem.changes, inputs);
                 self.modem.changes = 0;
-                return Stepped {
-                    channel: self,
-                    answer: Answer::Byte(byte),
-                };
+                return self.answered(Answer::Byte(byte));
             }
-            _ => return Stepped {
-                channel: self,
-                answer: Answer::Byte(self.settings.shown(register)),
-            },
+            _ => return self.answered(Answer::Byte(self.settings.shown(register))),
         }
+    }
+
+    #[tactic(auto, unfolding(crate::specs::Steps::effect))]
+    pub(crate) fn read(self, number: u8) -> Stepped
+        ensures { result ≡ effect self (Read number) }
+    {
+        self.shown_by(self.settings.register(number))
     }
 }

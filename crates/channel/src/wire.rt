@@ -11,6 +11,7 @@ use receiver::Receiver;
 
 impl Channel {
     // A character is received, whether it comes from outside or out of the channel's own shift register.
+    #[tactic(auto, unfolding(crate::specs::Effects::receives))]
     fn receives(self, character: Character) -> Receiver
         ensures { result ≡ Effects·receives self character }
     {
@@ -18,6 +19,7 @@ impl Channel {
     }
 
     // In loopback the receive side does not hear what arrives.
+    #[tactic(auto, unfolding(crate::specs::Effects::heard_outside, base::specs::Pick::pick))]
     fn heard_outside(self, character: Character) -> Receiver
         ensures { result ≡ heard_outside self character }
     {
@@ -27,18 +29,16 @@ impl Channel {
         self.receives(character)
     }
 
+    #[tactic(auto, unfolding(crate::specs::Steps::effect, crate::specs::Effects::after_arrival))]
     pub(crate) fn arrived(mut self, marks: u8, byte: u8) -> Stepped
         ensures { result ≡ effect self (Arrival marks byte) }
     {
-        let heard = self.heard_outside(Character { data: byte, marks });
-        self.receiver = heard;
-        Stepped {
-            channel: self,
-            answer: Answer::Done,
-        }
+        self.receiver = self.heard_outside(Character { data: byte, marks });
+        self.answered(Answer::Done)
     }
 
     // The modem side where the MCR and the levels become these: what changes is told from the inputs that the channel sees.
+    #[tactic(auto, unfolding(crate::specs::Effects::noticed))]
     pub(crate) fn noticed(self, mcr: u8, levels: u8) -> Modem
         ensures { result ≡ Effects·noticed self mcr levels }
     {
@@ -50,18 +50,16 @@ impl Channel {
         }
     }
 
+    #[tactic(auto, unfolding(crate::specs::Steps::effect, crate::specs::Effects::after_levels))]
     pub(crate) fn levels_given(mut self, levels: u8) -> Stepped
         ensures { result ≡ effect self (Levels levels) }
     {
-        let modem = self.noticed(self.settings.mcr, levels);
-        self.modem = modem;
-        Stepped {
-            channel: self,
-            answer: Answer::Done,
-        }
+        self.modem = self.noticed(self.settings.mcr, levels);
+        self.answered(Answer::Done)
     }
 
     // In loopback the receive side hears what leaves.
+    #[tactic(auto, unfolding(crate::specs::Effects::heard_back, base::specs::Pick::pick))]
     fn heard_back(self) -> Receiver
         ensures { result ≡ heard_back self }
     {
@@ -72,6 +70,7 @@ impl Channel {
         self.receiver
     }
 
+    #[tactic(auto, unfolding(crate::specs::Steps::effect, crate::specs::Effects::after_time, crate::specs::Effects::time_answer))]
     pub(crate) fn time_passed(mut self) -> Stepped
         ensures { result ≡ effect self Time }
     {
@@ -81,9 +80,6 @@ impl Channel {
         let heard = self.heard_back();
         self.transmitter = self.transmitter.shift();
         self.receiver = heard.wait(self.settings.is_fifo());
-        Stepped {
-            channel: self,
-            answer,
-        }
+        self.answered(answer)
     }
 }

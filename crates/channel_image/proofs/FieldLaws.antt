@@ -82,7 +82,7 @@ module _ (l : List ℕ) (place n most : ℕ) where
   small_at each k past below =
       leb-true _ _ (sym (ap (λ (b : Bool). b || leb (at l (place + k)) most) (le-ltb k n past)) ∙ every_each 16 (small_from l place n most) each k below)
 
-  small_from_lem : ((k : ℕ) → n ≤ k → k < 16 → at l (place + k) ≤ most) → sixteen_small l place n most ≡ true
+  pub small_from_lem : ((k : ℕ) → n ≤ k → k < 16 → at l (place + k) ≤ most) → sixteen_small l place n most ≡ true
   unfolding sixteen_small
   small_from_lem each = every_from 16 (small_from l place n most) (λ k below. by k below (either_way (ltb k n)))
     where

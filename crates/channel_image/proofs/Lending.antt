@@ -1,19 +1,15 @@
 -- What a call leaves of the part that it is lent.
-use mathlib.Core.Bool.{Bool, ◌&&◌}
-use mathlib.Core.Path.{ap, ◌∙◌}
-use lib.ListN.{length, take}
+use mathlib.Core.Path.{◌∙◌}
 use borrow.Author.Tests.{le-leb, lt-leb}
 use Rattle.base.specs.PickLaws.{pick_true, pick_false}
 use Rattle.base.specs.StoreLaws.{stored_first}
-use Rattle.channel_image.specs.Allowed.{channel_good}
 use Rattle.channel_image.specs.Places.{channel_length}
-use Rattle.channel_image.specs.Read.{found}
+use Rattle.channel_image.specs.FoundLaws.{found_short}
 use Rattle.channel_image.specs.ThereAndBack.{Lent}
 use Rattle.channel_image.specs.Written.{channel_bytes}
 use Rattle.channel_image.proofs.WrittenLaws.{channel_length_lem}
 
 pub lent : Lent
-unfolding found
 lent =
     record {
       room = λ c l l' r p fits. (
@@ -21,5 +17,5 @@ lent =
         stored_first channel_length (channel_bytes c) l l' (channel_length_lem c) fits (p.bytes ∙ pick_true _ _ _ (le-leb _ _ fits)),
       );
       none = λ c l l' r p short. (p.answer ∙ lt-leb _ _ short, p.bytes ∙ pick_false _ _ _ (lt-leb _ _ short));
-      short = λ l short. pick_false _ _ _ (ap (λ (b : Bool). b && channel_good (take channel_length l)) (lt-leb channel_length (length l) short));
+      short = found_short;
     }

@@ -5,3 +5,5 @@ pub mod Slips
 pub mod FieldLaws
 pub mod ReadLaws
 pub mod WrittenLaws
+pub mod FilledLaws
+pub mod SmallLaws

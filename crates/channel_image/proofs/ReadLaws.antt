@@ -1,11 +1,11 @@
 -- What good bytes say is a sound channel, and that channel is written back as the same bytes.
-use Rattle.std.specs.Prelude.{ℕ, zero, suc, ◌+◌, ◌<◌, ◌≤◌, true, false, ◌&&◌, List, [], ◌∷◌, ◌++◌, ◌⊎◌, ◌≡◌, refl, eqb, ltb, length, get_or, take, replicate}
-use Rattle.std.proofs.Common.{inl, inr, ⊎_elim, ap, sym, ◌∙◌, arith}
+use Rattle.std.specs.Prelude.{ℕ, zero, suc, ◌+◌, ◌<◌, ◌≤◌, true, false, ◌&&◌, List, [], ◌∷◌, ◌++◌, ◌⊎◌, ◌≡◌, refl, eqb, ltb, length, take, replicate, Some}
+use Rattle.std.proofs.Common.{inl, inr, ap, sym, ◌∙◌, arith}
 use borrow.Author.Tests.{lt-ltb, leb-true, ltb-false}
 use Rattle.base.specs.Bits.{digit}
 use Rattle.base.specs.ListLaws.{listed, listed_at, listed_same, written_out}
 use Rattle.base.specs.Pick.{pick}
-use Rattle.base.specs.PickLaws.{pick_true, pick_false, both_hold, either_way, never}
+use Rattle.base.specs.PickLaws.{pick_true, pick_false, both_hold, either_way}
 use Rattle.channel_laws.specs.SoundLaws as channel
 use Rattle.queue.specs.declared.Character.{Character}
 use Rattle.queue.specs.Queue.{no_character, capacity, marked}
@@ -17,21 +17,18 @@ use Rattle.receiver.proofs.SoundLaws as receiver
 use Rattle.channel.specs.Sound.{sound_channel}
 use Rattle.transmitter.specs.Sound.{sound_transmitter}
 use Rattle.transmitter.specs.SoundLaws as transmitter
-use Rattle.channel_image.specs.declared.Found.{Found}
+use Rattle.channel.specs.declared.Channel.{Channel}
+use Rattle.channel_image.specs.FoundLaws.{some_picked}
 use Rattle.channel_image.specs.Allowed.{fifo_at, count_allowed, channel_good}
 use Rattle.channel_image.proofs.FieldLaws.{good_fields, groups, registers, unused, within}
 use Rattle.channel_image.specs.Fields.{Fields}
+use Rattle.channel_image.specs.PartLaws.{no_mark}
 use Rattle.channel_image.specs.Places.{channel_length, at}
 use Rattle.channel_image.specs.Read.{character_at, slots_from, transmitter_from, receiver_from, channel_from, found}
 use Rattle.channel_image.specs.SlotLaws.{tidy_of, marks_within_lem, none_marked}
 use Rattle.channel_image.specs.Written.{queued_byte, front_bytes, channel_bytes, has_room}
 
 -- ---- a sound channel
-
-no_mark : (m k : ℕ) → ◌≡◌ {A = ℕ} (get_or (replicate m 0) k 0) 0
-no_mark zero k = refl
-no_mark (suc m) zero = refl
-no_mark (suc m) (suc k) = no_mark m k
 
 module _ (l : List ℕ) (good : channel_good l ≡ true) where
   rows : Fields l
@@ -140,19 +137,15 @@ module _ (l : List ℕ) (long : length l ≡ channel_length) (good : channel_goo
 
 -- ---- as the reader finds it
 
--- what was found well
-pub record Well (l : List ℕ) : Type 0 where
+-- what was found
+pub record Well (l : List ℕ) (c : Channel) : Type 0 where
   pub long : channel_length ≤ length l
   pub good : channel_good (take channel_length l) ≡ true
-  pub channel : (found l).channel ≡ channel_from (take channel_length l)
+  pub channel : channel_from (take channel_length l) ≡ c
 
-pub found_well : (l : List ℕ) → (found l).good ≡ true → Well l
+pub found_well : (l : List ℕ) (c : Channel) → found l ≡ Some c → Well l c
 unfolding found
-found_well l good =
-    let test = has_room l && channel_good (take channel_length l) in
-    ⊎_elim
-    (λ (holds : test ≡ true).
-    let two = both_hold (has_room l) (channel_good (take channel_length l)) holds in
-    record { long = leb-true _ _ two.0; good = two.1; channel = ap (λ (r : Found). r.channel) (pick_true test _ _ holds) })
-    (λ (fails : test ≡ false). absurd (never (sym (ap (λ (r : Found). r.good) (pick_false test _ _ fails)) ∙ good)))
-    (either_way test)
+found_well l c said =
+    let some = some_picked (has_room l && channel_good (take channel_length l)) (channel_from (take channel_length l)) c said in
+    let two = both_hold (has_room l) (channel_good (take channel_length l)) some.0 in
+    record { long = leb-true _ _ two.0; good = two.1; channel = some.1 }

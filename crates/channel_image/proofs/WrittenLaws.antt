@@ -1,5 +1,5 @@
 -- The bytes of a sound channel: they are read back as the same channel, and nothing of them is refused.
-use Rattle.std.specs.Prelude.{ℕ, Bool, true, false, ◌||◌, List, ◌++◌, ◌≡◌, refl, eqb, length, take}
+use Rattle.std.specs.Prelude.{ℕ, Bool, true, false, ◌||◌, List, ◌++◌, ◌≡◌, refl, eqb, length, take, Some}
 use Rattle.std.proofs.Math.Bool.{◌&&◌, or-true}
 use Rattle.std.proofs.Math.Path.{ap, ap₂}
 use Rattle.std.proofs.Common.{sym, ◌∙◌, arith, length-append, take_at}
@@ -153,7 +153,7 @@ sound_good c sound =
     rw (registers_told c p, flags_told c p, marks_told c p, queues_told c p, count_told c p, unused_zero_lem c)
 
 -- what the reader finds in it, whatever stands behind it
-pub found_written : (c : Channel) (rest : List ℕ) → sound_channel c ≡ true → found (channel_bytes c ++ rest) ≡ record { channel = c; good = true }
+pub found_written : (c : Channel) (rest : List ℕ) → sound_channel c ≡ true → found (channel_bytes c ++ rest) ≡ Some c
 unfolding found
 found_written c rest sound =
     let front : take channel_length (channel_bytes c ++ rest) ≡ channel_bytes c = take_at (channel_bytes c) rest channel_length (channel_length_lem c) in
@@ -161,4 +161,4 @@ found_written c rest sound =
     = le-leb channel_length (length (channel_bytes c ++ rest)) (omega (arith, length-append (channel_bytes c) rest, channel_length_lem c)) in
     let good : (has_room (channel_bytes c ++ rest) && channel_good (take channel_length (channel_bytes c ++ rest))) ≡ true
     = ap₂ ◌&&◌ room (ap channel_good front ∙ sound_good c sound) in
-    pick_true _ _ _ good ∙ (λ i. record { channel = (ap channel_from front ∙ read_back c sound) i; good = true })
+    pick_true _ _ _ good ∙ ap Some (ap channel_from front ∙ read_back c sound)

@@ -7,3 +7,5 @@ pub mod Told
 pub mod ThereAndBack
 pub mod Statements
 pub mod SlotLaws
+pub mod FoundLaws
+pub mod PartLaws

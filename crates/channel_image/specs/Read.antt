@@ -1,14 +1,12 @@
 -- The channel that its bytes say.
-use Rattle.std.specs.Prelude.{ℕ, ◌+◌, true, false, ◌&&◌, List, take, replicate}
+use Rattle.std.specs.Prelude.{ℕ, ◌+◌, ◌&&◌, List, take, replicate, Option, Some, None}
 use Rattle.base.specs.ListLaws.{listed}
 use Rattle.base.specs.Pick.{pick}
 use Rattle.channel.specs.declared.Channel.{Channel}
 use Rattle.queue.specs.declared.Character.{Character}
 use Rattle.receiver.specs.declared.Receiver.{Receiver}
 use Rattle.registers.specs.declared.Settings.{Settings}
-use Rattle.channel.specs.Parts.{power_up}
 use Rattle.transmitter.specs.declared.Transmitter.{Transmitter}
-use Rattle.channel_image.specs.declared.Found.{Found}
 use Rattle.channel_image.specs.Allowed.{channel_good}
 use Rattle.channel_image.specs.Places.{channel_length, at, yes_at, ier_place, fcr_place, lcr_place, mcr_place, changes_place, scratch_place, levels_place, dll_place, dlm_place, last_place, overrun_place, kept_place, flag_place}
 use Rattle.channel_image.specs.Places.{timeout_place, busy_place, shift_place, waiting_place, outgoing_place, received_place, arrived_place, marks_place}
@@ -69,13 +67,6 @@ channel_from l =
       modem = record { levels = at l levels_place; changes = at l changes_place };
     }
 
--- where there is none, a channel at power-up stands for it
-abbrev pub none_found : Found
-none_found = record { channel = power_up; good = false }
-
 -- the channel that a lent part begins with, or none; what stands behind it is not looked at
-unfoldable pub found : List ℕ → Found
-found l =
-    pick (has_room l && channel_good (take channel_length l))
-    (record { channel = channel_from (take channel_length l); good = true })
-    none_found
+unfoldable pub found : List ℕ → Option Channel
+found l = pick (has_room l && channel_good (take channel_length l)) (Some (channel_from (take channel_length l))) None

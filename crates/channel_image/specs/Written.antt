@@ -8,16 +8,19 @@ use Rattle.channel.specs.declared.Channel.{Channel}
 use Rattle.queue.specs.declared.Character.{Character}
 use Rattle.queue.specs.declared.Queue.{Queue}
 use Rattle.queue.specs.Queue.{no_character}
-use Rattle.channel_image.specs.declared.writing.QueueBytes.{QueueBytes}
 use Rattle.channel_image.specs.Places.{channel_length}
 
 -- one byte of the character in slot k of a queue; from the number queued on there is no character, and the byte is 0
 abbrev pub queued_byte : (Character → ℕ) → Queue → ℕ → ℕ
 queued_byte field q k = pick (ltb k q.count) (field (get_or q.slots k no_character)) 0
 
--- of its sixteen slots, the oldest character's first: the data, and the marks
-abbrev pub bytes_of : Queue → QueueBytes
-bytes_of q = record { «data» = listed 16 (queued_byte (λ ch. ch.«data») q); marks = listed 16 (queued_byte (λ ch. ch.marks) q) }
+-- of its sixteen slots, the oldest character's first: the data, or the marks
+abbrev pub bytes_of : (Character → ℕ) → Queue → List ℕ
+bytes_of field q = listed 16 (queued_byte field q)
+
+-- the characters of its slots, with none from the number queued on
+abbrev pub told_slots : Queue → List Character
+told_slots q = listed 16 (λ k. pick (ltb k q.count) (get_or q.slots k no_character) no_character)
 
 -- bytes 0 to 16: registers, flags, marks and counts, the shift register, and how many are queued to send
 unfoldable pub front_bytes : Channel → List ℕ
@@ -44,8 +47,9 @@ front_bytes c =
 -- the channel, in 66 bytes: those, the characters to send, and the number, the data and the marks of those received
 unfoldable pub channel_bytes : Channel → List ℕ
 channel_bytes c =
-    front_bytes c ++ (bytes_of c.transmitter.queue).«data» ++ (c.receiver.queue.count ∷ []) ++ (bytes_of c.receiver.queue).«data»
-    ++ (bytes_of c.receiver.queue).marks
+    front_bytes c ++ bytes_of (λ ch. ch.«data») c.transmitter.queue ++ (c.receiver.queue.count ∷ [])
+    ++ bytes_of (λ ch. ch.«data») c.receiver.queue
+    ++ bytes_of (λ ch. ch.marks) c.receiver.queue
 
 -- a lent part has room for a channel
 abbrev pub has_room : List ℕ → Bool

@@ -5,19 +5,14 @@ mod reading;
 mod tests;
 mod writing;
 
-use channel::Channel;
 pub use reading::get;
 pub use writing::put;
 
 // "seat records of one fixed length": a channel's part of one
 pub const LENGTH: usize = 66;
 
-// What the bytes say. Where they say no channel, `channel` is one at power-up.
-#[derive(Clone, Copy)]
-pub struct Found {
-    pub channel: Channel,
-    pub good: bool,
-}
+// A queue has so many slots.
+pub(crate) const SLOTS: usize = 16;
 
 // Where the fields stand.
 pub(crate) const IER: usize = 0;

@@ -1,37 +1,33 @@
 // The reader of a channel's bytes.
-ghost use Rattle.std.specs.Prelude.{◌≡◌, ◌≤◌, length, take};
-ghost use Rattle.channel_image.specs.Read.{slots_from, transmitter_from, receiver_from, channel_from, none_found, found};
+ghost use Rattle.std.specs.Prelude.{◌≡◌, ◌≤◌, length};
+ghost use Rattle.channel_image.specs.Read.{slots_from, transmitter_from, receiver_from, channel_from, found};
 
-use crate::{Found, tests};
+use crate::tests;
 use channel::{Channel, Modem};
 use queue::{Character, Queue};
 use receiver::Receiver;
 use registers::Settings;
+use std::array;
 use transmitter::Transmitter;
 
-fn slots_from(b: [u8; 66], place: usize, m: [u8; 66], marks: usize) -> [Character; 16]
-    requires { (place ≤ 50) × (marks ≤ 50) }
-    ensures { result ≡ slots_from b place m marks }
+// The slots whose characters have these bytes and these marks.
+fn slots_from(bytes: &[u8], marks: &[u8]) -> [Character; crate::SLOTS]
+    requires { (16 ≤ length bytes.now) × (16 ≤ length marks.now) }
+    ensures { result ≡ slots_from bytes.now 0 marks.now 0 }
 {
-    let mut slots = [Character { data: 0, marks: 0 }; 16];
-    let mut k: usize = 0;
-    while k < 16 {
-        slots[k] = Character {
-            data: b[place + k],
-            marks: m[marks + k],
-        };
-        k = k + 1;
-    }
-    slots
+    array::from_fn(|k| Character {
+        data: bytes[k],
+        marks: marks[k],
+    })
 }
 
-fn transmitter_from(b: [u8; 66]) -> Transmitter
-    ensures { result ≡ transmitter_from b }
+// A character to send has no marks.
+fn transmitter_from(b: &[u8; crate::LENGTH]) -> Transmitter
+    ensures { result ≡ transmitter_from b.now }
 {
-    let unmarked = [0u8; 66];
     Transmitter {
         queue: Queue {
-            slots: slots_from(b, crate::OUTGOING, unmarked, 0),
+            slots: slots_from(&b[crate::OUTGOING..], &[0; crate::SLOTS]),
             count: b[crate::WAITING],
         },
         busy: b[crate::BUSY] == 1,
@@ -40,12 +36,12 @@ fn transmitter_from(b: [u8; 66]) -> Transmitter
     }
 }
 
-fn receiver_from(b: [u8; 66]) -> Receiver
-    ensures { result ≡ receiver_from b }
+fn receiver_from(b: &[u8; crate::LENGTH]) -> Receiver
+    ensures { result ≡ receiver_from b.now }
 {
     Receiver {
         queue: Queue {
-            slots: slots_from(b, crate::ARRIVED, b, crate::MARKS),
+            slots: slots_from(&b[crate::ARRIVED..], &b[crate::MARKS..]),
             count: b[crate::RECEIVED],
         },
         overrun: b[crate::OVERRUN] == 1,
@@ -55,8 +51,8 @@ fn receiver_from(b: [u8; 66]) -> Receiver
     }
 }
 
-fn channel_from(b: [u8; 66]) -> Channel
-    ensures { result ≡ channel_from b }
+fn channel_from(b: &[u8; crate::LENGTH]) -> Channel
+    ensures { result ≡ channel_from b.now }
 {
     Channel {
         settings: Settings {
@@ -77,37 +73,14 @@ fn channel_from(b: [u8; 66]) -> Channel
     }
 }
 
-fn record_of(part: &[u8]) -> [u8; 66]
-    requires { 66 ≤ length part.now }
-    ensures { result ≡ take 66 part.now }
-{
-    let mut b = [0u8; 66];
-    b.copy_from_slice(&part[..crate::LENGTH]);
-    b
-}
-
-fn none_found() -> Found
-    ensures { result ≡ none_found }
-{
-    Found {
-        channel: Channel::power_up(),
-        good: false,
-    }
-}
-
 // Reads the channel that a lent part begins with.
-pub fn get(part: &[u8]) -> Found
+pub fn get(part: &[u8]) -> Option<Channel>
     ensures { result ≡ found part.now }
 {
-    if part.len() < crate::LENGTH {
-        return none_found();
-    }
-    let b = record_of(part);
+    let b = part.first_chunk::<{ crate::LENGTH }>()?;
     if tests::channel_good(b) {
-        return Found {
-            channel: channel_from(b),
-            good: true,
-        };
+        Some(channel_from(b))
+    } else {
+        None
     }
-    none_found()
 }

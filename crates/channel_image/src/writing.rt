@@ -1,35 +1,28 @@
 // The writer of a channel's bytes.
 ghost use Rattle.std.specs.Prelude.{◌≡◌, ◌+◌, ◌≤◌, length};
 ghost use Rattle.std.proofs.lemmas.List.Edits.{sets};
-ghost use Rattle.channel_image.specs.Written.{bytes_of, front_bytes, channel_bytes, Put};
+ghost use Rattle.channel_image.specs.Written.{told_slots, front_bytes, channel_bytes, Put};
 
 use channel::Channel;
-use queue::Queue;
+use queue::{Character, Queue};
+use std::array;
 
-// The bytes of a queue's sixteen slots.
-#[derive(Clone, Copy)]
-pub struct QueueBytes {
-    pub data: [u8; 16],
-    pub marks: [u8; 16],
-}
+const NOTHING: Character = Character { data: 0, marks: 0 };
 
 // What stands in a slot from the number queued on is not told, whatever a caller's bench has there.
-fn bytes_of(q: Queue) -> QueueBytes
-    ensures { result ≡ bytes_of q }
+fn told_slots(q: Queue) -> [Character; crate::SLOTS]
+    ensures { result ≡ told_slots q }
 {
-    let n = q.count as usize;
-    let mut data = [0u8; 16];
-    let mut marks = [0u8; 16];
-    let mut k: usize = 0;
-    while k < 16 {
-        data[k] = base::pick_byte(k < n, q.slots[k].data, 0);
-        marks[k] = base::pick_byte(k < n, q.slots[k].marks, 0);
-        k = k + 1;
-    }
-    QueueBytes { data, marks }
+    array::from_fn(|k| {
+        if k < q.count as usize {
+            q.slots[k]
+        } else {
+            NOTHING
+        }
+    })
 }
 
-fn front_of(c: Channel) -> [u8; 17]
+fn front_of(c: Channel) -> [u8; crate::OUTGOING]
     ensures { result ≡ front_bytes c }
 {
     [
@@ -43,11 +36,11 @@ fn front_of(c: Channel) -> [u8; 17]
         c.settings.dll,
         c.settings.dlm,
         c.receiver.last,
-        base::pick_byte(c.receiver.overrun, 1, 0),
+        u8::from(c.receiver.overrun),
         c.receiver.kept,
-        base::pick_byte(c.transmitter.flag, 1, 0),
+        u8::from(c.transmitter.flag),
         c.receiver.timeout,
-        base::pick_byte(c.transmitter.busy, 1, 0),
+        u8::from(c.transmitter.busy),
         base::pick_byte(c.transmitter.busy, c.transmitter.shift, 0),
         c.transmitter.queue.count,
     ]
@@ -65,14 +58,13 @@ fn put_channel(out: &mut [u8], c: Channel)
     ensures { out.new ≡ sets out.old 0 (channel_bytes c) }
 {
     let front = front_of(c);
-    let outgoing = bytes_of(c.transmitter.queue);
-    let number = [c.receiver.queue.count];
-    let arrived = bytes_of(c.receiver.queue);
+    let waiting = told_slots(c.transmitter.queue);
+    let received = told_slots(c.receiver.queue);
     put_at(&mut *out, crate::IER, &front);
-    put_at(&mut *out, crate::OUTGOING, &outgoing.data);
-    put_at(&mut *out, crate::RECEIVED, &number);
-    put_at(&mut *out, crate::ARRIVED, &arrived.data);
-    put_at(&mut *out, crate::MARKS, &arrived.marks);
+    put_at(&mut *out, crate::OUTGOING, &waiting.map(|ch| ch.data));
+    put_at(&mut *out, crate::RECEIVED, &[c.receiver.queue.count]);
+    put_at(&mut *out, crate::ARRIVED, &received.map(|ch| ch.data));
+    put_at(&mut *out, crate::MARKS, &received.map(|ch| ch.marks));
 }
 
 // Puts a channel's bytes at the start of a lent part, and says whether there was room for them.

@@ -1,5 +1,5 @@
 -- The ends: each takes its line out of service, and the rotating ones make it last-ranked; nothing else changes.
-use Rattle.std.specs.Prelude.{ℕ, ◌/◌, ◌%◌, ◌<◌, false, ◌≡◌, ◌⊎◌}
+use Rattle.std.specs.Prelude.{ℕ, ◌/◌, ◌%◌, ◌<◌, false, ◌≡◌, ◌⊎◌, Some, None as Nobody}
 use Rattle.std.proofs.Math.Path.{refl, ap}
 use Rattle.std.proofs.Common.{◌∙◌, inl, inr}
 use Rattle.base.specs.Bits.{bit}
@@ -17,7 +17,6 @@ use Rattle.controller.specs.RowLaws.{Same, Row, row, step_code}
 use Rattle.controller.specs.Steps.{step}
 use Rattle.controller.specs.declared.Controller.{Controller}
 use Rattle.controller.specs.declared.Operation.{Operation}
-use Rattle.controller.specs.declared.Turn.TheVariants.{Line, Nobody}
 
 -- "the first-ranked in-service line, in special mask mode only an unmasked one"
 abbrev pub Next : Operation → ℕ → Type 0
@@ -27,7 +26,7 @@ Next o n = FirstRanked o.first (Hinders o) n
 abbrev pub None : Operation → Type 0
 None o = (n : ℕ) → n < 8 → Hinders o n → ⊥
 
-takes : (o : Operation) (n : ℕ) → Next o n → served o ≡ Line n
+takes : (o : Operation) (n : ℕ) → Next o n → served o ≡ Some n
 takes o n next = finds_first o.first (hinders o) (Hinders o) (hinders_told o) (hinders_from o) n (served o) (served_first o) next
 
 takes_none : (o : Operation) → None o → served o ≡ Nobody

@@ -1,5 +1,5 @@
 -- The line that is granted is the first-ranked of the grantable ones, and the line that a plain end takes the first-ranked of those in service.
-use Rattle.std.specs.Prelude.{ℕ, ◌<◌, ◌≤◌, Bool, true, ◌||◌, ◌≡◌, refl, ltb}
+use Rattle.std.specs.Prelude.{ℕ, ◌<◌, ◌≤◌, Bool, true, ◌||◌, ◌≡◌, refl, ltb, Option, Some, None}
 use Rattle.std.proofs.Math.Bool.{false, not, ◌&&◌, and-false, or-true}
 use Rattle.std.proofs.Common.{sym, ◌∙◌, subst, ⊎_elim, not-le_of_lt, arith}
 use Rattle.std.proofs.Math.Path.{ap, ap₂}
@@ -15,8 +15,6 @@ use Rattle.controller.specs.Turns.{requests, asks, hinders, grantable, found, gr
 use Rattle.controller.specs.Words.{served}
 use Rattle.controller.specs.declared.Controller.{Controller}
 use Rattle.controller.specs.declared.Operation.{Operation}
-use Rattle.controller.specs.declared.Turn.{Turn}
-use Rattle.controller.specs.declared.Turn.TheVariants.{Line, Nobody}
 
 -- ---- what a search in order of rank gives: the first-ranked line that passes, or nobody, where none passes
 
@@ -25,15 +23,15 @@ pub record Foremost (first : ℕ) (test : ℕ → Bool) (n : ℕ) : Type 0 where
   pub passes : test n ≡ true
   pub least : (m : ℕ) → m < 8 → test m ≡ true → place first n ≤ place first m
 
-pub data Finds (first : ℕ) (test : ℕ → Bool) : Turn → Type 0 where
-  foremost : (n : ℕ) → Foremost first test n → Finds first test (Line n)
-  nobody : ((m : ℕ) → m < 8 → test m ≡ false) → Finds first test Nobody
+pub data Finds (first : ℕ) (test : ℕ → Bool) : Option ℕ → Type 0 where
+  foremost : (n : ℕ) → Foremost first test n → Finds first test (Some n)
+  nobody : ((m : ℕ) → m < 8 → test m ≡ false) → Finds first test None
 
 finds : (first : ℕ) (test : ℕ → Bool) → Finds first test (found first (first_place first test))
 unfolding found
 finds first test =
     let k = first_place first test in
-    pick_cases (Finds first test) (ltb k 8) (Line (line_at first k)) Nobody
+    pick_cases (Finds first test) (ltb k 8) (Some (line_at first k)) None
     (λ e.
     let less = ltb-true k 8 e in
     foremost (line_at first k)
@@ -47,11 +45,11 @@ finds first test =
     at_end : (k : ℕ) → k ≤ 8 → 8 ≤ k → k ≡ 8
     at_end k up down = omega arith
 
-line_found : (first : ℕ) (test : ℕ → Bool) (n : ℕ) (t : Turn) → Finds first test t → t ≡ Line n → Foremost first test n
+line_found : (first : ℕ) (test : ℕ → Bool) (n : ℕ) (t : Option ℕ) → Finds first test t → t ≡ Some n → Foremost first test n
 line_found first test n t (foremost k f) e = let q : k ≡ n = cc in subst (Foremost first test) q f
 line_found first test n t (nobody f) e = absurd (never n e)
   where
-    never : (n : ℕ) → Nobody ≡ Line n → ⊥
+    never : (n : ℕ) → None ≡ Some n → ⊥
     never n q = let z : ◌≡◌ {A = ℕ} 0 1 = cc in omega arith
 
 -- an acknowledge grants the first-ranked grantable line, and none exactly if none is grantable
@@ -59,7 +57,7 @@ pub granted_first : (c : Controller) → Finds c.operation.first (grantable c) (
 unfolding granted
 granted_first c = finds c.operation.first (grantable c)
 
-pub granted_line : (c : Controller) (n : ℕ) → granted c ≡ Line n → Foremost c.operation.first (grantable c) n
+pub granted_line : (c : Controller) (n : ℕ) → granted c ≡ Some n → Foremost c.operation.first (grantable c) n
 granted_line c n e = line_found c.operation.first (grantable c) n (granted c) (granted_first c) e
 
 -- a plain end takes the first-ranked line in service, in special mask mode of the unmasked ones
@@ -67,7 +65,7 @@ pub served_first : (o : Operation) → Finds o.first (hinders o) (served o)
 unfolding served
 served_first o = finds o.first (hinders o)
 
-pub served_line : (o : Operation) (n : ℕ) → served o ≡ Line n → Foremost o.first (hinders o) n
+pub served_line : (o : Operation) (n : ℕ) → served o ≡ Some n → Foremost o.first (hinders o) n
 served_line o n e = line_found o.first (hinders o) n (served o) (served_first o) e
 
 -- ---- a line is grantable exactly if it asks and ranks above every line that hinders
@@ -130,7 +128,7 @@ module _ (c : Controller) (n : ℕ) (serves : c.setup.automatic ≡ false) where
       (in_service n ∙ ap (λ (x : Bool). has c.operation.service n || x) (has_only n n ∙ eq-eqb (line n) (line n) refl) ∙ or-true (has c.operation.service n))
       (ap (λ (x : Bool). not (c.operation.special && x)) free ∙ aside c.operation.special)
 
-  pub none_after_grant : granted c ≡ Line n → (m : ℕ) → m < 8 → grantable (grant c n) m ≡ false
+  pub none_after_grant : granted c ≡ Some n → (m : ℕ) → m < 8 → grantable (grant c n) m ≡ false
   none_after_grant e m below =
       let f = granted_line c n e in
       let o = c.operation in

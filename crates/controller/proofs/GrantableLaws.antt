@@ -1,5 +1,5 @@
 -- Who is grantable, who hinders and who is first-ranked, as document 01 says it, over the fields alone; and the output by them.
-use Rattle.std.specs.Prelude.{ℕ, ◌<◌, ◌≤◌, Bool, true, false, ◌&&◌, ◌≡◌, refl}
+use Rattle.std.specs.Prelude.{ℕ, ◌<◌, ◌≤◌, Bool, true, false, ◌&&◌, ◌≡◌, refl, Option, Some, None}
 use Rattle.std.proofs.Math.Bool.{not}
 use Rattle.std.proofs.Common.{sym, ap, ap₂, ◌∙◌, ⊎_elim, le_antisymm, eq-eqb}
 use Rattle.base.specs.PickLaws.{either_way, not_both, both_hold, not_true}
@@ -13,8 +13,6 @@ use Rattle.controller.proofs.GrantLaws.{Finds, foremost, nobody, granted_first, 
 use Rattle.controller.specs.LineLaws.{stands_level, stands_edge}
 use Rattle.controller.specs.declared.Controller.{Controller}
 use Rattle.controller.specs.declared.Operation.{Operation}
-use Rattle.controller.specs.declared.Turn.{Turn}
-use Rattle.controller.specs.declared.Turn.TheVariants.{Line, Nobody}
 
 -- "A request stands in level mode if the line is high; in edge mode if its latch is set."
 pub record Stands (c : Controller) (n : ℕ) : Type 0 where
@@ -91,14 +89,14 @@ module _ (c : Controller) (n : ℕ) where
 
 module _ (first : ℕ) (test : ℕ → Bool) (Kind : ℕ → Type 0)
     (told : (m : ℕ) → test m ≡ true → Kind m) (from : (m : ℕ) → Kind m → test m ≡ true) where
-  pub finds_first : (n : ℕ) (t : Turn) → Finds first test t → FirstRanked first Kind n → t ≡ Line n
+  pub finds_first : (n : ℕ) (t : Option ℕ) → Finds first test t → FirstRanked first Kind n → t ≡ Some n
   finds_first n t (foremost k f) r =
       let same : place first k ≡ place first n =
       le_antisymm (f.least n r.small (from n r.kind)) (r.least k f.small (told k f.passes)) in
-      ap Line (place_apart first k n f.small r.small same)
+      ap Some (place_apart first k n f.small r.small same)
   finds_first n t (nobody f) r = absurd (not_both (from n r.kind) (f n r.small))
 
-  pub finds_none : (t : Turn) → Finds first test t → ((m : ℕ) → m < 8 → Kind m → ⊥) → t ≡ Nobody
+  pub finds_none : (t : Option ℕ) → Finds first test t → ((m : ℕ) → m < 8 → Kind m → ⊥) → t ≡ None
   finds_none t (foremost k f) none = absurd (none k f.small (told k f.passes))
   finds_none t (nobody f) none = refl
 
@@ -115,7 +113,7 @@ pub record Raised (c : Controller) : Type 0 where
   pub small : line < 8
   pub grantable : Grantable c line
 
-raised_by : (c : Controller) (t : Turn) → Finds c.operation.first (grantable c) t → ready c.setup ≡ true → some (grantable c) ≡ true → Raised c
+raised_by : (c : Controller) (t : Option ℕ) → Finds c.operation.first (grantable c) t → ready c.setup ≡ true → some (grantable c) ≡ true → Raised c
 raised_by c t (foremost n f) up e = record { ready = up; line = n; small = f.small; grantable = grantable_told c n f.passes }
 raised_by c t (nobody f) up e = absurd (not_both e (none_some (grantable c) f))
 

@@ -1,5 +1,5 @@
 -- What moves the first-ranked line, what enters and leaves service, and what sets and clears a latch: nothing else does.
-use Rattle.std.specs.Prelude.{ℕ, ◌/◌, ◌%◌, Bool, true, false, not, ◌&&◌, ◌||◌, ◌≡◌, refl, ◌⊎◌}
+use Rattle.std.specs.Prelude.{ℕ, ◌/◌, ◌%◌, Bool, true, false, not, ◌&&◌, ◌||◌, ◌≡◌, refl, ◌⊎◌, Some}
 use Rattle.std.proofs.Math.Path.{ap}
 use Rattle.std.proofs.Common.{◌∙◌, inl, inr}
 use Rattle.base.specs.PickLaws.{pick_cases, both_hold}
@@ -13,17 +13,16 @@ use Rattle.controller.proofs.OutcomeLaws.{Operates, nothing, ends, ends_last, en
 use Rattle.controller.specs.Steps.{step}
 use Rattle.controller.specs.declared.Controller.{Controller}
 use Rattle.controller.specs.declared.Operation.{Operation}
-use Rattle.controller.specs.declared.Turn.TheVariants.{Line}
 
 -- ---- the first-ranked line
 
 pub data FirstMoves (c : Controller) : Signal → ℕ → Type 0 where
   stays : (signal : Signal) → FirstMoves c signal c.operation.first
   by_icw1 : (p b : ℕ) → p ≡ 0 → is_icw1 b ≡ true → FirstMoves c (write p b) 0
-  by_rotating_end : (p b n : ℕ) → p ≡ 0 → b / 32 % 8 ≡ 0b101 → served c.operation ≡ Line n → FirstMoves c (write p b) (next n)
+  by_rotating_end : (p b n : ℕ) → p ≡ 0 → b / 32 % 8 ≡ 0b101 → served c.operation ≡ Some n → FirstMoves c (write p b) (next n)
   by_making_last : (p b : ℕ) → p ≡ 0 → b / 32 % 8 ≡ 0b110 → FirstMoves c (write p b) (next (line b))
   by_ending_last : (p b : ℕ) → p ≡ 0 → b / 32 % 8 ≡ 0b111 → FirstMoves c (write p b) (next (line b))
-  by_grant : (n : ℕ) → granted c ≡ Line n → c.setup.automatic ≡ true → c.operation.rotation ≡ true → FirstMoves c acknowledge (next n)
+  by_grant : (n : ℕ) → granted c ≡ Some n → c.setup.automatic ≡ true → c.operation.rotation ≡ true → FirstMoves c acknowledge (next n)
 
 module _ (c : Controller) where
   first_operated : (p b : ℕ) (o : Operation) → p ≡ 0 → Operates c.operation b o → FirstMoves c (write p b) o.first
@@ -59,14 +58,14 @@ module _ (c : Controller) where
 
 -- an end word that finds line n: a plain end by its search, another by its bits 2-0
 pub data Ends (o : Operation) (b : ℕ) : ℕ → Type 0 where
-  plain : (n : ℕ) → (b / 32 % 8 ≡ 0b001) ⊎ (b / 32 % 8 ≡ 0b101) → served o ≡ Line n → Ends o b n
+  plain : (n : ℕ) → (b / 32 % 8 ≡ 0b001) ⊎ (b / 32 % 8 ≡ 0b101) → served o ≡ Some n → Ends o b n
   named : (b / 32 % 8 ≡ 0b011) ⊎ (b / 32 % 8 ≡ 0b111) → Ends o b (line b)
 
 pub data ServiceMoves (c : Controller) : Signal → ℕ → Type 0 where
   stays : (signal : Signal) → ServiceMoves c signal c.operation.service
   by_icw1 : (p b : ℕ) → p ≡ 0 → is_icw1 b ≡ true → ServiceMoves c (write p b) 0
   by_end : (p b n : ℕ) → p ≡ 0 → Ends c.operation b n → ServiceMoves c (write p b) (without c.operation.service (only n))
-  by_grant : (n : ℕ) → granted c ≡ Line n → c.setup.automatic ≡ false → ServiceMoves c acknowledge (join c.operation.service (only n))
+  by_grant : (n : ℕ) → granted c ≡ Some n → c.setup.automatic ≡ false → ServiceMoves c acknowledge (join c.operation.service (only n))
 
 module _ (c : Controller) where
   service_operated : (p b : ℕ) (o : Operation) → p ≡ 0 → Operates c.operation b o → ServiceMoves c (write p b) o.service
@@ -103,7 +102,7 @@ pub data LatchMoves (c : Controller) : Signal → ℕ → Type 0 where
   stays : (signal : Signal) → LatchMoves c signal c.lines.latches
   by_levels : (high : ℕ) → LatchMoves c (levels high) (settled c high).lines.latches
   by_icw1 : (p b : ℕ) → p ≡ 0 → is_icw1 b ≡ true → LatchMoves c (write p b) 0
-  by_grant : (n : ℕ) → granted c ≡ Line n → LatchMoves c acknowledge (without c.lines.latches (only n))
+  by_grant : (n : ℕ) → granted c ≡ Some n → LatchMoves c acknowledge (without c.lines.latches (only n))
 
 module _ (c : Controller) where
   latch_after : (signal : Signal) (d : Controller) → Outcome c signal d → LatchMoves c signal d.lines.latches

@@ -1,5 +1,5 @@
 -- All that a signal can do to a controller, told apart. Whatever is not named here does not happen.
-use Rattle.std.specs.Prelude.{ℕ, ◌/◌, ◌%◌, ◌≤◌, Bool, false, not, ◌&&◌, ◌||◌, ◌≡◌, refl, ltb}
+use Rattle.std.specs.Prelude.{ℕ, ◌/◌, ◌%◌, ◌≤◌, Bool, false, not, ◌&&◌, ◌||◌, ◌≡◌, refl, ltb, Option, Some, None}
 use Rattle.std.proofs.Math.Bool.{true}
 use Rattle.std.proofs.Math.Logic.{⊎_elim}
 use Rattle.std.proofs.Common.{arith}
@@ -16,14 +16,12 @@ use Rattle.controller.specs.RefusalLaws.{served_parts, step_keeps}
 use Rattle.controller.specs.Steps.{effect, step}
 use Rattle.controller.specs.declared.Controller.{Controller}
 use Rattle.controller.specs.declared.Operation.{Operation}
-use Rattle.controller.specs.declared.Turn.{Turn}
-use Rattle.controller.specs.declared.Turn.TheVariants.{Line, Nobody}
 
 -- what an operation word does at port 0
 pub data Operates (o : Operation) (b : ℕ) : Operation → Type 0 where
   nothing : Operates o b o
-  ends : (n : ℕ) → b / 32 % 8 ≡ 0b001 → served o ≡ Line n → Operates o b (ended o n)
-  ends_last : (n : ℕ) → b / 32 % 8 ≡ 0b101 → served o ≡ Line n → Operates o b (made_last (ended o n) n)
+  ends : (n : ℕ) → b / 32 % 8 ≡ 0b001 → served o ≡ Some n → Operates o b (ended o n)
+  ends_last : (n : ℕ) → b / 32 % 8 ≡ 0b101 → served o ≡ Some n → Operates o b (made_last (ended o n) n)
   ends_line : b / 32 % 8 ≡ 0b011 → Operates o b (ended o (line b))
   ends_line_last : b / 32 % 8 ≡ 0b111 → Operates o b (made_last (ended o (line b)) (line b))
   makes_last : b / 32 % 8 ≡ 0b110 → Operates o b (made_last o (line b))
@@ -41,16 +39,16 @@ pub data Outcome (c : Controller) : Signal → Controller → Type 0 where
   masks : (p b : ℕ) → p ≡ 1 → ready c.setup ≡ true → Outcome c (write p b) (with_operation c (with_mask c.operation b))
   operates : (p b : ℕ) (o : Operation) → p ≡ 0 → ready c.setup ≡ true → is_icw1 b ≡ false → Operates c.operation b o
       → Outcome c (write p b) (with_operation c o)
-  grants : (n : ℕ) → granted c ≡ Line n → Outcome c acknowledge (grant c n)
+  grants : (n : ℕ) → granted c ≡ Some n → Outcome c acknowledge (grant c n)
 
 module _ (o : Operation) (b : ℕ) where
-  ends_turn : b / 32 % 8 ≡ 0b001 → (t : Turn) → served o ≡ t → Operates o b (ended_turn o t)
-  ends_turn k (Line n) e = ends n k e
-  ends_turn k Nobody e = nothing
+  ends_turn : b / 32 % 8 ≡ 0b001 → (t : Option ℕ) → served o ≡ t → Operates o b (ended_turn o t)
+  ends_turn k (Some n) e = ends n k e
+  ends_turn k None e = nothing
 
-  ends_last_turn : b / 32 % 8 ≡ 0b101 → (t : Turn) → served o ≡ t → Operates o b (rotated_turn o t)
-  ends_last_turn k (Line n) e = ends_last n k e
-  ends_last_turn k Nobody e = nothing
+  ends_last_turn : b / 32 % 8 ≡ 0b101 → (t : Option ℕ) → served o ≡ t → Operates o b (rotated_turn o t)
+  ends_last_turn k (Some n) e = ends_last n k e
+  ends_last_turn k None e = nothing
 
   by_ocw2 : Operates o b (ocw2 o b)
   unfolding ocw2 command plain_end rotating_end
@@ -112,9 +110,9 @@ module _ (c : Controller) (p b : ℕ) (free : refusal c.setup (write p b) ≡ 0)
       one : p ≤ 1 → (p ≡ 0 → ⊥) → p ≡ 1
       one small z = ⊎_elim (λ (e : eqb p 0 ≡ true). absurd (z (eqb-true p 0 e))) (λ (e : eqb p 0 ≡ false). omega (arith, eqb-false p 0 e)) (either_way (eqb p 0))
 
-by_turn : (c : Controller) (t : Turn) → granted c ≡ t → Outcome c acknowledge (answered c t).controller
-by_turn c (Line n) e = grants n e
-by_turn c Nobody e = unchanged acknowledge
+by_turn : (c : Controller) (t : Option ℕ) → granted c ≡ t → Outcome c acknowledge (answered c t).controller
+by_turn c (Some n) e = grants n e
+by_turn c None e = unchanged acknowledge
 
 by_effect : (c : Controller) (signal : Signal) → refusal c.setup signal ≡ 0 → Outcome c signal (effect c signal).controller
 unfolding acknowledged

@@ -1,24 +1,21 @@
 -- The output tells the next acknowledge; and what an acknowledge that finds a line does.
-use Rattle.std.specs.Prelude.{ℕ, ◌+◌, ◌%◌, ◌<◌, Bool, true, ◌&&◌, ◌≡◌}
+use Rattle.std.specs.Prelude.{ℕ, ◌+◌, ◌%◌, ◌<◌, Bool, true, ◌&&◌, ◌≡◌, Option, None}
 use Rattle.std.proofs.Math.Bool.{false, not}
 use Rattle.std.proofs.Math.Path.{refl}
 use Rattle.std.proofs.Common.{sym, ap, ◌∙◌, arith}
 use Rattle.base.specs.PickLaws.{pick_false, not_both, both_hold, not_true}
 use Rattle.base.specs.Answers.{value_of}
 use Rattle.base.specs.declared.Answer.TheVariants.{Vector, Spurious}
-use Rattle.rank.specs.Sets.{line, has, some}
+use Rattle.rank.specs.Sets.{has, some}
 use Rattle.rank.specs.SetLaws.{some_none, none_some, line_lt}
 use Rattle.controller.specs.State.{ready}
 use Rattle.controller.specs.Signals.{acknowledge}
 use Rattle.controller.specs.Turns.{requests, asks, grantable, output_of, granted, vector, grant, answered, acknowledged}
 use Rattle.controller.proofs.GrantLaws.{Finds, foremost, nobody, granted_first, grantable_parts}
-use Rattle.controller.specs.Refusals.{refusal}
 use Rattle.controller.specs.RefusalLaws.{refusal_by_grounds, step_done}
 use Rattle.controller.specs.Steps.{step}
 use Rattle.controller.specs.declared.Controller.{Controller}
 use Rattle.controller.specs.declared.Setup.{Setup}
-use Rattle.controller.specs.declared.Turn.{Turn}
-use Rattle.controller.specs.declared.Turn.TheVariants.{Nobody}
 
 module _ (c : Controller) where
   -- an acknowledge of a ready controller is not refused
@@ -36,7 +33,7 @@ pub record Named (c : Controller) : Type 0 where
   pub unmasked : has c.operation.mask line ≡ false
   pub names : step c acknowledge ≡ record { controller = grant c line; answer = Vector (vector c.setup line) }
 
-named_by : (c : Controller) (t : Turn) → granted c ≡ t → Finds c.operation.first (grantable c) t → ready c.setup ≡ true → some (grantable c) ≡ true → Named c
+named_by : (c : Controller) (t : Option ℕ) → granted c ≡ t → Finds c.operation.first (grantable c) t → ready c.setup ≡ true → some (grantable c) ≡ true → Named c
 unfolding asks
 named_by c t e (foremost n f) up some_one =
     let p = both_hold (has (requests c) n) (not (has c.operation.mask n)) (grantable_parts c n f.passes).0 in
@@ -56,7 +53,7 @@ output_high c e =
     named_by c (granted c) refl (granted_first c) p.0 p.1
 
 -- ready and the output low: the next acknowledge is spurious, and changes nothing
-spurious_by : (c : Controller) (t : Turn) → granted c ≡ t → Finds c.operation.first (grantable c) t → some (grantable c) ≡ false → answered c t ≡ answered c Nobody
+spurious_by : (c : Controller) (t : Option ℕ) → granted c ≡ t → Finds c.operation.first (grantable c) t → some (grantable c) ≡ false → answered c t ≡ answered c None
 spurious_by c t e (foremost n f) no_one = absurd (not_both f.passes (some_none (grantable c) no_one n f.small))
 spurious_by c t e (nobody f) no_one = refl
 

@@ -8,7 +8,7 @@ use Rattle.base.specs.Bits.{bit}
 use Rattle.base.specs.declared.Answer.TheVariants.{Byte, Done}
 use Rattle.rank.specs.Sets.{line}
 use Rattle.controller.specs.State.{power_up, ready, begun, awaits_icw2, awaits_icw4, with_setup, with_operation, with_mask, with_rotation}
-use Rattle.controller.specs.Signals.{Signal, levels, read, write}
+use Rattle.controller.specs.Signals.{Signal, read, write}
 use Rattle.controller.specs.Words.{icw1, icw2, icw4, ended, made_last, plain_end, rotating_end, command, ocw2, ocw3, written0, written1, written, shown}
 use Rattle.controller.specs.Refusals.{port_above, not_ready, not_served, refusal}
 use Rattle.controller.specs.RefusalLaws.{refusal_by_grounds, step_done}

@@ -1,5 +1,5 @@
 -- The words that are written to the two ports, and what each does.
-use Rattle.std.specs.Prelude.{ℕ, ◌*◌, ◌/◌, ◌%◌, Bool, true, false, not, ◌&&◌, eqb}
+use Rattle.std.specs.Prelude.{ℕ, ◌*◌, ◌/◌, ◌%◌, Bool, true, false, not, ◌&&◌, eqb, Option, Some, None}
 use Rattle.base.specs.Pick.{pick}
 use Rattle.base.specs.Bits.{bit}
 use Rattle.rank.specs.Sets.{line, only, without}
@@ -9,8 +9,6 @@ use Rattle.controller.specs.Turns.{hinders, found, requests}
 use Rattle.controller.specs.declared.Controller.{Controller}
 use Rattle.controller.specs.declared.Setup.{Setup}
 use Rattle.controller.specs.declared.Operation.{Operation}
-use Rattle.controller.specs.declared.Turn.{Turn}
-use Rattle.controller.specs.declared.Turn.TheVariants.{Line, Nobody}
 
 -- ---- which word a byte at port 0 is
 
@@ -54,18 +52,18 @@ unfoldable pub made_last : Operation → ℕ → Operation
 made_last o n = with_first o (next n)
 
 -- "The plain ends take the first-ranked in-service line"
-unfoldable pub served : Operation → Turn
+unfoldable pub served : Operation → Option ℕ
 served o = found o.first (first_place o.first (hinders o))
 
 -- "none, nothing changes"
-abbrev pub ended_turn : Operation → Turn → Operation
-ended_turn o (Line n) = ended o n
-ended_turn o Nobody = o
+abbrev pub ended_turn : Operation → Option ℕ → Operation
+ended_turn o (Some n) = ended o n
+ended_turn o None = o
 
 -- "none, nothing changes", and nothing rotates
-abbrev pub rotated_turn : Operation → Turn → Operation
-rotated_turn o (Line n) = made_last (ended o n) n
-rotated_turn o Nobody = o
+abbrev pub rotated_turn : Operation → Option ℕ → Operation
+rotated_turn o (Some n) = made_last (ended o n) n
+rotated_turn o None = o
 
 -- "001 end"
 unfoldable pub plain_end : Operation → Operation

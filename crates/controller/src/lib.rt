@@ -1,17 +1,18 @@
 // One 8259A. It knows the levels of eight lines, and no seats. A set of lines is a byte: line n is its bit n.
 #![tactic(auto)]
 
-use base::Answer;
+use base::{Answer, Refusal};
 
 mod refusals;
 mod turns;
 mod words;
 
 ghost use Rattle.std.specs.Prelude.{◌≡◌};
+ghost use Rattle.base.specs.Refusals.{number_of};
 ghost use Rattle.controller.specs.State.{power_up};
 ghost use Rattle.controller.specs.Signals.{read, write, acknowledge};
 ghost use Rattle.controller.specs.Turns.{settled, output_of};
-ghost use Rattle.controller.specs.Steps.{step, placed};
+ghost use Rattle.controller.specs.Steps.{step, refused, placed};
 
 // The lines as they were last shown, and the edge latches.
 #[repr(C)]
@@ -56,13 +57,6 @@ pub struct Controller {
 pub struct Signalled {
     pub controller: Controller,
     pub answer: Answer,
-}
-
-// A line, or nobody.
-#[derive(Clone, Copy)]
-pub enum Turn {
-    Line(u8),
-    Nobody,
 }
 
 impl Setup {
@@ -156,6 +150,7 @@ impl Controller {
     }
 
     // The lines are at these levels from now on.
+    #[tactic(auto, unfolding(crate::specs::Turns::settled))]
     pub fn settle(mut self, levels: u8) -> Controller
         ensures { result ≡ settled self levels }
     {
@@ -176,55 +171,61 @@ impl Controller {
             return false;
         }
         let place = rank::first_above(o.first, asks, o.hindering());
-        (self.setup.stage == Setup::READY) & (place < rank::LINES)
+        (self.setup.stage == Setup::READY) & place.is_some()
     }
 
+    // The place in turn of a line.
+    #[tactic(auto, using(base::specs::PickLaws::tests, crate::specs::RefusalLaws::place_by_ground), unfolding(crate::specs::Steps::placed, base::specs::Refusals::number_of))]
+    pub fn place(self, line: u8) -> Answer
+        ensures { result ≡ placed self line }
+    {
+        if rank::LINES <= line {
+            return Answer::Refused(Refusal::SeatAbove.number());
+        }
+        Answer::Place(rank::place(self.operation.first, line))
+    }
+}
+
+// The signals, each refused or done.
+#[tactic(auto, using(base::specs::PickLaws::tests, base::proofs::GivenLaws::some_number), unfolding(crate::specs::Steps::step, base::specs::Refusals::number_given))]
+impl Controller {
     pub fn read(self, port: u8) -> Answer
         ensures { result ≡ (step self (read port)).answer }
     {
-        let refused = self.setup.refuse_read(port);
-        if refused == 0 {
-            return Answer::Byte(self.shown(port));
+        match self.setup.refuse_read(port) {
+            None => Answer::Byte(self.shown(port)),
+            Some(refusal) => Answer::Refused(refusal.number()),
         }
-        Answer::Refused(refused)
     }
 
     pub fn write(self, port: u8, byte: u8) -> Signalled
         ensures { result ≡ step self (write port byte) }
     {
-        let refused = self.setup.refuse_write(port, byte);
-        if refused == 0 {
-            return Signalled {
+        match self.setup.refuse_write(port, byte) {
+            None => Signalled {
                 controller: self.written(port, byte),
                 answer: Answer::Done,
-            };
-        }
-        Signalled {
-            controller: self,
-            answer: Answer::Refused(refused),
+            },
+            Some(refusal) => self.refuse(refusal),
         }
     }
 
     pub fn acknowledge(self) -> Signalled
         ensures { result ≡ step self acknowledge }
     {
-        let refused = self.setup.refuse_acknowledge();
-        if refused == 0 {
-            return self.acknowledged();
-        }
-        Signalled {
-            controller: self,
-            answer: Answer::Refused(refused),
+        match self.setup.refuse_acknowledge() {
+            None => self.acknowledged(),
+            Some(refusal) => self.refuse(refusal),
         }
     }
 
-    // The place in turn of a line.
-    pub fn place(self, line: u8) -> Answer
-        ensures { result ≡ placed self line }
+    // "The answer of every refusal is FFF and nothing changes."
+    fn refuse(self, refusal: Refusal) -> Signalled
+        ensures { result ≡ refused self (number_of refusal) }
     {
-        if rank::LINES <= line {
-            return Answer::Refused(Answer::SEAT_ABOVE);
+        Signalled {
+            controller: self,
+            answer: Answer::Refused(refusal.number()),
         }
-        Answer::Place(rank::place(self.operation.first, line))
     }
 }

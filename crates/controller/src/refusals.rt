@@ -1,10 +1,11 @@
-// What a controller refuses, signal by signal, by its setup: the first number in document 01's order whose condition holds, 0 for none.
+// What a controller refuses, signal by signal, by its setup: the first in document 01's order whose condition holds.
 ghost use Rattle.std.specs.Prelude.{◌≡◌};
+ghost use Rattle.base.specs.Refusals.{number_given};
 ghost use Rattle.controller.specs.Signals.{read, write, acknowledge};
 ghost use Rattle.controller.specs.Refusals.{not_ready, not_served, refusal};
 
 use crate::{Controller, Operation, Setup};
-use base::Answer;
+use base::Refusal;
 
 impl Setup {
     fn not_ready(self, port: u8, byte: u8) -> bool
@@ -30,40 +31,43 @@ impl Setup {
         }
         base::bit(Operation::OCW3, byte) & base::bit(Operation::OCW3_POLL, byte)
     }
+}
 
-    pub(crate) fn refuse_read(self, port: u8) -> u8
-        ensures { result ≡ refusal self (read port) }
+#[tactic(auto, using(base::specs::PickLaws::tests, crate::specs::RefusalLaws::refusal_by_grounds), unfolding(base::specs::Refusals::number_given, base::specs::Refusals::number_of))]
+impl Setup {
+    pub(crate) fn refuse_read(self, port: u8) -> Option<Refusal>
+        ensures { number_given result ≡ refusal self (read port) }
     {
         if Controller::PORT_MASK < port {
-            return Answer::NUMBER_ABOVE;
+            return Some(Refusal::NumberAbove);
         }
         if self.stage != Setup::READY {
-            return Answer::NOT_READY;
+            return Some(Refusal::NotReady);
         }
-        0
+        None
     }
 
-    pub(crate) fn refuse_acknowledge(self) -> u8
-        ensures { result ≡ refusal self acknowledge }
+    pub(crate) fn refuse_acknowledge(self) -> Option<Refusal>
+        ensures { number_given result ≡ refusal self acknowledge }
     {
         if self.stage != Setup::READY {
-            return Answer::NOT_READY;
+            return Some(Refusal::NotReady);
         }
-        0
+        None
     }
 
-    pub(crate) fn refuse_write(self, port: u8, byte: u8) -> u8
-        ensures { result ≡ refusal self (write port byte) }
+    pub(crate) fn refuse_write(self, port: u8, byte: u8) -> Option<Refusal>
+        ensures { number_given result ≡ refusal self (write port byte) }
     {
         if Controller::PORT_MASK < port {
-            return Answer::NUMBER_ABOVE;
+            return Some(Refusal::NumberAbove);
         }
         if self.not_ready(port, byte) {
-            return Answer::NOT_READY;
+            return Some(Refusal::NotReady);
         }
         if self.not_served(port, byte) {
-            return Answer::NOT_SERVED;
+            return Some(Refusal::NotServed);
         }
-        0
+        None
     }
 }

@@ -1,8 +1,8 @@
 // What the initialisation and operation words do, and what the ports show.
 ghost use Rattle.std.specs.Prelude.{◌≡◌};
-ghost use Rattle.controller.specs.Words.{icw1, ended, made_last, served, plain_end, rotating_end, ocw2, ocw3, written1, written, shown};
+ghost use Rattle.controller.specs.Words.{icw1, ended, made_last, served, ocw2, ocw3, written1, written, shown};
 
-use crate::{Controller, Lines, Operation, Setup, Turn};
+use crate::{Controller, Lines, Operation, Setup};
 
 impl Operation {
     // A command of OCW2 counts by bit 5, and there are eight.
@@ -10,6 +10,7 @@ impl Operation {
 
     const OCW2_COMMANDS: u8 = 8;
 
+    #[tactic(auto, unfolding(crate::specs::Words::ended))]
     fn ended(mut self, n: u8) -> Operation
         ensures { result ≡ ended self n }
     {
@@ -17,6 +18,7 @@ impl Operation {
         self
     }
 
+    #[tactic(auto, unfolding(crate::specs::Words::made_last))]
     fn made_last(mut self, n: u8) -> Operation
         ensures { result ≡ made_last self n }
     {
@@ -25,55 +27,38 @@ impl Operation {
     }
 
     // The line that a plain end takes.
-    fn served(self) -> Turn
+    fn served(self) -> Option<u8>
         ensures { result ≡ served self }
     {
-        Operation::found(self.first, rank::first_place(self.first, self.hindering()))
+        rank::first_place(self.first, self.hindering()).map(|k| rank::line_at(self.first, k))
     }
 
-    fn plain_end(self) -> Operation
-        ensures { result ≡ plain_end self }
-    {
-        let turn = self.served();
-        match turn {
-            Turn::Line(n) => self.ended(n),
-            Turn::Nobody => self,
-        }
-    }
-
-    fn rotating_end(self) -> Operation
-        ensures { result ≡ rotating_end self }
-    {
-        let turn = self.served();
-        match turn {
-            Turn::Line(n) => self.ended(n).made_last(n),
-            Turn::Nobody => self,
-        }
-    }
-
-    fn ocw2(mut self, byte: u8) -> Operation
+    #[tactic(auto, using(base::specs::PickLaws::tests), unfolding(crate::specs::Words::ocw2, crate::specs::Words::command))]
+    fn ocw2(self, byte: u8) -> Operation
         ensures { result ≡ ocw2 self byte }
     {
         let n = byte % rank::LINES;
-        let command = byte / Operation::OCW2_UNIT % Operation::OCW2_COMMANDS;
-        match command {
-            Operation::OCW2_END => return self.plain_end(),
-            Operation::OCW2_END_ROTATING => return self.rotating_end(),
-            Operation::OCW2_END_LINE => return self.ended(n),
-            Operation::OCW2_END_LINE_ROTATING => return self.ended(n).made_last(n),
-            Operation::OCW2_MAKE_LAST => return self.made_last(n),
-            Operation::OCW2_ROTATION_ON => {
-                self.rotation = true;
-                return self;
-            }
-            Operation::OCW2_ROTATION_OFF => {
-                self.rotation = false;
-                return self;
-            }
-            _ => return self,
+        match byte / Operation::OCW2_UNIT % Operation::OCW2_COMMANDS {
+            Operation::OCW2_END => self.served().map_or(self, |n| self.ended(n)),
+            Operation::OCW2_END_ROTATING => self
+                .served()
+                .map_or(self, |n| self.ended(n).made_last(n)),
+            Operation::OCW2_END_LINE => self.ended(n),
+            Operation::OCW2_END_LINE_ROTATING => self.ended(n).made_last(n),
+            Operation::OCW2_MAKE_LAST => self.made_last(n),
+            Operation::OCW2_ROTATION_ON => Operation {
+                rotation: true,
+                ..self
+            },
+            Operation::OCW2_ROTATION_OFF => Operation {
+                rotation: false,
+                ..self
+            },
+            _ => self,
         }
     }
 
+    #[tactic(auto, unfolding(crate::specs::Words::ocw3))]
     fn ocw3(mut self, byte: u8) -> Operation
         ensures { result ≡ ocw3 self byte }
     {
@@ -92,67 +77,63 @@ impl Operation {
 }
 
 impl Controller {
+    #[tactic(auto, unfolding(crate::specs::Words::icw1))]
     fn icw1(self, byte: u8) -> Controller
         ensures { result ≡ icw1 self byte }
     {
-        let level = base::bit(Setup::ICW1_LEVEL, byte);
         Controller {
             lines: Lines {
-                levels: self.lines.levels,
                 latches: 0,
+                ..self.lines
             },
             setup: Setup {
                 stage: Setup::AWAITS_ICW2,
-                level,
-                base: self.setup.base,
+                level: base::bit(Setup::ICW1_LEVEL, byte),
                 automatic: false,
+                ..self.setup
             },
             operation: Operation::EMPTY,
         }
     }
 
+    #[tactic(auto, using(base::specs::PickLaws::tests), unfolding(crate::specs::Words::written1, crate::specs::Words::icw2, crate::specs::Words::icw4))]
     fn written1(mut self, byte: u8) -> Controller
         ensures { result ≡ written1 self byte }
     {
-        let stage = self.setup.stage;
-        match stage {
+        match self.setup.stage {
             Setup::AWAITS_ICW2 => {
-                let base = byte / rank::LINES * rank::LINES;
-                self.setup.base = base;
+                self.setup.base = byte / rank::LINES * rank::LINES;
                 self.setup.stage = Setup::AWAITS_ICW4;
-                return self;
             }
             Setup::AWAITS_ICW4 => {
-                let automatic = base::bit(Setup::ICW4_AUTOMATIC, byte);
-                self.setup.automatic = automatic;
+                self.setup.automatic = base::bit(Setup::ICW4_AUTOMATIC, byte);
                 self.setup.stage = Setup::READY;
-                return self;
             }
-            _ => {
-                self.operation.mask = byte;
-                return self;
-            }
+            _ => self.operation.mask = byte,
         }
+        self
     }
 
+    #[tactic(auto, using(base::specs::PickLaws::tests), unfolding(crate::specs::Words::written, crate::specs::Words::written0))]
     pub(crate) fn written(mut self, port: u8, byte: u8) -> Controller
         ensures { result ≡ written self port byte }
     {
         if port != Controller::PORT_COMMAND {
             return self.written1(byte);
         }
-        let o = self.operation;
         if base::bit(Setup::ICW1, byte) {
             return self.icw1(byte);
         }
-        if base::bit(Operation::OCW3, byte) {
-            self.operation = o.ocw3(byte);
-            return self;
-        }
-        self.operation = o.ocw2(byte);
+        let o = self.operation;
+        self.operation = if base::bit(Operation::OCW3, byte) {
+            o.ocw3(byte)
+        } else {
+            o.ocw2(byte)
+        };
         self
     }
 
+    #[tactic(auto, using(base::specs::PickLaws::tests), unfolding(crate::specs::Words::shown))]
     pub(crate) fn shown(self, port: u8) -> u8
         ensures { result ≡ shown self port }
     {

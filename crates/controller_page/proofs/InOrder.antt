@@ -1,7 +1,8 @@
 -- The lines place by place are the lines in order.
-use Prim.Native.Nat.{ℕ, ◌+◌}
+use Prim.Native.Nat.{ℕ, zero, suc, ◌+◌}
 use mathlib.Core.List.{List, [], ◌∷◌, ◌++◌}
 use mathlib.Core.Path.{◌≡◌, sym, ap, ◌∙◌}
+use native.Mathlib.Numerals.{add-one}
 use native.Mathlib.Omega.{arith}
 use Rattle.text.specs.Line.{decimal}
 use Rattle.text.specs.Quoted.{quoted}
@@ -35,3 +36,11 @@ pub lines_in_order : (p : Piece) (first : ℕ)
 lines_in_order p first =
     ap (λ (n : ℕ). each p (n ∷ line_at first 1 ∷ line_at first 2 ∷ line_at first 3 ∷ line_at first 4 ∷ line_at first 5 ∷ line_at first 6 ∷ line_at first 7 ∷ [])) (first_line_lem first)
     ∙ each_behind p (order first)
+
+-- the first n lines of the rank, each behind a blank, as a loop tells them
+abbrev pub ranked_below : Piece → ℕ → ℕ → Piece
+ranked_below p first zero = p
+ranked_below p first (suc n) = with (ranked_below p first n) (quoted " " ++ decimal (line_at first n))
+
+pub ranked_next : (p : Piece) (first n : ℕ) → ranked_below p first (n + 1) ≡ with (ranked_below p first n) (quoted " " ++ decimal (line_at first n))
+ranked_next p first n = rw (add-one n)

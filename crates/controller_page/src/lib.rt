@@ -46,8 +46,7 @@ fn set_of_lines(words: &[u8], set: u8) -> Piece
 fn tell_sets(page: Page, c: Controller) -> Page
     ensures { result ≡ joined_all page (set_pieces c) }
 {
-    let requests = base::pick_byte(c.setup.level, c.lines.levels, c.lines.latches);
-    let page = page.join(set_of_lines(b"requests ", requests));
+    let page = page.join(set_of_lines(b"requests ", c.requests()));
     let page = page.join(set_of_lines(b"mask ", c.operation.mask));
     page.join(set_of_lines(b"in service ", c.operation.service))
 }
@@ -61,14 +60,11 @@ fn ranked(piece: Piece, first: u8, place: u8) -> Piece
 fn rank(first: u8) -> Piece
     ensures { result ≡ piece (rank_words first) }
 {
-    let piece = ranked(Piece::empty().text(b"rank"), first, 0);
-    let piece = ranked(piece, first, 1);
-    let piece = ranked(piece, first, 2);
-    let piece = ranked(piece, first, 3);
-    let piece = ranked(piece, first, 4);
-    let piece = ranked(piece, first, 5);
-    let piece = ranked(piece, first, 6);
-    ranked(piece, first, 7)
+    let mut piece = Piece::empty().text(b"rank");
+    for place in 0..rank::LINES {
+        piece = ranked(piece, first, place);
+    }
+    piece
 }
 
 fn tell_modes(page: Page, c: Controller) -> Page

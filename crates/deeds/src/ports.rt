@@ -10,16 +10,12 @@ pub(crate) fn read(port: u8, selected: bool) -> Piece
     ensures { result ≡ piece (controller_read_done port selected) }
 {
     let nothing = Piece::empty();
-    if port == Controller::PORT_COMMAND {
-        if selected {
-            return nothing.text(b"controller reads in service");
-        }
-        return nothing.text(b"controller reads requests");
+    match port {
+        Controller::PORT_COMMAND if selected => nothing.text(b"controller reads in service"),
+        Controller::PORT_COMMAND => nothing.text(b"controller reads requests"),
+        Controller::PORT_MASK => nothing.text(b"controller reads mask"),
+        _ => nothing.text(b"controller reads port ").decimal(port as u64),
     }
-    if port == Controller::PORT_MASK {
-        return nothing.text(b"controller reads mask");
-    }
-    nothing.text(b"controller reads port ").decimal(port as u64)
 }
 
 fn word_at_0(piece: Piece, value: u8) -> Piece
@@ -48,13 +44,11 @@ fn word_at_1(piece: Piece, stage: u8) -> Piece
 fn word(piece: Piece, port: u8, value: u8, stage: u8) -> Piece
     ensures { result ≡ with piece (word_written port value stage) }
 {
-    if port == Controller::PORT_COMMAND {
-        return word_at_0(piece, value);
+    match port {
+        Controller::PORT_COMMAND => word_at_0(piece, value),
+        Controller::PORT_MASK => word_at_1(piece, stage),
+        _ => piece.text(b"port ").decimal(port as u64),
     }
-    if port == Controller::PORT_MASK {
-        return word_at_1(piece, stage);
-    }
-    piece.text(b"port ").decimal(port as u64)
 }
 
 pub(crate) fn write(port: u8, value: u8, stage: u8) -> Piece

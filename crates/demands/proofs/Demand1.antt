@@ -1,4 +1,5 @@
 -- Demand 1 holds, and with no other value than FFF.
+use Rattle.std.specs.Prelude.{Result, Err}
 use Prim.Native.Nat.{ℕ, suc, ◌<◌, ◌≤◌}
 use mathlib.Core.Bool.{Bool, true, false, not, ◌&&◌, ◌||◌, or-true, and-false}
 use mathlib.Core.List.Memᴰ
@@ -19,8 +20,10 @@ use Rattle.rates.specs.Rates.{rates_of, divisors_of, divisor_of}
 use Rattle.rates.proofs.RatesLaws as rates
 use Rattle.rates.specs.Row.{row_of}
 use Rattle.rates.proofs.BackLaws.{either, listed_rate}
-use Rattle.rates.specs.declared.Found.{Found}
-use Rattle.setting_lines.specs.Reading.{refused_by}
+use Rattle.rates.specs.Answering.{answer_in}
+use Rattle.base.specs.Refusals.{number_of}
+use Rattle.base.specs.declared.Refusal.{Refusal}
+use Rattle.base.specs.declared.Refusal.TheVariants.{NoSetting}
 use Rattle.setting_lines.proofs.LineLaws.{no_leading_zero}
 use Rattle.setting_lines.proofs.Statements as lines
 use Rattle.controller.specs.Refusals.{line_above}
@@ -136,15 +139,15 @@ divisors rate clock =
     (either_way (ltb clock 3 && among rate (rates_of clock)))
 
 back : Rates 0xFFF
-unfolding refusal_of
+unfolding refusal_of number_of
 back divisor clock =
     ⊎_elim
     (λ has.
     let at = rates.answered has.0 clock divisor has.2 in
     let row = subst (λ (d : ℕ). Memᴰ d (divisors_of clock)) at.given (rates.member (divisors_of clock) at.row at.inside) in
-    free (10 ∷ []) 10 _ _ (ap not (among_listed divisor (divisors_of clock) row)) (ap (λ (f : Found). refusal_of f.answer) has.1))
+    free (10 ∷ []) 10 _ _ (ap not (among_listed divisor (divisors_of clock) row)) (ap (λ (f : Result ℕ Refusal). refusal_of (answer_in f)) has.1))
     (λ none.
-    held (10 ∷ []) 10 _ _ (inl (ap not (absent divisor clock none.1), refl)) (ap (λ (f : Found). f.answer) none.0))
+    held (10 ∷ []) 10 _ _ (inl (ap not (absent divisor clock none.1), refl)) (ap answer_in none.0))
     (either divisor clock)
   where
     absent : (divisor clock : ℕ) → ((rate : ℕ) → divisor_of rate clock ≡ answer.Divisor divisor → ⊥) → among divisor (divisors_of clock) ≡ false
@@ -169,7 +172,7 @@ a_refusal order value gs a some (inl x) = absurd (some x.number)
 a_refusal order value gs a some (inr x) = x.told
 
 pub only_fff : OnlyFFF
-unfolding laid_open no_kind list.divisor_of list.rate_of list.rate_in row_of list.look list.rates_of list.divisors_of list.everywhere
+unfolding number_of laid_open no_kind list.divisor_of list.rate_of list.rate_in row_of list.look list.rates_of list.divisors_of list.everywhere
 only_fff =
     record {
       events = λ value e.
@@ -177,10 +180,10 @@ only_fff =
       places = λ value p. sym (a_refusal _ value _ _ (above 0) (p power_up 8));
       divisors = λ value d. sym (a_refusal _ value _ _ (above 9) (d 0 3));
       rates = λ value d. sym (a_refusal _ value _ _ (above 9) (d 0 3));
-      readings = λ value all. sym (a_reason value (read_reasons (48 ∷ []) 0) (answer.Refused 11) (above 10) (all (48 ∷ []) 0 (refused_by 11) (inr (record { other = no_leading_zero []; told = refl }))));
+      readings = λ value all. sym (a_reason value (read_reasons (48 ∷ []) 0) (answer.Refused 11) (above 10) (all (48 ∷ []) 0 (Err NoSetting) (inr (record { other = no_leading_zero []; told = refl }))));
       writings = λ value all.
           sym (a_reason value (write_reasons 0 0 0x83 []) (answer.Refused 11) (above 10)
-          (all 0 0 0x83 [] [] (record { answer = answer.Refused 11; length = 0 })
+          (all 0 0 0x83 [] [] (Err NoSetting)
           (inr (record { other = (lines.statements).forty_bytes.others 0x83 refl; told = refl }))).0);
       savings = λ value all.
           sym (a_reason value (save_reasons 0 []) (answer.Refused 12) (above 11)

@@ -26,9 +26,7 @@ use Rattle.turn.specs.Demand3 as turn
 use Rattle.turn.proofs.InTurn.{demand_3}
 use Rattle.records.specs.declared.Event.{Event}
 use Rattle.records.specs.declared.Event.TheVariants.{OfSeat, MasterReset, ReadController, WriteController, Acknowledge}
-use Rattle.records.specs.declared.Decoded.{Decoded}
-use Rattle.records.specs.declared.Decoded.TheVariants.{Taken, NoEvent}
-use Rattle.records.specs.Events.{Record, decoded}
+use Rattle.records.specs.Events.{Record, decoded, Decoded}
 use Rattle.bench.specs.declared.Bench.{Bench}
 use Rattle.bench.specs.declared.Outcome.{Outcome}
 use Rattle.bench.specs.Seats.{chair, seat, lines, power_up}
@@ -39,6 +37,7 @@ use Rattle.bench.specs.MeetLaws.{outcome_dealt, write_met, acknowledge_met, read
 use Rattle.bench.specs.FrameLaws.{mapped_at, chair_small}
 use Rattle.bench.specs.Wired.{Wired}
 use Rattle.bench.proofs.WiredLaws.{wired_kept, wired_power_up}
+use Rattle.std.specs.Prelude.{Ok, Err}
 use Rattle.demands.specs.Demand3.{Calm, owing, heard, told, Names, KeptWaiting, Demand3, Demand3FromPowerUp}
 
 -- ---- what a record sends to the controller
@@ -48,12 +47,12 @@ abbrev moved : Bench → Event → List Signal
 moved b e = levels (after b e).controller.lines.levels ∷ []
 
 sends : Bench → Decoded → List Signal
-sends b (Taken (OfSeat m e)) = pick (eqb (room_refusal b (OfSeat m e)) 0) (moved b (OfSeat m e)) []
-sends b (Taken MasterReset) = moved b MasterReset
-sends b (Taken (ReadController port)) = read port ∷ []
-sends b (Taken (WriteController port byte)) = write port byte ∷ []
-sends b (Taken Acknowledge) = acknowledge ∷ []
-sends b (NoEvent number) = []
+sends b (Ok (OfSeat m e)) = pick (eqb (room_refusal b (OfSeat m e)) 0) (moved b (OfSeat m e)) []
+sends b (Ok MasterReset) = moved b MasterReset
+sends b (Ok (ReadController port)) = read port ∷ []
+sends b (Ok (WriteController port byte)) = write port byte ∷ []
+sends b (Ok Acknowledge) = acknowledge ∷ []
+sends b (Err number) = []
 
 -- and the outcome agrees with it: in what the acknowledges answer, and in what may come
 record Agrees (b : Bench) (n : ℕ) (d : Decoded) (o : Outcome) (xs : List Signal) : Type 0 where
@@ -79,9 +78,9 @@ module _ (b : Bench) (n : ℕ) where
       }
 
   -- the levels after a seat event or a master reset are sent
-  moved_agrees : (e : Event) (a : Answer) → heard (Taken e) a ≡ [] → ((owed : Bool) → owing b.controller owed (Taken e) ≡ owed)
+  moved_agrees : (e : Event) (a : Answer) → heard (Ok e) a ≡ [] → ((owed : Bool) → owing b.controller owed (Ok e) ≡ owed)
       → settled b.controller (after b e).controller.lines.levels ≡ (after b e).controller
-      → Agrees b n (Taken e) (shown (after b e) a) (moved b e)
+      → Agrees b n (Ok e) (shown (after b e) a) (moved b e)
   moved_agrees e a silent same-owed settles =
       let goes : (step b.controller (levels (after b e).controller.lines.levels)).controller ≡ (after b e).controller
       = ap (λ x. x.controller) (step_levels b.controller _) ∙ settles in
@@ -109,35 +108,35 @@ module _ (b : Bench) (n : ℕ) where
   unfolding after settled
   reset_settles = refl
 
-  seat_agrees : (m : ℕ) (e : SeatEvent) → Agrees b n (Taken (OfSeat m e)) (met b (OfSeat m e)) (sends b (Taken (OfSeat m e)))
+  seat_agrees : (m : ℕ) (e : SeatEvent) → Agrees b n (Ok (OfSeat m e)) (met b (OfSeat m e)) (sends b (Ok (OfSeat m e)))
   unfolding met sends
   seat_agrees m e =
-      by_test (Taken (OfSeat m e)) (eqb (room_refusal b (OfSeat m e)) 0) _ _ _ _
+      by_test (Ok (OfSeat m e)) (eqb (room_refusal b (OfSeat m e)) 0) _ _ _ _
       (moved_agrees (OfSeat m e) (answer_to b (OfSeat m e)) refl (λ owed. refl) (seat_settles m e))
-      (still_agrees (Taken (OfSeat m e)) (answer.Refused (room_refusal b (OfSeat m e))) refl (λ owed. refl))
+      (still_agrees (Ok (OfSeat m e)) (answer.Refused (room_refusal b (OfSeat m e))) refl (λ owed. refl))
 
   reset_met : shown (after b MasterReset) (answer_to b MasterReset) ≡ met b MasterReset
   unfolding met room_refusal room_grounds refusal_by first_of pick
   reset_met = refl
 
-  reset_agrees : Agrees b n (Taken MasterReset) (met b MasterReset) (moved b MasterReset)
+  reset_agrees : Agrees b n (Ok MasterReset) (met b MasterReset) (moved b MasterReset)
   reset_agrees =
-      subst (λ (o : Outcome). Agrees b n (Taken MasterReset) o (moved b MasterReset)) reset_met
+      subst (λ (o : Outcome). Agrees b n (Ok MasterReset) o (moved b MasterReset)) reset_met
       (moved_agrees MasterReset (answer_to b MasterReset) refl (λ owed. refl) reset_settles)
 
-  read_agrees : (port : ℕ) → Agrees b n (Taken (ReadController port)) (met b (ReadController port)) (read port ∷ [])
+  read_agrees : (port : ℕ) → Agrees b n (Ok (ReadController port)) (met b (ReadController port)) (read port ∷ [])
   read_agrees port =
       let keeps : b.controller ≡ (step b.controller (read port)).controller = sym (read_keeps b.controller port) in
-      subst (λ (o : Outcome). Agrees b n (Taken (ReadController port)) o (read port ∷ [])) (read_met b port)
+      subst (λ (o : Outcome). Agrees b n (Ok (ReadController port)) o (read port ∷ [])) (read_met b port)
       (record {
         same = λ rest. ap (λ (c : Controller). answers c rest) (sym keeps);
         waits = λ owed rest calm.
             ⊎_elim (λ named. absurd (not_heard _ named)) (λ on. (tt, inr (subst (λ (c : Controller). Waits n owed c rest) keeps on.1)));
       })
 
-  write_agrees : (port byte : ℕ) → Agrees b n (Taken (WriteController port byte)) (met b (WriteController port byte)) (write port byte ∷ [])
+  write_agrees : (port byte : ℕ) → Agrees b n (Ok (WriteController port byte)) (met b (WriteController port byte)) (write port byte ∷ [])
   write_agrees port byte =
-      subst (λ (o : Outcome). Agrees b n (Taken (WriteController port byte)) o (write port byte ∷ [])) (write_met b port byte)
+      subst (λ (o : Outcome). Agrees b n (Ok (WriteController port byte)) o (write port byte ∷ [])) (write_met b port byte)
       (record {
         same = λ rest. refl;
         waits = λ owed rest calm. ⊎_elim (λ named. absurd (not_heard _ named)) (λ on. (calm, inr on.1));
@@ -146,9 +145,9 @@ module _ (b : Bench) (n : ℕ) where
   one_heard : (a a' : Answer) → ◌≡◌ {A = List Answer} (a ∷ []) (a' ∷ []) → a ≡ a'
   one_heard a a' e = cc
 
-  acknowledge_agrees : Agrees b n (Taken Acknowledge) (met b Acknowledge) (acknowledge ∷ [])
+  acknowledge_agrees : Agrees b n (Ok Acknowledge) (met b Acknowledge) (acknowledge ∷ [])
   acknowledge_agrees =
-      subst (λ (o : Outcome). Agrees b n (Taken Acknowledge) o (acknowledge ∷ [])) (acknowledge_met b)
+      subst (λ (o : Outcome). Agrees b n (Ok Acknowledge) o (acknowledge ∷ [])) (acknowledge_met b)
       (record {
         same = λ rest. refl;
         waits = λ owed rest calm. ⊎_elim (λ named. (calm, inl (one_heard _ _ named))) (λ on. (calm, inr on.1));
@@ -156,12 +155,12 @@ module _ (b : Bench) (n : ℕ) where
 
   agrees : (d : Decoded) → Agrees b n d (dealt b d) (sends b d)
   unfolding dealt sends
-  agrees (Taken (OfSeat m e)) = seat_agrees m e
-  agrees (Taken MasterReset) = reset_agrees
-  agrees (Taken (ReadController port)) = read_agrees port
-  agrees (Taken (WriteController port byte)) = write_agrees port byte
-  agrees (Taken Acknowledge) = acknowledge_agrees
-  agrees (NoEvent number) = still_agrees (NoEvent number) (answer.Refused number) refl (λ owed. refl)
+  agrees (Ok (OfSeat m e)) = seat_agrees m e
+  agrees (Ok MasterReset) = reset_agrees
+  agrees (Ok (ReadController port)) = read_agrees port
+  agrees (Ok (WriteController port byte)) = write_agrees port byte
+  agrees (Ok Acknowledge) = acknowledge_agrees
+  agrees (Err number) = still_agrees (Err number) (answer.Refused number) refl (λ owed. refl)
 
   record_agrees : (r : Record) → Agrees b n (decoded r) (outcome b r) (sends b (decoded r))
   record_agrees r = subst (λ (o : Outcome). Agrees b n (decoded r) o (sends b (decoded r))) (sym (outcome_dealt b r)) (agrees (decoded r))

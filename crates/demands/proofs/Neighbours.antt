@@ -9,6 +9,7 @@ use lib.Dec.{eqb}
 use lib.ListN.{length, get_or, take, drop, take-append-drop}
 use lib.Seq.{length-take-le}
 use borrow.Author.Tests.{eqb-true}
+use Rattle.std.specs.Prelude.{Option, unwrap_or}
 use Rattle.base.specs.declared.Answer.{Answer}
 use Rattle.base.specs.declared.Answer.TheVariants.{Done}
 use Rattle.base.specs.ListLaws.{listed, listed_length, listed_at}
@@ -20,12 +21,10 @@ use Rattle.receiver.specs.Ledger.{held}
 use Rattle.seat.specs.declared.Seat.{Seat}
 use Rattle.seat.specs.Acts.{Act, event, resets, acted, acted_all}
 use Rattle.seat.specs.Receiving.{side}
-use Rattle.seat.specs.Seats.{no_seat, line}
+use Rattle.seat.specs.Seats.{no_seat, line, power_up}
 use Rattle.seat.specs.Steps.{stepped}
 use Rattle.records.specs.declared.Event.TheVariants.{OfSeat, MasterReset, ReadController, WriteController, Acknowledge}
-use Rattle.records.specs.declared.Decoded.{Decoded}
-use Rattle.records.specs.declared.Decoded.TheVariants.{Taken, NoEvent}
-use Rattle.records.specs.Events.{decoded, seat_count}
+use Rattle.records.specs.Events.{decoded, seat_count, Decoded}
 use Rattle.bench.specs.declared.Bench.{Bench}
 use Rattle.bench.specs.declared.Outcome.{Outcome}
 use Rattle.bench.specs.Refusals.{room_grounds}
@@ -37,16 +36,16 @@ use Rattle.bench.specs.DoneLaws.{seat_answer}
 use Rattle.bench.specs.FrameLaws.{chair_own, seat_by_chair, seat_acts}
 use Rattle.bench.specs.MeetLaws.{outcome_dealt}
 use Rattle.bench.specs.RunLaws.{all_kept}
-use Rattle.seat_image.specs.declared.Found.{Found}
 use Rattle.seat_image.specs.Read.{length_of, found}
 use Rattle.seat_image.specs.ReadLaws.{found_front}
 use Rattle.image.specs.declared.Restored.{Restored}
 use Rattle.image.proofs.FieldLaws.{room_at}
 use Rattle.image.specs.Items.{Item, gives, restores, item_outcome, after_items}
 use Rattle.image.specs.Layout.{version_of, place_in}
-use Rattle.image.specs.Read.{seat_at, records_from, bench_from}
+use Rattle.image.specs.Read.{seat_at, seats_in, bench_from}
 use Rattle.image.specs.Refusals as image
 use Rattle.image.proofs.RestoredLaws.{taken_of, restored_taken, restored_left}
+use Rattle.std.specs.Prelude.{Ok, Err}
 use Rattle.demands.specs.Neighbours.{Happening, does, reads, refuses, record_in, restoring, happening, happenings, register_answers, sent_in, View, view, views, Neighbours}
 
 -- ---- a seat by itself
@@ -54,7 +53,7 @@ use Rattle.demands.specs.Neighbours.{Happening, does, reads, refuses, record_in,
 -- the seat after what happens to it, and the answer to it
 abbrev happened : Seat → Happening → Seat
 happened s (does a) = acted s a
-happened s (reads version bytes) = (found version bytes).seat
+happened s (reads version bytes) = unwrap_or (found version bytes) power_up
 happened s refuses = s
 
 abbrev answered : Seat → Act → Answer
@@ -116,41 +115,41 @@ module _ (n : ℕ) (there : n < seat_count) where
 
     seen_by : (d : Decoded) → map (view n (dealt b d)) (map does (own n d)) ≡ sees n (seat b n) (map does (own n d))
     unfolding dealt own
-    seen_by (Taken (OfSeat m e)) =
+    seen_by (Ok (OfSeat m e)) =
         ⊎_elim
         (λ (here : eqb (chair m) n ≡ true).
-        let acts : own n (Taken (OfSeat m e)) ≡ event e ∷ [] = pick_true _ _ _ here in
+        let acts : own n (Ok (OfSeat m e)) ≡ event e ∷ [] = pick_true _ _ _ here in
         let same : chair m ≡ chair n = eqb-true _ _ here ∙ sym (chair_own n there) in
         let answer : (met b (OfSeat m e)).answer ≡ (stepped (seat b n) e).answer
         = seat_answer b m e ∙ ap (λ (s : Seat). (stepped s e).answer) (seat_by_chair b m n same) in
         ap (λ (l : List Act). map (view n (met b (OfSeat m e))) (map does l)) acts
         ∙ one n (met b (OfSeat m e)) (seat b n) (does (event e))
-        (done_by (Taken (OfSeat m e)) ∙ ap (λ (l : List Act). happened_all (seat b n) (map does l)) acts)
+        (done_by (Ok (OfSeat m e)) ∙ ap (λ (l : List Act). happened_all (seat b n) (map does l)) acts)
         (ap (λ (a : Answer). a ∷ []) answer)
         ∙ sym (ap (λ (l : List Act). sees n (seat b n) (map does l)) acts))
         (λ (elsewhere : eqb (chair m) n ≡ false).
-        let acts : own n (Taken (OfSeat m e)) ≡ [] = pick_false _ _ _ elsewhere in
+        let acts : own n (Ok (OfSeat m e)) ≡ [] = pick_false _ _ _ elsewhere in
         ap (λ (l : List Act). map (view n (met b (OfSeat m e))) (map does l)) acts ∙ sym (ap (λ (l : List Act). sees n (seat b n) (map does l)) acts))
         (either_way (eqb (chair m) n))
-    seen_by (Taken MasterReset) =
-        one n (met b MasterReset) (seat b n) (does resets) (done_by (Taken MasterReset)) (ap (λ (a : Answer). a ∷ []) reset_answer)
-    seen_by (Taken (ReadController port)) = refl
-    seen_by (Taken (WriteController port byte)) = refl
-    seen_by (Taken Acknowledge) = refl
-    seen_by (NoEvent number) = refl
+    seen_by (Ok MasterReset) =
+        one n (met b MasterReset) (seat b n) (does resets) (done_by (Ok MasterReset)) (ap (λ (a : Answer). a ∷ []) reset_answer)
+    seen_by (Ok (ReadController port)) = refl
+    seen_by (Ok (WriteController port byte)) = refl
+    seen_by (Ok Acknowledge) = refl
+    seen_by (Err number) = refl
 
   -- ---- a restore
 
   -- the record is read by its own bytes and the version alone
-  read_alone : (p : List ℕ) → image.refusal p ≡ 0 → seat (bench_from p) n ≡ (found (version_of p) (record_in p n)).seat
-  unfolding seat bench_from records_from
+  read_alone : (p : List ℕ) → image.refusal p ≡ 0 → seat (bench_from p) n ≡ unwrap_or (found (version_of p) (record_in p n)) power_up
+  unfolding seat bench_from seats_in
   read_alone p none =
       let v = version_of p in
       let l = drop (place_in v n) p in
       let room = room_at p (taken_of p none).header.long n there in
       ap (λ (k : ℕ). get_or (listed seat_count (seat_at p)) k no_seat) (chair_own n there) ∙ listed_at seat_count (seat_at p) n no_seat there
-      ∙ ap (λ (r : List ℕ). (found v r).seat) (sym (take-append-drop (length_of v) l))
-      ∙ ap (λ (f : Found). f.seat) (found_front v (take (length_of v) l) (drop (length_of v) l) (omega (arith, length-take-le (length_of v) l room)))
+      ∙ ap (λ (r : List ℕ). unwrap_or (found v r) power_up) (sym (take-append-drop (length_of v) l))
+      ∙ ap (λ (o : Option Seat). unwrap_or o power_up) (found_front v (take (length_of v) l) (drop (length_of v) l) (omega (arith, length-take-le (length_of v) l room)))
 
   -- no register answers to it
   no_answer : (p : List ℕ) (a : Answer) (s : Seat) → register_answers (restoring p n) a ≡ says s (restoring p n)
@@ -163,7 +162,7 @@ module _ (n : ℕ) (there : n < seat_count) where
       (either_way (eqb (image.refusal p) 0))
 
   eight_read : (p : List ℕ) → length (bench_from p).seats ≡ seat_count
-  unfolding bench_from records_from
+  unfolding bench_from seats_in
   eight_read p = listed_length seat_count (seat_at p)
 
   -- ---- any item

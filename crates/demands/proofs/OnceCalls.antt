@@ -1,5 +1,6 @@
 -- No second outcome, call by call: each line of OnceCalls in specs/ by a law of Once.
 use mathlib.Core.Path.{◌≡◌, refl, sym, ap, ◌∙◌}
+use Rattle.base.proofs.GivenLaws.{given_once}
 use Rattle.setting_lines.specs.Writing.{Left}
 use Rattle.setting_lines.proofs.LineLaws.{read_one, write_one}
 use Rattle.sheets.specs.OneLaws.{line_one, numbers_one}
@@ -17,6 +18,7 @@ base_once M =
     record {
       base·Answer·refusal = value _ refl (λ κ a v w. refl);
       base·Answer·value = value _ refl (λ κ a v w. refl);
+      base·Refusal·number = value _ refl (λ κ a v w. refl);
       base·bit = value _ refl (λ κ a v w. refl);
       base·pick_byte = value _ refl (λ κ a v w. refl);
       base·pick_flag = value _ refl (λ κ a v w. refl);
@@ -104,7 +106,7 @@ registers_once M =
       registers·changes_after = value _ refl (λ κ a v w. refl);
       registers·modem_status = value _ refl (λ κ a v w. refl);
       registers·any_change = value _ refl (λ κ a v w. refl);
-      registers·Settings·refusal = value _ refl (λ κ a v w. refl);
+      registers·Settings·refusal = told _ refl (λ κ a r s v w p q. (given_once r s (p ∙ sym q), refl));
     }
 
 pub receiver_once : (M : Type 1) → ReceiverOnce M

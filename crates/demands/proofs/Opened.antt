@@ -104,6 +104,6 @@ unfolding answers.refusal_of grounds.first_held controller.latches_high tallies.
     allowed.sixteen_small allowed.registers_in_range allowed.flags_in_range allowed.marks_in_range allowed.queues_within allowed.count_allowed allowed.unused_zero allowed.channel_good
     channel-read.slots_from channel-read.transmitter_from channel-read.receiver_from channel-read.channel_from
     seat-words.word_at seat-words.word_bytes seat-written.tally_bytes seat-read.tallies_in seat-read.new_record seat-read.tallies_from seat-read.tallies_good seat-read.seat_from seat-read.record_good seat-read.found
-    layout.version_of layout.place_in image-read.records_from image-read.controller_from image-read.bench_from
+    layout.version_of layout.place_in image-read.seats_in image-read.seats_good image-read.controller_from image-read.bench_from
     image.marked image.controller_in_range image.latches_allowed image.image_good image.refusal image.restored
 of_images = 0

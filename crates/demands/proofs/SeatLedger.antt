@@ -26,9 +26,7 @@ use Rattle.seat.specs.Acts.{Act, event}
 use Rattle.seat.specs.Receiving.{side, moments_of, befalling, receives_soundly}
 use Rattle.seat.specs.ReceivingLaws.{acts_side, step_told, power_up_queued, power_up_receives}
 use Rattle.records.specs.declared.Event.TheVariants.{OfSeat, MasterReset, ReadController, WriteController, Acknowledge}
-use Rattle.records.specs.declared.Decoded.{Decoded}
-use Rattle.records.specs.declared.Decoded.TheVariants.{Taken, NoEvent}
-use Rattle.records.specs.Events.{Record, decoded, seat_count}
+use Rattle.records.specs.Events.{Record, decoded, seat_count, Decoded}
 use Rattle.bench.specs.declared.Bench.{Bench}
 use Rattle.bench.specs.declared.Outcome.{Outcome}
 use Rattle.bench.specs.Seats.{chair, seat, power_up}
@@ -40,6 +38,7 @@ use Rattle.bench.specs.DoneLaws.{seat_answer}
 use Rattle.bench.specs.RunLaws.{all_kept}
 use Rattle.demands.specs.Demand2.{ends}
 use Rattle.demands.specs.SeatLedger.{befalls, befalls_in, arrived_at, read_at, lost_at, dropped_at, queued_at, SoundAt, SeatLedger, SeatLedgerFromPowerUp}
+use Rattle.std.specs.Prelude.{Ok, Err}
 use Rattle.demands.proofs.Demand2.{outcome_meets, demand_2}
 
 -- ---- one record
@@ -73,18 +72,18 @@ event_told b n m e here =
 
 dealt_told : (b : Bench) (n : ℕ) (d : Decoded) → Told (side (seat b n)) (dealt b d).answer (befalling (seat b n) (own (chair n) d))
 unfolding dealt own
-dealt_told b n (Taken (OfSeat m e)) =
+dealt_told b n (Ok (OfSeat m e)) =
     let s = seat b n in
     let P : List Act → Type 0 = λ acts. Told (side s) (met b (OfSeat m e)).answer (befalling s acts) in
     ⊎_elim
     (λ (here : eqb (chair m) (chair n) ≡ true). subst P (sym (pick_true _ _ _ here)) (event_told b n m e (eqb-true _ _ here)))
     (λ (elsewhere : eqb (chair m) (chair n) ≡ false). subst P (sym (pick_false _ _ _ elsewhere)) (none_told (side s) _))
     (either_way (eqb (chair m) (chair n)))
-dealt_told b n (Taken MasterReset) = reset_told (side (seat b n)) _
-dealt_told b n (Taken (ReadController port)) = none_told (side (seat b n)) _
-dealt_told b n (Taken (WriteController port byte)) = none_told (side (seat b n)) _
-dealt_told b n (Taken Acknowledge) = none_told (side (seat b n)) _
-dealt_told b n (NoEvent number) = none_told (side (seat b n)) _
+dealt_told b n (Ok MasterReset) = reset_told (side (seat b n)) _
+dealt_told b n (Ok (ReadController port)) = none_told (side (seat b n)) _
+dealt_told b n (Ok (WriteController port byte)) = none_told (side (seat b n)) _
+dealt_told b n (Ok Acknowledge) = none_told (side (seat b n)) _
+dealt_told b n (Err number) = none_told (side (seat b n)) _
 
 record_told : (b : Bench) (n : ℕ) (r : Record) → Told (side (seat b n)) (outcome b r).answer (befalls n b r)
 record_told b n r =

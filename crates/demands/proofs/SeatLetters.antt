@@ -1,4 +1,5 @@
 -- The letters of a seat of the bench: those of its receive side, over what befalls it; and no other event's answer is one.
+use Rattle.std.specs.Prelude.{Option, Some, None, Ok, Err}
 use Prim.Native.Nat.{ℕ}
 use mathlib.Core.Bool.{true, false, not, ◌&&◌}
 use mathlib.Core.List.{List}
@@ -30,14 +31,10 @@ use Rattle.seat.specs.StepLaws.{step_taken, step_refused, taken_own}
 use Rattle.seat.specs.CountLaws.{read_own}
 use Rattle.seat.specs.Receiving.{side}
 use Rattle.controller.specs.declared.Controller.{Controller}
-use Rattle.controller.specs.declared.Turn.{Turn}
-use Rattle.controller.specs.declared.Turn.TheVariants.{Line, Nobody}
 use Rattle.controller.specs.Turns.{granted, answered, acknowledged}
 use Rattle.records.specs.declared.Event.{Event}
 use Rattle.records.specs.declared.Event.TheVariants.{OfSeat, MasterReset, ReadController, WriteController, Acknowledge}
-use Rattle.records.specs.declared.Decoded.{Decoded}
-use Rattle.records.specs.declared.Decoded.TheVariants.{Taken, NoEvent}
-use Rattle.records.specs.Events.{decoded}
+use Rattle.records.specs.Events.{decoded, Decoded}
 use Rattle.bench.specs.declared.Bench.{Bench}
 use Rattle.bench.specs.declared.Outcome.{Outcome}
 use Rattle.bench.specs.Seats.{seat, power_up}
@@ -136,10 +133,10 @@ not_met : (b : Bench) (e : Event) → is_letter (answer_to b e) ≡ false → is
 unfolding met is_letter
 not_met b e none = pick_either (λ (o : Outcome). is_letter o.answer ≡ false) _ _ _ none refl
 
-turn_letter : (c : Controller) (t : Turn) → is_letter (answered c t).answer ≡ false
+turn_letter : (c : Controller) (t : Option ℕ) → is_letter (answered c t).answer ≡ false
 unfolding is_letter
-turn_letter c (Line n) = refl
-turn_letter c Nobody = refl
+turn_letter c (Some n) = refl
+turn_letter c None = refl
 
 acknowledge_letter : (c : Controller) → is_letter (acknowledged c).answer ≡ false
 unfolding acknowledged
@@ -147,12 +144,12 @@ acknowledge_letter c = turn_letter c (granted c)
 
 dealt_letter : (b : Bench) (d : Decoded) → is_letter (dealt b d).answer ≡ rbr_read b d
 unfolding dealt rbr_read answer_to is_letter
-dealt_letter b (Taken (OfSeat n e)) = ap is_letter (seat_answer b n e) ∙ seat_letter (seat b n) e
-dealt_letter b (Taken MasterReset) = not_met b MasterReset refl
-dealt_letter b (Taken (ReadController port)) = not_met b (ReadController port) refl
-dealt_letter b (Taken (WriteController port byte)) = not_met b (WriteController port byte) refl
-dealt_letter b (Taken Acknowledge) = not_met b Acknowledge (acknowledge_letter b.controller)
-dealt_letter b (NoEvent number) = refl
+dealt_letter b (Ok (OfSeat n e)) = ap is_letter (seat_answer b n e) ∙ seat_letter (seat b n) e
+dealt_letter b (Ok MasterReset) = not_met b MasterReset refl
+dealt_letter b (Ok (ReadController port)) = not_met b (ReadController port) refl
+dealt_letter b (Ok (WriteController port byte)) = not_met b (WriteController port byte) refl
+dealt_letter b (Ok Acknowledge) = not_met b Acknowledge (acknowledge_letter b.controller)
+dealt_letter b (Err number) = refl
 
 pub only_rbr : OnlyRbr
 only_rbr b r = ap (λ (o : Outcome). is_letter o.answer) (outcome_dealt b r) ∙ dealt_letter b (decoded r)

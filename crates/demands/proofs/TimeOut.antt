@@ -12,15 +12,14 @@ use Rattle.seat.specs.Acts.{Act, event, resets, acted_all}
 use Rattle.seat.specs.Lasting.{timeout_count, ends_in}
 use Rattle.seat.specs.LastingLaws.{seat_lasting}
 use Rattle.records.specs.declared.Event.TheVariants.{OfSeat, MasterReset, ReadController, WriteController, Acknowledge}
-use Rattle.records.specs.declared.Decoded.{Decoded}
-use Rattle.records.specs.declared.Decoded.TheVariants.{Taken, NoEvent}
-use Rattle.records.specs.Events.{Record, decoded, seat_count}
+use Rattle.records.specs.Events.{Record, decoded, seat_count, Decoded}
 use Rattle.bench.specs.declared.Bench.{Bench}
 use Rattle.bench.specs.Seats.{chair, seat, power_up}
 use Rattle.bench.specs.Steps.{outcome}
 use Rattle.bench.specs.Runs.{own, own_all, after_all}
 use Rattle.bench.specs.RunLaws.{all_kept, seat_runs}
 use Rattle.demands.specs.TimeOut.{timeout_at, waiting, untouched, LastsAt, TimeOutLasts, AtArrival, Untouched, TimeOutEnds}
+use Rattle.std.specs.Prelude.{Ok, Err}
 use Rattle.demands.proofs.Opened.{laid_open}
 
 -- ---- one record
@@ -37,12 +36,12 @@ no_act s e = absurd (never e)
 
 own_ends : (s : Seat) (n : ℕ) (d : Decoded) → EndsAtZero s (own n d)
 unfolding own
-own_ends s n (Taken (OfSeat m e)) = pick_either (EndsAtZero s) (eqb (chair m) n) _ _ (one_act s (event e)) (no_act s)
-own_ends s n (Taken MasterReset) = one_act s resets
-own_ends s n (Taken (ReadController port)) = no_act s
-own_ends s n (Taken (WriteController port byte)) = no_act s
-own_ends s n (Taken Acknowledge) = no_act s
-own_ends s n (NoEvent number) = no_act s
+own_ends s n (Ok (OfSeat m e)) = pick_either (EndsAtZero s) (eqb (chair m) n) _ _ (one_act s (event e)) (no_act s)
+own_ends s n (Ok MasterReset) = one_act s resets
+own_ends s n (Ok (ReadController port)) = no_act s
+own_ends s n (Ok (WriteController port byte)) = no_act s
+own_ends s n (Ok Acknowledge) = no_act s
+own_ends s n (Err number) = no_act s
 
 -- ---- any run
 

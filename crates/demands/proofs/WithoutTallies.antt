@@ -18,9 +18,7 @@ use Rattle.seat.specs.Acts.{Act, event, resets, acted_all}
 use Rattle.seat.specs.Steps as step
 use Rattle.seat.specs.StepLaws.{by_channel, step_number}
 use Rattle.records.specs.declared.Event.TheVariants.{OfSeat, MasterReset, ReadController, WriteController, Acknowledge}
-use Rattle.records.specs.declared.Decoded.{Decoded}
-use Rattle.records.specs.declared.Decoded.TheVariants.{Taken, NoEvent}
-use Rattle.records.specs.Events.{Record, seat_count, decoded}
+use Rattle.records.specs.Events.{Record, seat_count, decoded, Decoded}
 use Rattle.bench.specs.declared.Bench.{Bench}
 use Rattle.bench.specs.declared.Outcome.{Outcome}
 use Rattle.bench.specs.Seats.{chair, seat}
@@ -33,6 +31,7 @@ use Rattle.bench.specs.RunLaws.{all_kept}
 use Rattle.demands.specs.Loopback.{channel_at}
 use Rattle.demands.specs.Tallies.{touches, own_full, channel_after, WithoutTallies}
 use Rattle.demands.proofs.Loopback.{alone}
+use Rattle.std.specs.Prelude.{Ok, Err}
 use Rattle.demands.proofs.Tallies.{seat_after}
 
 channel_both : (c : Channel) (xs ys : List Act) → channel_after c (xs ++ ys) ≡ channel_after (channel_after c xs) ys
@@ -46,7 +45,7 @@ channel_both c (resets ∷ xs) ys = channel_both _ xs ys
 dealt_follows : (n : ℕ) (b : Bench) (d : Decoded) → (touches (own (chair n) d) && eqb (refusal_of (dealt b d).answer) 19) ≡ false
     → (acted_all (seat b n) (own (chair n) d)).channel ≡ channel_after (channel_at n b) (own (chair n) d)
 unfolding dealt own
-dealt_follows n b (Taken (OfSeat m e)) other =
+dealt_follows n b (Ok (OfSeat m e)) other =
     let P : List Act → Type 0 = λ acts. (acted_all (seat b n) acts).channel ≡ channel_after (channel_at n b) acts in
     ⊎_elim
     (λ (here : eqb (chair m) (chair n) ≡ true).
@@ -57,11 +56,11 @@ dealt_follows n b (Taken (OfSeat m e)) other =
     (ap (λ (t : Stepped). t.channel) (by_channel (seat b n) e (ap (λ (k : ℕ). eqb k 19) (sym number) ∙ (sym (ap (λ (acts : List Act). touches acts && eqb (refusal_of (met b (OfSeat m e)).answer) 19) (pick_true _ _ _ here)) ∙ other)))))
     (λ (elsewhere : eqb (chair m) (chair n) ≡ false). subst P (sym (pick_false _ _ _ elsewhere)) refl)
     (either_way (eqb (chair m) (chair n)))
-dealt_follows n b (Taken MasterReset) other = refl
-dealt_follows n b (Taken (ReadController port)) other = refl
-dealt_follows n b (Taken (WriteController port byte)) other = refl
-dealt_follows n b (Taken Acknowledge) other = refl
-dealt_follows n b (NoEvent number) other = refl
+dealt_follows n b (Ok MasterReset) other = refl
+dealt_follows n b (Ok (ReadController port)) other = refl
+dealt_follows n b (Ok (WriteController port byte)) other = refl
+dealt_follows n b (Ok Acknowledge) other = refl
+dealt_follows n b (Err number) other = refl
 
 record_follows : (n : ℕ) (b : Bench) → length b.seats ≡ seat_count → (r : Record) → (touches (own (chair n) (decoded r)) && eqb (refusal_of (outcome b r).answer) 19) ≡ false
     → channel_at n (outcome b r).bench ≡ channel_after (channel_at n b) (own (chair n) (decoded r))

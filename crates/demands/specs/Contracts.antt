@@ -2,6 +2,7 @@
 -- at the exit what it was.
 use Rattle.std.specs.Prelude.{ℕ, ◌≡◌, drop}
 use Rattle.base.specs.declared.Answer.{Answer}
+use Rattle.base.specs.declared.Whole.{Whole}
 use Rattle.rates.specs.Rates.{divisor_of}
 use Rattle.rates.proofs.divisor.Reads as of-divisor
 use Rattle.controller.specs.Steps.{placed}
@@ -18,9 +19,13 @@ use Rattle.image.specs.Written.{Saves}
 use Rattle.image.proofs.restore.Reads as of-restore
 use Rattle.image.proofs.save.Reads as of-save
 
+-- "An event is a four-byte record: kind, seat, number, value.", as the code is handed it
+abbrev pub handed : ℕ → ℕ → ℕ → ℕ → Whole
+handed kind seat number value = record { kind = kind; seat = seat; number = number; value = value }
+
 -- `Bench::step` and `Bench::step_short`
 abbrev pub Ensured : Bench → Record → Outcome → Type 0
-Ensured b (whole kind seat number value) o = of-step.Post tt (b, (kind, (seat, (number, (value, tt))))) o (b, (kind, (seat, (number, (value, tt)))))
+Ensured b (whole kind seat number value) o = of-step.Post tt (b, (handed kind seat number value, tt)) o (b, (handed kind seat number value, tt))
 Ensured b short o = of-step-short.Post tt (b, tt) o (b, tt)
 
 -- `Bench::place`

@@ -5,6 +5,7 @@ use Rattle.base.specs.declared.Answer.{Answer}
 use Rattle.base.specs.Answers.{refusal_of, value_of}
 use Rattle.base.specs.Refusals.{Ground, refusal_order, stands}
 use Rattle.base.specs.RefusalLaws.{none_holds}
+use Rattle.rates.specs.Answering.{answer_in}
 use Rattle.rates.specs.Rates.{rates_of, divisors_of, divisor_of, rate_of}
 use Rattle.controller.specs.Refusals.{line_above}
 use Rattle.controller.specs.Steps.{placed}
@@ -77,7 +78,7 @@ Divisors value = (rate clock : ℕ) → Answered (10 ∷ []) value (record { num
 -- ticket 1: "(also for a divisor not listed at the clock)"
 abbrev pub Rates : ℕ → Type 0
 Rates value =
-    (divisor clock : ℕ) → Answered (10 ∷ []) value (record { number = 10; holds = not (among divisor (divisors_of clock)) } ∷ []) (rate_of divisor clock).answer
+    (divisor clock : ℕ) → Answered (10 ∷ []) value (record { number = 10; holds = not (among divisor (divisors_of clock)) } ∷ []) (answer_in (rate_of divisor clock))
 
 -- The tender: every event on the bench, with any numbers in it and in any order, is answered; each public entry tests its own input; a refused
 -- one gives the answer FFF

@@ -1,5 +1,5 @@
 -- Demand 3 for the bench: its premises over the bench and its records, its conclusion over what the acknowledges answer.
-use Rattle.std.specs.Prelude.{ℕ, Bool, true, false, not, List, [], ◌∷◌, ◌++◌, ◌≡◌, ◌⊎◌}
+use Rattle.std.specs.Prelude.{ℕ, Bool, true, false, not, List, [], ◌∷◌, ◌++◌, ◌≡◌, ◌⊎◌, Ok, Err}
 use Rattle.base.specs.declared.Answer.{Answer}
 use Rattle.base.specs.declared.Answer.TheVariants.{Vector}
 use Rattle.controller.specs.Turns.{vector}
@@ -8,9 +8,7 @@ use Rattle.turn.specs.Waiting.{Start, word, MayWrite, paid}
 use Rattle.turn.specs.Demand3.{InTurn}
 use Rattle.seat.specs.Seats.{line}
 use Rattle.records.specs.declared.Event.TheVariants.{OfSeat, MasterReset, ReadController, WriteController, Acknowledge}
-use Rattle.records.specs.declared.Decoded.{Decoded}
-use Rattle.records.specs.declared.Decoded.TheVariants.{Taken, NoEvent}
-use Rattle.records.specs.Events.{Record, decoded}
+use Rattle.records.specs.Events.{Record, decoded, Decoded}
 use Rattle.bench.specs.declared.Bench.{Bench}
 use Rattle.bench.specs.Seats.{seat, power_up}
 use Rattle.bench.specs.Runs.{after_all}
@@ -21,31 +19,31 @@ use Rattle.bench.specs.Wired.{Wired}
 -- none of these and leaves the mask bit of line n clear; an acknowledge comes only where no end is owed; anything else may come: every event
 -- of every seat, a master reset, a read, and whatever is refused
 abbrev pub Calm : ℕ → Bool → Decoded → Type 0
-Calm n owed (Taken (OfSeat m e)) = Unit
-Calm n owed (Taken MasterReset) = Unit
-Calm n owed (Taken (ReadController port)) = Unit
-Calm n owed (Taken (WriteController port byte)) = MayWrite n byte (word port byte)
-Calm n owed (Taken Acknowledge) = owed ≡ false
-Calm n owed (NoEvent number) = Unit
+Calm n owed (Ok (OfSeat m e)) = Unit
+Calm n owed (Ok MasterReset) = Unit
+Calm n owed (Ok (ReadController port)) = Unit
+Calm n owed (Ok (WriteController port byte)) = MayWrite n byte (word port byte)
+Calm n owed (Ok Acknowledge) = owed ≡ false
+Calm n owed (Err number) = Unit
 
 -- The tender: without automatic end every grant is followed by one rotating non-specific end before the next acknowledge. Whether an end is
 -- owed after the record
 abbrev pub owing : Controller → Bool → Decoded → Bool
-owing c owed (Taken (OfSeat m e)) = owed
-owing c owed (Taken MasterReset) = owed
-owing c owed (Taken (ReadController port)) = owed
-owing c owed (Taken (WriteController port byte)) = paid owed (word port byte)
-owing c owed (Taken Acknowledge) = not c.setup.automatic
-owing c owed (NoEvent number) = owed
+owing c owed (Ok (OfSeat m e)) = owed
+owing c owed (Ok MasterReset) = owed
+owing c owed (Ok (ReadController port)) = owed
+owing c owed (Ok (WriteController port byte)) = paid owed (word port byte)
+owing c owed (Ok Acknowledge) = not c.setup.automatic
+owing c owed (Err number) = owed
 
 -- the answer of an acknowledge; any other record has none to show here
 abbrev pub heard : Decoded → Answer → List Answer
-heard (Taken (OfSeat m e)) a = []
-heard (Taken MasterReset) a = []
-heard (Taken (ReadController port)) a = []
-heard (Taken (WriteController port byte)) a = []
-heard (Taken Acknowledge) a = a ∷ []
-heard (NoEvent number) a = []
+heard (Ok (OfSeat m e)) a = []
+heard (Ok MasterReset) a = []
+heard (Ok (ReadController port)) a = []
+heard (Ok (WriteController port byte)) a = []
+heard (Ok Acknowledge) a = a ∷ []
+heard (Err number) a = []
 
 -- what the acknowledges among the records answer, first to last
 abbrev pub told : Bench → List Record → List Answer

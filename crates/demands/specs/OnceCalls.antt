@@ -44,6 +44,7 @@ use Rattle.demands.specs.Once.{Free, Once}
 pub record BaseOnce (M : Type 1) : Type 2 where
   pub base·Answer·refusal : Once M base.Answer.refusal.ended (λ 𝓤. base.Answer.refusal.clauses) (λ 𝓤. base.Answer.refusal.spec)
   pub base·Answer·value : Once M base.Answer.value.ended (λ 𝓤. base.Answer.value.clauses) (λ 𝓤. base.Answer.value.spec)
+  pub base·Refusal·number : Once M base.Refusal.number.ended (λ 𝓤. base.Refusal.number.clauses) (λ 𝓤. base.Refusal.number.spec)
   pub base·bit : Once M base.bit.ended (λ 𝓤. base.bit.clauses) (λ 𝓤. base.bit.spec)
   pub base·pick_byte : Once M base.pick_byte.ended (λ 𝓤. base.pick_byte.clauses) (λ 𝓤. base.pick_byte.spec)
   pub base·pick_flag : Once M base.pick_flag.ended (λ 𝓤. base.pick_flag.clauses) (λ 𝓤. base.pick_flag.spec)

@@ -1,5 +1,5 @@
 -- The letters of a seat of the bench: what its RBR answers tell of each character over any run, and which answers are letters.
-use Rattle.std.specs.Prelude.{ℕ, Bool, false, not, ◌&&◌, List, [], ◌∷◌, ◌++◌, map, ◌≡◌, eqb, length}
+use Rattle.std.specs.Prelude.{ℕ, Bool, false, not, ◌&&◌, List, [], ◌∷◌, ◌++◌, map, ◌≡◌, eqb, length, Ok, Err}
 use Rattle.base.specs.Bits.{bit}
 use Rattle.base.specs.Answers.{no_figures, is_letter}
 use Rattle.base.specs.declared.Answer.{Answer}
@@ -11,9 +11,7 @@ use Rattle.registers.specs.declared.SeatEvent.TheVariants.{Read, Write, Arrival,
 use Rattle.seat.specs.declared.Seat.{Seat}
 use Rattle.seat.specs.Receiving.{side}
 use Rattle.records.specs.declared.Event.TheVariants.{OfSeat, MasterReset, ReadController, WriteController, Acknowledge}
-use Rattle.records.specs.declared.Decoded.{Decoded}
-use Rattle.records.specs.declared.Decoded.TheVariants.{Taken, NoEvent}
-use Rattle.records.specs.Events.{Record, whole, decoded, seat_count}
+use Rattle.records.specs.Events.{Record, whole, decoded, seat_count, Decoded}
 use Rattle.bench.specs.declared.Bench.{Bench}
 use Rattle.bench.specs.Seats.{seat, power_up}
 use Rattle.bench.specs.Steps.{outcome}
@@ -48,12 +46,12 @@ reads_rbr s (Levels levels) = false
 reads_rbr s Time = false
 
 unfoldable pub rbr_read : Bench → Decoded → Bool
-rbr_read b (Taken (OfSeat n e)) = reads_rbr (seat b n) e
-rbr_read b (Taken MasterReset) = false
-rbr_read b (Taken (ReadController port)) = false
-rbr_read b (Taken (WriteController port byte)) = false
-rbr_read b (Taken Acknowledge) = false
-rbr_read b (NoEvent number) = false
+rbr_read b (Ok (OfSeat n e)) = reads_rbr (seat b n) e
+rbr_read b (Ok MasterReset) = false
+rbr_read b (Ok (ReadController port)) = false
+rbr_read b (Ok (WriteController port byte)) = false
+rbr_read b (Ok Acknowledge) = false
+rbr_read b (Err number) = false
 
 -- ticket 6: "The RBR answer gains these figures", and no other answer of the bench, whatever the bench and the record
 abbrev pub OnlyRbr : Type 0

@@ -1,6 +1,5 @@
 pub mod Bytes
 pub mod Version
-pub mod Tallies
 pub mod Settings
 pub mod NumberLaws
 pub mod OneLaws

@@ -1,25 +1,24 @@
 -- No number of C is cut where it names a setting; and every line's length fits a byte.
-use Rattle.std.specs.Prelude.{ℕ, zero, suc, ◌<◌, ◌≤◌, Bool, true, ◌&&◌, List, [], ◌∷◌, ◌≡◌, refl, ltb, get_or}
+use Rattle.std.specs.Prelude.{ℕ, zero, suc, ◌<◌, ◌≤◌, Bool, true, ◌&&◌, List, [], ◌∷◌, ◌≡◌, refl, ltb, get_or, Result}
 use Rattle.std.proofs.Common.{inl, inr, ⊎_elim, ap, sym, subst, ◌∙◌, arith, ltb-true, ltb-false}
 use Rattle.base.specs.PickLaws.{both_hold, either_way}
 use Rattle.base.specs.declared.Answer.{Answer}
 use Rattle.base.specs.declared.Answer.TheVariants.{Divisor, Refused}
+use Rattle.base.specs.declared.Refusal.{Refusal}
 use Rattle.c_word.specs.Numbers.{as_byte, as_divisor}
 use Rattle.c_word.specs.NumberLaws.{up_to_below, up_to_past, told_up_to}
 use Rattle.rates.specs.Rates.{first, second, third, divisors_of, divisor_of, rate_of}
 use Rattle.rates.proofs.RatesLaws.{answered, clock_refused}
 use Rattle.rates.proofs.BackLaws.{rate_none, either}
-use Rattle.rates.specs.declared.Found.{Found}
 use Rattle.setting_lines.specs.Fields.{Shape, Sized, line_of, lcr_of}
 use Rattle.setting_lines.specs.Guess.{good}
 use Rattle.setting_lines.specs.Reading.{setting_by, Reads}
-use Rattle.setting_lines.specs.Writing.{Left, left, written_by, NoShape, Writes}
+use Rattle.setting_lines.specs.Writing.{Left, left, length_in, written_by, NoShape, Writes}
 use Rattle.setting_lines.specs.CaseLaws.{WriteCase, no_shape, unrated, short, lined, write_case}
 use Rattle.setting_lines.proofs.LineLaws.{line_short}
 use Rattle.setting_lines.proofs.RateLaws.{listed_rated}
 use Rattle.setting_lines.specs.ShapeLaws.{lcr_good}
 use Rattle.setting_lines.specs.declared.Setting.{Setting}
-use Rattle.setting_lines.specs.declared.Written.{Written}
 use Rattle.embed.specs.NumberLaws.{clock_past}
 
 -- ---- the divisor and the clock
@@ -85,7 +84,7 @@ shape_of n none s sized is = none s sized (up_to_below 255 n (subst (λ (m : ℕ
 
 -- ---- both calls, at the narrower numbers
 
-pub reads_past : (line : List ℕ) (clock c : ℕ) (r : Setting) → c ≡ as_byte clock → Reads line c r → Reads line clock r
+pub reads_past : (line : List ℕ) (clock c : ℕ) (r : Result Setting Refusal) → c ≡ as_byte clock → Reads line c r → Reads line clock r
 reads_past line clock c r ec (inl a) =
     inl (record {
       rate = a.rate;
@@ -97,7 +96,7 @@ reads_past line clock c r ec (inl a) =
     })
 reads_past line clock c r ec (inr a) = inr a
 
-pub writes_past : (clock divisor lcr c d l : ℕ) (b b' : List ℕ) (w : Written) → c ≡ as_byte clock → d ≡ as_divisor divisor → l ≡ as_byte lcr → Writes c d l b b' w
+pub writes_past : (clock divisor lcr c d l : ℕ) (b b' : List ℕ) (w : Result ℕ Refusal) → c ≡ as_byte clock → d ≡ as_divisor divisor → l ≡ as_byte lcr → Writes c d l b b' w
     → Writes clock divisor lcr b b' w
 writes_past clock divisor lcr c d l b b' w ec ed el (inl a) =
     inl (record {
@@ -106,20 +105,20 @@ writes_past clock divisor lcr c d l b b' w ec ed el (inl a) =
       is = of_shape lcr a.shape a.sized (sym el ∙ a.is);
       told =
           a.told
-          ∙ ap (λ (f : Found). written_by f (line_of f.rate a.shape) b) (ap (rate_of d) ec ∙ ap (λ (n : ℕ). rate_of n (as_byte clock)) ed ∙ sym (rate_past divisor clock));
+          ∙ ap (λ (f : Result ℕ Refusal). written_by f (λ rate. line_of rate a.shape) b) (ap (rate_of d) ec ∙ ap (λ (n : ℕ). rate_of n (as_byte clock)) ed ∙ sym (rate_past divisor clock));
     })
 writes_past clock divisor lcr c d l b b' w ec ed el (inr a) = inr (record { other = shape_of lcr (subst NoShape el a.other); told = a.told })
 
 -- ---- the length
 
 -- a line that was written has at most 13 bytes, and one that was not has none
-pub written_short : (clock divisor lcr : ℕ) (d d' : List ℕ) (w : Written) → Writes clock divisor lcr d d' w → w.length ≤ 13
+pub written_short : (clock divisor lcr : ℕ) (d d' : List ℕ) (w : Result ℕ Refusal) → Writes clock divisor lcr d d' w → length_in w ≤ 13
 written_short clock divisor lcr d d' w writes = by_case (write_case clock divisor lcr d d' w writes)
   where
-    long : {l : Left} → left w d' ≡ l → w.length ≡ l.written.length
-    long is = ap (λ (l : Left). l.written.length) is
+    long : {l : Left} → left w d' ≡ l → length_in w ≡ length_in l.written
+    long is = ap (λ (l : Left). length_in l.written) is
 
-    by_case : WriteCase clock divisor lcr d (left w d') → w.length ≤ 13
+    by_case : WriteCase clock divisor lcr d (left w d') → length_in w ≤ 13
     by_case (no_shape other is) = omega (arith, long is)
     by_case (unrated u is) = omega (arith, long is)
     by_case (short n less is) = omega (arith, long is)

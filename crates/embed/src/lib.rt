@@ -7,6 +7,8 @@ mod settings;
 
 ghost use Rattle.std.specs.Prelude.{◌≡◌, false};
 ghost use Rattle.base.specs.Bits.{digit};
+ghost use Rattle.base.specs.Refusals.{number_of};
+ghost use Rattle.base.specs.declared.Answer.TheVariants.{Refused};
 ghost use Rattle.rates.specs.Rates.{divisor_of};
 ghost use Rattle.controller.specs.Steps.{placed};
 ghost use Rattle.controller.specs.Turns.{output_of};
@@ -18,16 +20,17 @@ ghost use Rattle.bench.specs.Steps.{met, outcome};
 ghost use Rattle.bench.specs.Tallies.{tallies_of};
 ghost use Rattle.c_word.specs.Word.{Tells};
 ghost use Rattle.c_bench.specs.Told.{Told};
+ghost use Rattle.c_bench.specs.Parts.{asked_for};
 ghost use Rattle.c_bench.specs.Outputs.{outputs_at};
-ghost use Rattle.embed.specs.Tallies.{Counts};
 ghost use Rattle.embed.specs.Version.{version};
 ghost use Rattle.embed.specs.Bytes.{bench_bytes};
 
+use base::{Answer, Refusal};
 use bench::Bench;
-use controller::Controller;
+use c_bench::Asked;
 pub use images::{hailstoat_restore, hailstoat_save};
 use records::Event;
-use seat::{Five, Seat};
+use seat::Five;
 pub use settings::{hailstoat_read_setting, hailstoat_write_setting};
 
 const MASTER_RESET: u32 = Event::MASTER_RESET as u32;
@@ -36,35 +39,19 @@ const VERSION: u32 = 30100;
 
 const BENCH_BYTES: usize = 812;
 
-// The five tallies of a seat, which are 0 where the seat is not there, and the word that tells which.
-#[derive(Clone, Copy)]
-pub struct Counted {
-    pub five: Five,
-    pub word: u64,
-}
+// What a seat that is not there has.
+const NO_FIVE: Five = Five {
+    arrived: 0,
+    read: 0,
+    lost: 0,
+    dropped: 0,
+    queued: 0,
+};
 
-fn place_word(controller: Controller, line: u32) -> u64
-    ensures { Tells result (placed controller line) false }
+fn refused(refusal: Refusal) -> u64
+    ensures { Tells result (Refused (number_of refusal)) false }
 {
-    let answer = controller.place(c_word::as_byte(line));
-    c_word::word(answer, false)
-}
-
-fn seat_tallies(held: Seat, n: u32) -> Counted
-    ensures { Counts result held n }
-{
-    let t = bench::tallies_by(held, n);
-    let five = t.five;
-    let answer = t.answer;
-    let told = c_word::word(answer, false);
-    Counted { five, word: told }
-}
-
-fn output_byte(controller: Controller) -> u8
-    ensures { result ≡ digit (output_of controller) }
-{
-    let high = controller.output();
-    base::pick_byte(high, 1, 0)
+    c_word::word(Answer::Refused(refusal.number()), false)
 }
 
 // The version, to compare with the header's.
@@ -85,8 +72,7 @@ pub fn hailstoat_size() -> usize
 pub fn hailstoat_divisor(rate: u32, clock: u32) -> u64
     ensures { Tells result (divisor_of rate clock) false }
 {
-    let answer = rates::divisor(rate, c_word::as_byte(clock));
-    c_word::word(answer, false)
+    c_word::word(rates::divisor(rate, c_word::as_byte(clock)), false)
 }
 
 pub fn hailstoat_power_up(bench: &mut Bench)
@@ -106,13 +92,12 @@ fn reset_event(bench: &mut Bench) -> u64
 
 // The seat that the record names and the controller are taken out, and stored where they lie: the rest of the bench is not moved.
 // The chair is worked out here, which is less to walk by hand than a call.
-fn seat_event(bench: &mut Bench, kind: u32, seat: u32, number: u32, value: u8) -> u64
-    ensures { (bench.new ≡ (partly bench.old (whole kind seat number value)).bench)
-        × Told result (partly bench.old (whole kind seat number value)) }
+fn seat_event(bench: &mut Bench, asked: Asked) -> u64
+    ensures { (bench.new ≡ (partly bench.old (asked_for asked)).bench) × Told result (partly bench.old (asked_for asked)) }
 {
-    let at = seat as usize % records::SEATS;
+    let at = asked.seat as usize % records::SEATS;
     let held = &mut bench.seats[at];
-    let p = c_bench::parts(*held, bench.controller, kind, seat, number, value);
+    let p = c_bench::parts(*held, bench.controller, asked);
     *held = p.seat;
     bench.controller = p.controller;
     p.word
@@ -126,21 +111,27 @@ pub fn hailstoat_event(bench: &mut Bench, kind: u32, seat: u32, number: u32, val
     if kind == MASTER_RESET {
         return reset_event(bench);
     }
-    seat_event(bench, kind, seat, number, value)
+    let asked = Asked {
+        kind,
+        seat,
+        number,
+        value,
+    };
+    seat_event(bench, asked)
 }
 
 // The place in turn of a line.
 pub fn hailstoat_place(bench: &Bench, line: u32) -> u64
     ensures { Tells result (placed bench.now.controller line) false }
 {
-    place_word(bench.controller, line)
+    c_word::word(bench.controller.place(c_word::as_byte(line)), false)
 }
 
 // 1 where the controller's output is high, else 0.
 pub fn hailstoat_output(bench: &Bench) -> u8
     ensures { result ≡ digit (output_of bench.now.controller) }
 {
-    output_byte(bench.controller)
+    u8::from(bench.controller.output())
 }
 
 // The modem outputs of a seat: DTR, RTS, OUT1 and OUT2 as bits 0 to 3.
@@ -156,7 +147,14 @@ pub fn hailstoat_tallies(bench: &Bench, seat: u32, out: &mut Five) -> u64
     ensures { (out.new ≡ (tallies_of bench.now seat).five) × Tells result (tallies_of bench.now seat).answer false }
 {
     let at = seat as usize % records::SEATS;
-    let c = seat_tallies(bench.seats[at], seat);
-    *out = c.five;
-    c.word
+    match bench::tallies_by(bench.seats[at], seat) {
+        Ok(five) => {
+            *out = five;
+            c_word::word(Answer::Done, false)
+        }
+        Err(refusal) => {
+            *out = NO_FIVE;
+            refused(refusal)
+        }
+    }
 }

@@ -53,9 +53,8 @@ use Rattle.bench.specs.declared.Outcome.{Outcome}
 use Rattle.bench.specs.Refusals.{refusal}
 use Rattle.bench.specs.EdgeLaws.{kind_refused, seat_refused}
 use Rattle.bench.specs.Runs.{after_all}
-use Rattle.bench.specs.declared.Tallied.{Tallied}
 use Rattle.bench.specs.Seats.{power_up, seat}
-use Rattle.bench.specs.Tallies.{tallies_of, no_five}
+use Rattle.bench.specs.Tallies.{Tallied, tallies_of, no_five}
 use Rattle.bench.specs.TalliedLaws.{tallied_told, tallied_refused}
 use Rattle.bench.specs.Valid.{valid}
 use Rattle.bench.proofs.ValidLaws.{parts, at_seat_lem}

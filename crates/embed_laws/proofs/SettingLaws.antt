@@ -19,15 +19,16 @@ use borrow.Author.Tests.{ne_eqb}
 use Rattle.base.specs.Pick.{pick}
 use Rattle.base.specs.PickLaws.{pick_false}
 use Rattle.base.specs.Answers.{refusal_of, value_of}
+use Rattle.base.specs.Refusals.{number_of}
 use Rattle.base.specs.declared.Answer.{Answer}
 use Rattle.base.specs.declared.Answer.TheVariants.{Byte, Divisor, Done, Refused}
 use Rattle.c_word.specs.Word.{answer_in, refusal_in, Tells}
+use Rattle.rates.specs.Answering as answering
 use Rattle.setting_lines.specs.Fields.{Shape, Sized, lcr_of}
-use Rattle.setting_lines.specs.Reading.{Reads}
-use Rattle.setting_lines.specs.Writing.{Left, left}
+use Rattle.setting_lines.specs.Reading.{divisor_in, lcr_in, Reads}
+use Rattle.setting_lines.specs.Writing.{Left, left, length_in}
 use Rattle.setting_lines.specs.ThereAndBack.{setting_of}
 use Rattle.setting_lines.specs.CaseLaws.{not_done, WriteCase, no_shape, unrated, short, lined, write_case}
-use Rattle.setting_lines.specs.declared.Setting.{Setting}
 use Rattle.setting_lines.proofs.Statements.{statements}
 use Rattle.embed.specs.Settings.{given_unless, ReadsTold, WritesTold}
 use Rattle.embed.specs.SettingLaws.{shape_below, past_divisor}
@@ -46,17 +47,17 @@ refused_shown w n a given is some told =
     subst (λ (x : Answer). Tells w x false) (ap (λ (x : Answer). given_unless x given) is ∙ pick_false _ _ _ (ne_eqb n 0 some)) told
 
 -- a line was written where the word shows no refusal
-done_shown : (clock divisor lcr : ℕ) (d d' : List ℕ) (r : ℕ) (t : WritesTold clock divisor lcr d d' r) → refusal_in r ≡ 0 → t.written.answer ≡ Done
-unfolding refusal_of
+done_shown : (clock divisor lcr : ℕ) (d d' : List ℕ) (r : ℕ) (t : WritesTold clock divisor lcr d d' r) → refusal_in r ≡ 0 → answering.answer_in t.written ≡ Done
+unfolding refusal_of number_of
 done_shown clock divisor lcr d d' r t none = by_case (write_case clock divisor lcr d d' t.written t.writes)
   where
-    answered : {l : Left} → left t.written d' ≡ l → t.written.answer ≡ l.written.answer
-    answered is = ap (λ (l : Left). l.written.answer) is
+    answered : {l : Left} → left t.written d' ≡ l → answering.answer_in t.written ≡ answering.answer_in l.written
+    answered is = ap (λ (l : Left). answering.answer_in l.written) is
 
-    not_refused : (n : ℕ) → (n ≡ 0 → ⊥) → t.written.answer ≡ Refused n → t.written.answer ≡ Done
-    not_refused n some is = absurd (some (sym (refused_shown r n t.written.answer _ is some t.told).1.refusal ∙ none))
+    not_refused : (n : ℕ) → (n ≡ 0 → ⊥) → answering.answer_in t.written ≡ Refused n → answering.answer_in t.written ≡ Done
+    not_refused n some is = absurd (some (sym (refused_shown r n (answering.answer_in t.written) _ is some t.told).1.refusal ∙ none))
 
-    by_case : WriteCase clock divisor lcr d (left t.written d') → t.written.answer ≡ Done
+    by_case : WriteCase clock divisor lcr d (left t.written d') → answering.answer_in t.written ≡ Done
     by_case (no_shape other is) = not_refused 11 (λ e. omega arith) (answered is)
     by_case (unrated u is) = not_refused 10 (λ e. omega arith) (answered is)
     by_case (short n less is) = not_refused 12 (λ e. omega arith) (answered is)
@@ -90,11 +91,11 @@ module _ {M : Type 1} {𝓤 : Ura M} (𝓛 : Logic 𝓤) (mem : Memory → SProp
   abbrev Refuses : ℕ → Type 0
   Refuses n = (after ≡ before) × (refusal_in r ≡ n) × (answer_in r ≡ 0xFFF)
 
-  refuses : (n : ℕ) (p : Says) → p.written.answer ≡ Refused n → (n ≡ 0 → ⊥) → Refuses n
+  refuses : (n : ℕ) (p : Says) → answering.answer_in p.written ≡ Refused n → (n ≡ 0 → ⊥) → Refuses n
   unfolding refusal_of value_of
   refuses n p is some =
-      let told = refused_shown r n p.written.answer _ is some p.told in
-      (statements.stays.refused clock divisor lcr before after p.written p.writes (λ done. not_done p.written.answer n done is), told.1.refusal, told.1.answer)
+      let told = refused_shown r n (answering.answer_in p.written) _ is some p.told in
+      (statements.stays.refused clock divisor lcr before after p.written p.writes (λ done. not_done (answering.answer_in p.written) n done is), told.1.refusal, told.1.answer)
 
   -- ticket 1: "11 for any other line or an LCR byte that no line gives": no number past a byte is one
   pub lcr_lent_refused : 255 ≤ lcr → ent 𝓤 Written-to (fact 𝓤 (Refuses 11))
@@ -127,15 +128,15 @@ module _ {M : Type 1} {𝓤 : Ura M} (𝓛 : Logic 𝓤) (mem : Memory → SProp
       fact_use 𝓤 Says (conj_l 𝓤 Written-to Q) (λ p.
       fact_use 𝓤 (ReadsTold a'.0.now a'.1.0 v'.1.1.0 r') (conj_r 𝓤 Written-to Q) (λ c.
       let done = done_shown clock divisor lcr before after r p taken in
-      let long : answer_in r ≡ p.written.length = (given_shown r p.written.answer (Byte p.written.length) done p.told).1.answer in
-      let line : a'.0.now ≡ take p.written.length after = lent ∙ ap (λ (n : ℕ). take n after) long in
-      let reads : Reads (take p.written.length after) clock c.setting =
-      subst (λ (n : ℕ). Reads (take p.written.length after) n c.setting) same (subst (λ (l : List ℕ). Reads l a'.1.0 c.setting) line c.reads) in
+      let long : answer_in r ≡ length_in p.written = (given_shown r (answering.answer_in p.written) (Byte (length_in p.written)) done p.told).1.answer in
+      let line : a'.0.now ≡ take (length_in p.written) after = lent ∙ ap (λ (n : ℕ). take n after) long in
+      let reads : Reads (take (length_in p.written) after) clock c.setting =
+      subst (λ (n : ℕ). Reads (take (length_in p.written) after) n c.setting) same (subst (λ (l : List ℕ). Reads l a'.1.0 c.setting) line c.reads) in
       let is : c.setting ≡ setting_of divisor lcr = statements.read_back.back clock divisor lcr before after p.written c.setting p.writes done reads in
-      let told : Tells r' (Divisor c.setting.divisor) false =
-      given_shown r' c.setting.answer (Divisor c.setting.divisor) (ap (λ (x : Setting). x.answer) is) c.told in
+      let told : Tells r' (Divisor (divisor_in c.setting)) false =
+      given_shown r' (answering.answer_in c.setting) (Divisor (divisor_in c.setting)) (ap answering.answer_in is) c.told in
       fact_i 𝓤 ((refusal_in r' ≡ 0) × (answer_in r' ≡ divisor) × (v'.1.1.0 ≡ lcr)) (conj 𝓤 Written-to Q) (
         told.1.refusal,
-        told.1.answer ∙ ap (λ (x : Setting). x.divisor) is,
-        c.stored ∙ ap (λ (x : Setting). x.lcr) is,
+        told.1.answer ∙ ap divisor_in is,
+        c.stored ∙ ap lcr_in is,
       )))

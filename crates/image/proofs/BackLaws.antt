@@ -3,7 +3,7 @@ use Prim.Native.Nat.{ℕ, zero, suc, ◌+◌, ◌*◌, ◌%◌, ◌<◌, ◌≤�
 use Rattle.std.proofs.Math.Bool.{true, ◌&&◌}
 use mathlib.Core.List.{List, [], ◌∷◌, ◌++◌, append_assoc}
 use Rattle.std.proofs.Math.Logic.{⊎_elim}
-use Rattle.std.specs.Prelude.{◌≡◌, eqb, leb, ltb, length, get_or, take, drop}
+use Rattle.std.specs.Prelude.{◌≡◌, eqb, leb, ltb, length, get_or, take, drop, Option, Some, is_some, unwrap_or}
 use Rattle.std.proofs.Math.Path.{refl, ap, ap₂, sym}
 use Rattle.std.proofs.Common.{◌∙◌, le_of_suc-le-suc, not-suc-le-zero, eq-or-lt_of_le, arith, length-append, drop_at, length-take-le}
 use Rattle.std.proofs.lemmas.List.Edits.{sets, sets-eq}
@@ -15,7 +15,7 @@ use Rattle.base.specs.EveryLaws.{every_from}
 use Rattle.base.specs.ListLaws.{listed, listed_same, written_out}
 use Rattle.base.specs.PickLaws.{both_hold}
 use Rattle.seat.specs.declared.Seat.{Seat}
-use Rattle.seat.specs.Seats.{no_seat}
+use Rattle.seat.specs.Seats.{no_seat, power_up}
 use Rattle.seat.specs.Sound.{sound}
 use Rattle.controller.specs.declared.Controller.{Controller}
 use Rattle.controller.specs.Valid.{latches_high}
@@ -25,7 +25,6 @@ use Rattle.bench.specs.declared.Bench.{Bench}
 use Rattle.bench.specs.Seats.{lines}
 use Rattle.bench.specs.Valid.{sound_seats, valid}
 use Rattle.bench.proofs.ValidLaws as bench
-use Rattle.seat_image.specs.declared.Found.{Found}
 use Rattle.seat_image.specs.Written.{record_length}
 use Rattle.seat_image.specs.Read.{found}
 use Rattle.seat_image.specs.Written.{record_of}
@@ -33,7 +32,7 @@ use Rattle.channel_image.proofs.WrittenLaws.{digit_yes, digit_small}
 use Rattle.seat_image.proofs.BackLaws.{found_written}
 use Rattle.image.specs.Layout.{header_length, image_length, length_in, version_of, place_in}
 use Rattle.image.specs.PlaceLaws.{place_with}
-use Rattle.image.specs.Read.{record_at, seat_at, good_at, records_from, controller_from, bench_from}
+use Rattle.image.specs.Read.{record_at, seat_at, good_at, seats_in, seats_good, controller_from, bench_from}
 use Rattle.image.specs.RefusalLaws.{header_taken, restored_good}
 use Rattle.image.specs.Refusals.{marked, known, controller_in_range, latches_allowed, image_good, restored}
 use Rattle.image.specs.Written.{newest, header, controller_bytes, records_of, image_of}
@@ -49,7 +48,7 @@ sound_at (s ∷ l) (suc k) all below = sound_at l k (both_hold (sound s) (sound_
 
 module _ (seats : List Seat) (k : ℕ) (own : sound (get_or seats k no_seat) ≡ true) where
   found_among : (n : ℕ) (rest : List ℕ) → k < n
-      → found newest (drop (record_length * k) (records_of n seats ++ rest)) ≡ record { seat = get_or seats k no_seat; good = true }
+      → found newest (drop (record_length * k) (records_of n seats ++ rest)) ≡ Some (get_or seats k no_seat)
   unfolding records_of
   found_among zero rest below = absurd (not-suc-le-zero below)
   found_among (suc n) rest below =
@@ -117,7 +116,7 @@ module _ (b : Bench) (v : valid b ≡ true) (rest : List ℕ) where
   unfolding image_of version_of controller_bytes
   version = refl
 
-  read_at : (k : ℕ) → k < seat_count → record_at (image_of b ++ rest) k ≡ record { seat = get_or b.seats k no_seat; good = true }
+  read_at : (k : ℕ) → k < seat_count → record_at (image_of b ++ rest) k ≡ Some (get_or b.seats k no_seat)
   unfolding image_of controller_bytes
   read_at k below =
       ap (λ (v : ℕ). found v (drop (place_in v k) (image_of b ++ rest))) version
@@ -127,11 +126,11 @@ module _ (b : Bench) (v : valid b ≡ true) (rest : List ℕ) where
 
   seats_back : listed seat_count (seat_at (image_of b ++ rest)) ≡ b.seats
   seats_back =
-      listed_same seat_count (seat_at (image_of b ++ rest)) (λ k. get_or b.seats k no_seat) (λ k below. ap (λ (r : Found). r.seat) (read_at k below))
+      listed_same seat_count (seat_at (image_of b ++ rest)) (λ k. get_or b.seats k no_seat) (λ k below. ap (λ (o : Option Seat). unwrap_or o power_up) (read_at k below))
       ∙ written_out seat_count b.seats no_seat parts.wired.all
 
   bench_back : bench_from (image_of b ++ rest) ≡ b
-  unfolding image_of bench_from records_from controller_bytes
+  unfolding image_of bench_from seats_in controller_bytes
   bench_back =
       λ i. record {
         seats = seats_back i;
@@ -141,12 +140,12 @@ module _ (b : Bench) (v : valid b ≡ true) (rest : List ℕ) where
       }
 
   good_back : image_good (image_of b ++ rest) ≡ true
-  unfolding image_of image_good records_from controller_in_range latches_allowed controller_bytes
+  unfolding image_of image_good seats_in seats_good controller_in_range latches_allowed controller_bytes
   good_back =
       let c = b.controller in
       let s = controller_parts c parts.controller in
       let each : every seat_count (good_at (image_of b ++ rest)) ≡ true
-      = every_from seat_count (good_at (image_of b ++ rest)) (λ k below. ap (λ (r : Found). r.good) (read_at k below)) in
+      = every_from seat_count (good_at (image_of b ++ rest)) (λ k below. ap is_some (read_at k below)) in
       let own : controller_in_range (controller_bytes c) ≡ true
       = simp (le-leb c.setup.stage 3 s.stage, s.base, le-leb c.operation.first 7 (omega (arith, s.first)), digit_small) in
       let high : latches_high (record { levels = lines (listed seat_count (seat_at (image_of b ++ rest))); latches = c.lines.latches }) ≡ true

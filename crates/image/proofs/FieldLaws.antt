@@ -1,5 +1,5 @@
 -- An image is good exactly if it has each row of its fields.
-use Rattle.std.specs.Prelude.{ℕ, zero, suc, ◌+◌, ◌%◌, ◌<◌, ◌≤◌, Bool, false, ◌||◌, List, [], ◌∷◌, ◌≡◌, length, take, drop}
+use Rattle.std.specs.Prelude.{ℕ, zero, suc, ◌+◌, ◌%◌, ◌<◌, ◌≤◌, Bool, false, ◌||◌, List, [], ◌∷◌, ◌≡◌, length, take, drop, Option, is_some, unwrap_or}
 use Rattle.std.proofs.Math.Bool.{true, not, ◌&&◌, or-true}
 use Rattle.std.proofs.Math.Logic.{⊎_elim}
 use Rattle.std.proofs.Math.Path.{refl, ap, ap₂, sym}
@@ -12,7 +12,8 @@ use Rattle.base.specs.Every.{every}
 use Rattle.base.specs.EveryLaws.{every_each, every_from}
 use Rattle.base.specs.ListLaws.{listed, listed_length, listed_at, listed_same}
 use Rattle.base.specs.PickLaws.{both_hold, either_way}
-use Rattle.seat.specs.Seats.{no_seat, line}
+use Rattle.seat.specs.declared.Seat.{Seat}
+use Rattle.seat.specs.Seats.{no_seat, line, power_up}
 use Rattle.rank.specs.Sets.{has}
 use Rattle.rank.specs.Sets as sets
 use Rattle.controller.specs.State as controller
@@ -22,7 +23,6 @@ use Rattle.bench.specs.declared.Bench.{Bench}
 use Rattle.bench.specs.FrameLaws.{chair_own}
 use Rattle.bench.proofs.HeardLaws.{line_of_seat}
 use Rattle.bench.specs.Seats.{seat, lines}
-use Rattle.seat_image.specs.declared.Found.{Found}
 use Rattle.seat_image.proofs.FieldLaws as one
 use Rattle.channel_image.specs.Fields.{byte_at}
 use Rattle.channel_image.specs.Places.{at}
@@ -31,7 +31,8 @@ use Rattle.seat_image.specs.ReadLaws.{Well, found_well, found_good}
 use Rattle.image.specs.Fields.{ImageFields, Exactly}
 use Rattle.image.specs.Layout.{length_in, version_of, place_in, stretch, controller_part}
 use Rattle.image.specs.PlaceLaws.{inside, front_inside}
-use Rattle.image.specs.Read.{seat_at, good_at, records_from}
+use Rattle.image.specs.Read.{seat_at, good_at, seats_in, seats_good}
+use Rattle.image.specs.ReadLaws.{some_at}
 use Rattle.image.specs.Refusals.{controller_in_range, latches_allowed, image_good}
 
 -- ---- a part of a list, written out
@@ -59,16 +60,16 @@ module _ (p : List ℕ) (long : length_in (version_of p) ≤ length p) where
   unfolding stretch
   found_at n below good =
       let taken = found_good (version_of p) (drop (place_in (version_of p) n) p) (room_at n below) good in
-      (ap (λ (f : Found). f.good) taken, ap (λ (f : Found). f.seat) taken)
+      (ap is_some taken, ap (λ (o : Option Seat). unwrap_or o power_up) taken)
 
   -- ---- the lines
 
-  seats_are : listed seat_count (seat_at p) ≡ (records_from p).seats
-  unfolding records_from
+  seats_are : listed seat_count (seat_at p) ≡ seats_in p
+  unfolding seats_in
   seats_are = refl
 
-  line_at : (n : ℕ) → n < 8 → has (lines (records_from p).seats) n ≡ line (seat_at p n)
-  unfolding records_from seat
+  line_at : (n : ℕ) → n < 8 → has (lines (seats_in p)) n ≡ line (seat_at p n)
+  unfolding seats_in seat
   line_at n below =
       let b : Bench = record { seats = listed seat_count (seat_at p); controller = controller.power_up } in
       line_of_seat b n (listed_length seat_count (seat_at p)) below
@@ -97,33 +98,34 @@ module _ (p : List ℕ) (long : length_in (version_of p) ≤ length p) where
   latches_good : ((n : ℕ) → n < 8 → bit n (byte_at p 15) ≡ true → line (seat_at p n) ≡ true) → latches_allowed p ≡ true
   unfolding latches_allowed latches_high
   latches_good each =
-      every_from 8 (λ n. not (has (at (controller_part p) 10) n) || has (lines (records_from p).seats) n)
+      every_from 8 (λ n. not (has (at (controller_part p) 10) n) || has (lines (seats_in p)) n)
       (λ n below.
       ⊎_elim
       (λ (set : bit n (byte_at p 15) ≡ true).
       ap (λ (b : Bool). not (has (at (controller_part p) 10) n) || b) (line_at n below ∙ each n below set)
       ∙ or-true (not (has (at (controller_part p) 10) n)))
       (λ (clear : bit n (byte_at p 15) ≡ false).
-      ap (λ (b : Bool). not b || has (lines (records_from p).seats) n) (latch_at_lem n below ∙ clear))
+      ap (λ (b : Bool). not b || has (lines (seats_in p)) n) (latch_at_lem n below ∙ clear))
       (either_way (bit n (byte_at p 15))))
 
   module _ (good : image_good p ≡ true) where
     pub three : (every seat_count (good_at p) ≡ true) × ((controller_in_range (controller_part p) ≡ true) × (latches_allowed p ≡ true))
-    unfolding image_good records_from
+    unfolding image_good seats_good
     three =
         let two = both_hold (every seat_count (good_at p) && controller_in_range (controller_part p)) (latches_allowed p) good in
         let one = both_hold (every seat_count (good_at p)) (controller_in_range (controller_part p)) two.0 in
         (one.0, (one.1, two.1))
 
-    pub well_at : (n : ℕ) → n < 8 → Well (version_of p) (drop (place_in (version_of p) n) p)
-    well_at n below = found_well (version_of p) (drop (place_in (version_of p) n) p) (every_each seat_count (good_at p) three.0 n below)
+    pub well_at : (n : ℕ) → n < 8 → Well (version_of p) (drop (place_in (version_of p) n) p) (seat_at p n)
+    well_at n below =
+        found_well (version_of p) (drop (place_in (version_of p) n) p) (seat_at p n) (some_at p n (every_each seat_count (good_at p) three.0 n below))
 
     latch_high : (n : ℕ) → n < 8 → bit n (byte_at p 15) ≡ true → line (seat_from (stretch p n)) ≡ true
     unfolding latches_allowed latches_high stretch
     latch_high n below set =
         ap line (sym (well_at n below).seat) ∙ sym (line_at n below)
-        ∙ sym (ap (λ (b : Bool). not b || has (lines (records_from p).seats) n) (latch_at_lem n below ∙ set))
-        ∙ every_each 8 (λ n. not (has (at (controller_part p) 10) n) || has (lines (records_from p).seats) n) three.1.1 n below
+        ∙ sym (ap (λ (b : Bool). not b || has (lines (seats_in p)) n) (latch_at_lem n below ∙ set))
+        ∙ every_each 8 (λ n. not (has (at (controller_part p) 10) n) || has (lines (seats_in p)) n) three.1.1 n below
 
     pub image_fields : ImageFields p
     unfolding stretch
@@ -161,7 +163,7 @@ module _ (p : List ℕ) (long : length_in (version_of p) ≤ length p) where
     good_record n below = (one.exactly).enough (stretch p n) (f.seats n below)
 
     pub fields_image : image_good p ≡ true
-    unfolding image_good records_from
+    unfolding image_good seats_good
     fields_image =
         let records : every seat_count (good_at p) ≡ true
         = every_from seat_count (good_at p) (λ n below. (found_at n below (good_record n below)).0) in

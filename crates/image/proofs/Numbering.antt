@@ -44,7 +44,7 @@ numbers p = first (ltb (length p) 5) (not (marked p)) (not (known (version_of p)
 
 -- ---- a save
 
-no_room : (l : List ℕ) (at : ℕ) → length l < at + image_length → room_for image_length l at ≡ false
+pub no_room : (l : List ℕ) (at : ℕ) → length l < at + image_length → room_for image_length l at ≡ false
 no_room l at short = by (leb at (length l)) refl
   where
     by : (b : Bool) → leb at (length l) ≡ b → (b && leb image_length (length l - at)) ≡ false

@@ -1,6 +1,6 @@
 -- What stands outside an image, and each part of it in its place.
 use Prim.Native.Nat.{ℕ, zero, suc, ◌+◌, ◌-◌, ◌*◌, ◌<◌, ◌≤◌}
-use mathlib.Core.Bool.{Bool, true, false, ◌&&◌}
+use mathlib.Core.Bool.{true, false}
 use mathlib.Core.List.{List, [], ◌++◌, append_assoc, append-nil}
 use mathlib.Core.Logic.{⊎_elim}
 use mathlib.Core.Path.{◌≡◌, refl, ap, ap₂, sym, ◌∙◌}
@@ -12,16 +12,16 @@ use lib.Seq.{sets, sets-eq, take_at, drop_at, drop-append-add, take-append-le, d
 use borrow.Author.Tests.{leb-true, le-ltb}
 use Rattle.base.specs.declared.Answer.{Answer}
 use Rattle.base.specs.Bits.{digit}
-use Rattle.base.specs.Every.{every}
 use Rattle.base.specs.ListLaws.{listed_at, listed_same}
 use Rattle.base.specs.Pick.{pick}
 use Rattle.base.specs.PickLaws.{pick_true, pick_false, both_hold, either_way}
 use Rattle.base.specs.Refusals.{first_held}
 use Rattle.seat.specs.declared.Seat.{Seat}
-use Rattle.seat.specs.Seats.{no_seat}
+use Rattle.seat.specs.Seats.{no_seat, power_up}
 use Rattle.records.specs.Events.{seat_count}
 use Rattle.bench.specs.declared.Bench.{Bench}
-use Rattle.seat_image.specs.declared.Found.{Found}
+use Rattle.std.specs.Prelude.{Option, is_some, unwrap_or}
+use Rattle.channel_image.specs.PartLaws.{every_same}
 use Rattle.channel_image.specs.Places.{at}
 use Rattle.seat_image.specs.Written.{record_length}
 use Rattle.seat_image.specs.Read.{found}
@@ -33,7 +33,7 @@ use Rattle.seat_image.proofs.BackLaws.{record_length_lem}
 use Rattle.image.proofs.FieldLaws.{front_written}
 use Rattle.image.specs.Layout.{image_length, length_in, version_of, place_in, controller_part, record_place}
 use Rattle.image.specs.PlaceLaws.{inside, front_inside}
-use Rattle.image.specs.Read.{record_at, seat_at, good_at, records_from, bench_from}
+use Rattle.image.specs.Read.{record_at, seat_at, good_at, seats_in, seats_good, records_from, bench_from}
 use Rattle.image.specs.Refusals.{marked, latches_allowed, image_good, refusal, restored}
 use Rattle.image.specs.ThereAndBack.{Placed, PowerUpImage, Outside, Stays}
 use Rattle.image.specs.Written.{header, controller_bytes, records_of, image_of, room_for, Saves}
@@ -136,10 +136,6 @@ stays b at l l' r s = outside b at l l' r s
 
 -- ---- behind an image
 
-every_same : (n : ℕ) (f g : ℕ → Bool) → ((k : ℕ) → k < n → f k ≡ g k) → every n f ≡ every n g
-every_same zero f g same = refl
-every_same (suc n) f g same = ap₂ ◌&&◌ (same n (omega arith)) (every_same n f g (λ k below. same k (omega (arith, below))))
-
 module _ (p rest : List ℕ) (long : length_in (version_of p) ≤ length p) where
   first_same : (k : ℕ) → k < 5 → at (p ++ rest) k ≡ at p k
   first_same k below =
@@ -162,13 +158,19 @@ module _ (p rest : List ℕ) (long : length_in (version_of p) ≤ length p) wher
       ∙ ap (found v) (drop-append-le here p rest (omega (arith, long, fits)))
       ∙ found_front v (drop here p) rest (omega (arith, long, fits, length-drop here p))
 
+  seats_same : seats_in (p ++ rest) ≡ seats_in p
+  unfolding seats_in
+  seats_same =
+      listed_same seat_count (seat_at (p ++ rest)) (seat_at p)
+      (λ k below. ap (λ (o : Option Seat). unwrap_or o power_up) (record_same k below))
+
+  good_same : seats_good (p ++ rest) ≡ seats_good p
+  unfolding seats_good
+  good_same = every_same seat_count (good_at (p ++ rest)) (good_at p) (λ k below. ap is_some (record_same k below))
+
   records_same : records_from (p ++ rest) ≡ records_from p
   unfolding records_from
-  records_same =
-      λ i. record {
-        seats = listed_same seat_count (seat_at (p ++ rest)) (seat_at p) (λ k below. ap (λ (f : Found). f.seat) (record_same k below)) i;
-        good = every_same seat_count (good_at (p ++ rest)) (good_at p) (λ k below. ap (λ (f : Found). f.good) (record_same k below)) i;
-      }
+  records_same = rw (good_same, seats_same)
 
   pub behind_apart : (b : Bench) → restored b (p ++ rest) ≡ restored b p
   unfolding restored refusal first_held bench_from image_good latches_allowed marked
@@ -183,7 +185,8 @@ module _ (p rest : List ℕ) (long : length_in (version_of p) ≤ length p) wher
         first_same 2 (omega arith),
         version_same,
         block,
-        records_same,
+        good_same,
+        seats_same,
         le-ltb (length (p ++ rest)) 5 (omega (arith, more, front_inside (version_of p) 8)),
         le-ltb (length (p ++ rest)) (length_in (version_of p)) more,
         le-ltb (length p) 5 five,

@@ -35,7 +35,7 @@ use Rattle.image.proofs.FieldLaws.{front_written, image_fields, well_at, block_w
 use Rattle.image.specs.Fields.{ImageFields}
 use Rattle.image.specs.Layout.{image_length, length_in, version_of, place_in, stretch, controller_part, record_place}
 use Rattle.image.specs.PlaceLaws.{place_with, front_inside}
-use Rattle.image.specs.Read.{seat_at, records_from, controller_from, bench_from}
+use Rattle.image.specs.Read.{seat_at, seats_in, controller_from, bench_from}
 use Rattle.image.specs.RefusalLaws.{Header}
 use Rattle.image.specs.Refusals.{marked, known, grounds, latches_allowed, image_good, refusal, restored}
 use Rattle.image.specs.Written.{newest, header, controller_bytes, records_of, image_of}
@@ -147,7 +147,7 @@ module _ (p : List ℕ) (t : Taken p) where
 
   -- an image of the newest version, read and written again, is the same bytes
   pub saved_restored : version_of p ≡ newest → ((j : ℕ) → byte_at p j < 256) → image_of (bench_from p) ≡ take image_length p
-  unfolding image_of bench_from records_from
+  unfolding image_of bench_from seats_in
   saved_restored version small =
       ap₂ ◌++◌ (ap₂ ◌++◌ (header_back version) (controller_back (lines (listed seat_count (seat_at p))))) (records_back version small seat_count (omega arith))
       ∙ ap₂ ◌++◌ (sym (take-add 5 11 p)) refl
@@ -164,7 +164,7 @@ module _ (p : List ℕ) (t : Taken p) where
 
   -- it is valid
   pub restored_valid : valid (bench_from p) ≡ true
-  unfolding bench_from records_from controller_from controller.valid latches_allowed
+  unfolding bench_from seats_in controller_from controller.valid latches_allowed
   restored_valid =
       let f = fields in
       let block = block_written p long in
@@ -185,4 +185,4 @@ module _ (p : List ℕ) (t : Taken p) where
   -- a restore sets no edge: the latches are the image's byte, whatever the lines were, and the lines are those of the seats just read
   pub no_edge : (bench_from p).controller.lines ≡ record { levels = lines (bench_from p).seats; latches = at p 15 }
   unfolding bench_from controller_from
-  no_edge = λ i. record { levels = lines (records_from p).seats; latches = ap (λ (l : List ℕ). at l 10) (sym (block_written p long)) i }
+  no_edge = λ i. record { levels = lines (seats_in p); latches = ap (λ (l : List ℕ). at l 10) (sym (block_written p long)) i }

@@ -25,7 +25,7 @@ use Rattle.image.proofs.ItemLaws.{reached_valid}
 use Rattle.image.specs.Items.{item_outcomes, after_items}
 use Rattle.image.specs.Layout.{image_length, version_of, place_in, stretch}
 use Rattle.image.specs.PlaceLaws.{place_with, place_without}
-use Rattle.image.specs.Read.{seat_at, records_from, bench_from}
+use Rattle.image.specs.Read.{seat_at, seats_in, bench_from}
 use Rattle.image.specs.Refusals.{restored, refusal}
 use Rattle.image.proofs.RestoredLaws.{taken_of, restored_taken, restored_left, restored_valid, saved_restored, controller_back, record_back}
 use Rattle.image.proofs.RestoredLaws as law
@@ -80,10 +80,10 @@ front_told b rest = refl
 module _ (p : List ℕ) (none : refusal p ≡ 0) (version : version_of p ≡ 1) where
   older_front : controller_bytes (bench_from p).controller ≡ take 11 (drop 5 p)
   unfolding bench_from
-  older_front = controller_back p (taken_of p none) (lines (records_from p).seats)
+  older_front = controller_back p (taken_of p none) (lines (seats_in p))
 
   older_seat : (n : ℕ) → n < 8 → record_of (get_or (bench_from p).seats n no_seat) ≡ new_record 1 (drop (16 + 66 * n) p)
-  unfolding bench_from records_from stretch
+  unfolding bench_from seats_in stretch
   older_seat n below =
       ap record_of (listed_at 8 (seat_at p) n no_seat below)
       ∙ record_back p (taken_of p none) (λ has. absurd (never (ap has_tallies (sym version) ∙ has))) n below

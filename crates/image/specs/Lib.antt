@@ -11,3 +11,4 @@ pub mod Items
 pub mod Numbers
 pub mod ThereAndBack
 pub mod Statements
+pub mod BodyLaws

@@ -1,15 +1,15 @@
 -- What is refused of an image, in order, and what a restore leaves.
-use Rattle.std.specs.Prelude.{ℕ, ◌%◌, Bool, not, ◌&&◌, List, [], ◌∷◌, ◌++◌, eqb, leb, ltb, length}
+use Rattle.std.specs.Prelude.{ℕ, ◌%◌, Bool, not, ◌&&◌, List, [], ◌∷◌, ◌++◌, eqb, leb, ltb, length, Option, Some, None}
 use Rattle.base.specs.declared.Answer.TheVariants.{Done, Refused}
+use Rattle.base.specs.Pick.{pick}
 use Rattle.base.specs.Refusals.{Ground, no_room_number, wrong_mark_number, unknown_version_number, no_such_bench_number, first_held, joined}
 use Rattle.controller.specs.Valid.{latches_high}
 use Rattle.bench.specs.declared.Bench.{Bench}
 use Rattle.bench.specs.Seats.{lines}
 use Rattle.channel_image.specs.Places.{at}
 use Rattle.image.specs.declared.Restored.{Restored}
-use Rattle.image.specs.declared.reading.Body.{Body}
 use Rattle.image.specs.Layout.{header_length, length_in, version_of, controller_part, stage_place, level_place, base_place, first_place, special_place, automatic_place, rotation_place, selected_place, latches_place}
-use Rattle.image.specs.Read.{records_from, bench_from}
+use Rattle.image.specs.Read.{seats_in, seats_good, bench_from}
 use Rattle.image.specs.Written.{newest}
 
 -- ticket 2: "the three letters `BEN`"
@@ -31,15 +31,15 @@ controller_in_range l =
 
 -- ticket 2: "a latch set on a low line": none is, of the lines of the seats just read, in level mode too
 unfoldable pub latches_allowed : List ℕ → Bool
-latches_allowed p = latches_high (record { levels = lines (records_from p).seats; latches = at (controller_part p) latches_place })
+latches_allowed p = latches_high (record { levels = lines (seats_in p); latches = at (controller_part p) latches_place })
 
 -- each of the conditions holds, of the records, the controller and the latches
 unfoldable pub image_good : List ℕ → Bool
-image_good p = (records_from p).good && controller_in_range (controller_part p) && latches_allowed p
+image_good p = seats_good p && controller_in_range (controller_part p) && latches_allowed p
 
--- the bench of an image and whether it may be
-unfoldable pub body_of : List ℕ → Body
-body_of p = record { bench = bench_from p; good = image_good p }
+-- the bench of an image, where it may be
+unfoldable pub body_of : List ℕ → Option Bench
+body_of p = pick (image_good p) (Some (bench_from p)) None
 
 -- ticket 2: "12 no room or below 5 bytes, 13 wrong mark, 14 unknown version, 12 shorter than its version"
 abbrev pub header_grounds : List ℕ → List Ground

@@ -1,5 +1,5 @@
 -- Which cause a fault has and where it is told, by how the text was written; short records are in ShortLaws.
-use Rattle.std.specs.Prelude.{ℕ, suc, ◌+◌, ◌-◌, ◌/◌, ◌%◌, ◌≤◌, ◌<◌, Bool, true, false, ◌||◌, List, [], ◌∷◌, ◌++◌, ◌≡◌, refl, ◌⊎◌, eqb, length, take}
+use Rattle.std.specs.Prelude.{ℕ, suc, ◌+◌, ◌-◌, ◌/◌, ◌%◌, ◌≤◌, ◌<◌, Bool, true, false, ◌||◌, List, [], ◌∷◌, ◌++◌, ◌≡◌, refl, ◌⊎◌, eqb, length, take, Some}
 use Rattle.std.proofs.Common.{append_assoc, append-nil, sym, ap, ◌∙◌, inl, inr, ⊎_elim, arith, zero-add, add-zero, length-append, lt-ltb, ne_eqb, eq-eqb, eqb-true}
 use Rattle.std.proofs.Math.ListN.{get_or-eq_default}
 use Rattle.std.proofs.Math.Seq.{take-append_seam, get_or-append_seam}
@@ -23,7 +23,6 @@ use Rattle.lesson.specs.declared.Lesson.{Lesson}
 use Rattle.lesson.specs.declared.Lesson.TheVariants.{Fault}
 use Rattle.lesson.specs.declared.causes.Finding.{Finding}
 use Rattle.lesson.specs.declared.faults.Reading.{Reading}
-use Rattle.lesson.specs.declared.faults.Found.TheVariants.{At}
 
 -- ---- how a text begins
 
@@ -46,7 +45,7 @@ ascii_unmarked text some low other =
 -- ---- from where reading stops to what is told
 
 module _ (text d d' : List ℕ) (r : Lesson) (limit : length text ≤ longest) (reads : Reads text d d' r) (at : ℕ)
-    (found : fault_of text ≡ At at) where
+    (found : fault_of text ≡ Some at) where
   pub told_by_lem : (f : Finding) → finding text at ≡ f → (r ≡ fault_by f text) × (d' ≡ d)
   told_by_lem f is =
       let told : _ = fault_told text d d' r reads limit at found in (told.0 ∙ ap (λ (g : Finding). fault_by g text) is, told.1)
@@ -63,7 +62,7 @@ module _ (text d d' : List ℕ) (r : Lesson) (limit : length text ≤ longest) (
 
 -- EF, FF, FE and 00 at the start are faults by themselves.
 pub mark_faults : (rest : List ℕ)
-    → (fault_of (0xEF ∷ rest) ≡ At 0) × (fault_of (0xFF ∷ rest) ≡ At 0) × (fault_of (0xFE ∷ rest) ≡ At 0) × (fault_of (0 ∷ rest) ≡ At 0)
+    → (fault_of (0xEF ∷ rest) ≡ Some 0) × (fault_of (0xFF ∷ rest) ≡ Some 0) × (fault_of (0xFE ∷ rest) ≡ Some 0) × (fault_of (0 ∷ rest) ≡ Some 0)
 unfolding fault_of fault_from faulty digit apart pick
 mark_faults rest = (refl, refl, refl, refl)
 
@@ -110,7 +109,7 @@ pub no_digit : (a ds rest d d' : List ℕ) (c : ℕ) (r : Lesson) → Whole a �
     → (r ≡ Fault (place_behind (a ++ ds)).line (place_behind (a ++ ds)).column NoDigit) × (d' ≡ d)
 no_digit a ds rest d d' c r w all few none other unmarked limit reads =
     let size : length (a ++ ds) ≡ length a + length ds = length-append a ds in
-    let found : fault_of ((a ++ ds) ++ (c ∷ rest)) ≡ At (length (a ++ ds)) =
+    let found : fault_of ((a ++ ds) ++ (c ∷ rest)) ≡ Some (length (a ++ ds)) =
     rw (size, append_assoc a ds (c ∷ rest)) (wrong_character a ds rest c w all few none (inl other)) in
     let here : character_at ((a ++ ds) ++ (c ∷ rest)) (length (a ++ ds)) ≡ c = get_or-append_seam (a ++ ds) c rest 32 in
     let told : _ = told_by_lem _ d d' r limit reads _ found _ (found_alien (a ++ ds) (c ∷ rest) unmarked (rw here (alien_is c none other))) in
@@ -193,7 +192,7 @@ module _ (a ds d d' : List ℕ) (e : ℕ) (r : Lesson)
 
   -- it is told where it stands, one before the place at which reading stops
   alone_told : (b : List ℕ) → Unmarked (alone ++ b) → length (alone ++ b) ≤ longest → Reads (alone ++ b) d d' r
-      → fault_of (alone ++ b) ≡ At (length alone) → alien (character_at (alone ++ b) (length alone)) ≡ false
+      → fault_of (alone ++ b) ≡ Some (length alone) → alien (character_at (alone ++ b) (length alone)) ≡ false
       → (r ≡ Fault (place_behind (a ++ ds)).line (place_behind (a ++ ds)).column OneDigit) × (d' ≡ d)
   alone_told b unmarked limit reads found known =
       let place : length alone - 1 ≡ length (a ++ ds) = omega (arith, alone_size) in
@@ -208,7 +207,7 @@ module _ (a ds d d' : List ℕ) (e : ℕ) (r : Lesson)
       → (r ≡ Fault (place_behind (a ++ ds)).line (place_behind (a ++ ds)).column OneDigit) × (d' ≡ d)
   one_digit c rest between unmarked limit reads =
       let size : length alone ≡ length a + length (ds ++ (e ∷ [])) = length-append a (ds ++ (e ∷ [])) in
-      let found : fault_of (alone ++ (c ∷ rest)) ≡ At (length alone) =
+      let found : fault_of (alone ++ (c ∷ rest)) ≡ Some (length alone) =
       rw (size, append_assoc a (ds ++ (e ∷ [])) (c ∷ rest))
       (wrong_character a (ds ++ (e ∷ [])) rest c w (digits_more ds e all is) (omega (arith, one_more)) (apart_no_digit c between) (inr odd)) in
       let here : character_at (alone ++ (c ∷ rest)) (length alone) ≡ c = get_or-append_seam alone c rest 32 in
@@ -220,8 +219,8 @@ module _ (a ds d d' : List ℕ) (e : ℕ) (r : Lesson)
   one_digit_last unmarked limit reads =
       let same : alone ++ [] ≡ alone = append-nil alone in
       let size : length alone ≡ length a + length (ds ++ (e ∷ [])) = length-append a (ds ++ (e ∷ [])) in
-      let found : fault_of alone ≡ At (length alone) =
+      let found : fault_of alone ≡ Some (length alone) =
       text_ends a (ds ++ (e ∷ [])) w (digits_more ds e all is) (omega (arith, one_more))
-      ∙ pick_true _ _ _ (eq-eqb _ _ odd) ∙ ap At (sym size) in
+      ∙ pick_true _ _ _ (eq-eqb _ _ odd) ∙ ap Some (sym size) in
       let here : character_at (alone ++ []) (length alone) ≡ 32 = get_or-eq_default (alone ++ []) 32 (rw same (omega arith)) in
       alone_told [] (rw same unmarked) (rw same limit) (rw same reads) (rw same found) (rw here (known_apart 32 space_apart))

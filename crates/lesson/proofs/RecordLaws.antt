@@ -1,5 +1,5 @@
 -- Records and lines: where a record ends, what cuts it, and that no character stands between bytes but those that rule 2 and rule 3 name.
-use Rattle.std.specs.Prelude.{ℕ, zero, suc, ◌+◌, ◌%◌, ◌^◌, ◌<◌, true, false, List, [], ◌∷◌, ◌++◌, ◌≡◌, refl, length}
+use Rattle.std.specs.Prelude.{ℕ, zero, suc, ◌+◌, ◌%◌, ◌^◌, ◌<◌, true, false, List, [], ◌∷◌, ◌++◌, ◌≡◌, refl, length, Some, None}
 use Rattle.std.proofs.Common.{append-nil, ap, sym, ◌∙◌, inl, arith, add-zero, ne_eqb}
 use Rattle.base.specs.Pick.{pick}
 use Rattle.base.specs.PickLaws.{pick_true, pick_false}
@@ -11,7 +11,6 @@ use Rattle.lesson.specs.FaultLaws.{Whole, whole_parts, whole_digits, opened, dig
 use Rattle.lesson.specs.Lesson.{longest}
 use Rattle.lesson.specs.Plain.{Digits, OneLine}
 use Rattle.lesson.specs.declared.faults.Reading.{Reading}
-use Rattle.lesson.specs.declared.faults.Found.TheVariants.{At, Nowhere}
 
 -- ---- where a record ends
 
@@ -39,7 +38,7 @@ digits_from k at (c ∷ ds) all =
     digit_on k at c ds all.0 ∙ digits_from (next k) (suc at) ds all.1
     ∙ ap (λ (n : ℕ). fault_from (opened (nexts (next k) (length ds))) n []) on
 
-start_ends : (at : ℕ) → fault_from start at [] ≡ Nowhere
+start_ends : (at : ℕ) → fault_from start at [] ≡ None
 unfolding fault_from pick
 start_ends at = refl
 
@@ -62,7 +61,7 @@ apart_none c space tab return feed sign = rw (ne_eqb c 32 space, ne_eqb c 9 tab,
 -- fault where it stands.
 pub no_other : (a ds rest : List ℕ) (c : ℕ) → Whole a → Digits ds → length ds < 8 → is_digit c ≡ false
     → (c ≡ 32 → ⊥) → (c ≡ 9 → ⊥) → (c ≡ 13 → ⊥) → (c ≡ 10 → ⊥) → (c ≡ 35 → ⊥)
-    → fault_of (a ++ (ds ++ (c ∷ rest))) ≡ At (length a + length ds)
+    → fault_of (a ++ (ds ++ (c ∷ rest))) ≡ Some (length a + length ds)
 no_other a ds rest c w all few none space tab return feed sign =
     wrong_character a ds rest c w all few none (inl (apart_none c space tab return feed sign))
 
@@ -107,12 +106,12 @@ module _ (a ds words : List ℕ) (w : Whole a) (all : Digits ds) (few : length d
       ∙ moved_from (suc (length words)) (opened (length ds)) at (line_feed ∷ rest)
       ∙ ap (moved (suc (length words))) (sym (whole_digits a ds (line_feed ∷ rest) w all few))
 
-  remark_ends : (k at : ℕ) → k % 2 ≡ 0 → fault_from (remarked k) at [] ≡ Nowhere
+  remark_ends : (k at : ℕ) → k % 2 ≡ 0 → fault_from (remarked k) at [] ≡ None
   unfolding fault_from
   remark_ends k at even-so = pick_false _ _ _ (ne_eqb (k % 2) 1 (λ e. absurd (omega arith)))
 
   -- and the text may end in it
-  pub comment_last : fault_of (a ++ (ds ++ (number_sign ∷ words))) ≡ Nowhere
+  pub comment_last : fault_of (a ++ (ds ++ (number_sign ∷ words))) ≡ None
   comment_last =
       whole_digits a ds (number_sign ∷ words) w all few
       ∙ sign_within (length ds) (length a + length ds) words even

@@ -1,5 +1,5 @@
 -- A record of fewer than four bytes: how many it has, and where it is told.
-use Rattle.std.specs.Prelude.{ℕ, suc, ◌+◌, ◌*◌, ◌/◌, ◌%◌, ◌≤◌, ◌<◌, Bool, true, false, not, ◌&&◌, List, [], ◌∷◌, ◌++◌, ◌≡◌, refl, eqb}
+use Rattle.std.specs.Prelude.{ℕ, suc, ◌+◌, ◌*◌, ◌/◌, ◌%◌, ◌≤◌, ◌<◌, Bool, true, false, not, ◌&&◌, List, [], ◌∷◌, ◌++◌, ◌≡◌, refl, eqb, Some}
 use Rattle.std.proofs.Common.{append_assoc, ◌∙◌, inr, arith, add-zero, length-append, lt-ltb, ne_eqb}
 use Rattle.std.proofs.Math.Path.{ap}
 use Rattle.std.proofs.Math.Nat.{zero-add}
@@ -21,7 +21,6 @@ use Rattle.lesson.specs.declared.Cause.TheVariants.{ShortRecord}
 use Rattle.lesson.specs.declared.Lesson.{Lesson}
 use Rattle.lesson.specs.declared.Lesson.TheVariants.{Fault}
 use Rattle.lesson.specs.declared.faults.Reading.{Reading}
-use Rattle.lesson.specs.declared.faults.Found.TheVariants.{At}
 use Rattle.lesson.proofs.CauseLaws.{Unmarked, told_by_lem, found_short, told_behind, known_digit}
 
 begun_parts : (s : Reading) (begun at : ℕ) (x y : List ℕ)
@@ -182,7 +181,7 @@ module _ (a blanks : List ℕ) (b : Written) (bs : List Written)
       ∙ pick_true _ _ _ (lt-ltb (digit b.high) 16 spaced.0)
       ∙ zero-add (length a)
 
-  broken_found : (x : ℕ) (rest : List ℕ) → digit x < 16 → fault_of ((a ++ broken) ++ (x ∷ rest)) ≡ At (length (a ++ broken))
+  broken_found : (x : ℕ) (rest : List ℕ) → digit x < 16 → fault_of ((a ++ broken) ++ (x ∷ rest)) ≡ Some (length (a ++ broken))
   broken_found x rest is =
       let parts : (a ++ broken) ++ (x ∷ rest) ≡ a ++ (written (b ∷ bs) ++ (line_feed ∷ (blanks ++ (x ∷ rest)))) =
       append_assoc a broken (x ∷ rest) ∙ ap (λ (l : List ℕ). a ++ l) (append_assoc (written (b ∷ bs)) (line_feed ∷ blanks) (x ∷ rest)) in
@@ -196,7 +195,7 @@ module _ (a blanks : List ℕ) (b : Written) (bs : List Written)
       ∙ feed_cuts digits at (blanks ++ (x ∷ rest)) (omega arith) (omega arith)
       ∙ blanks_on digits (suc at) blanks (x ∷ rest) blank (omega arith) (omega arith)
       ∙ cut_digit digits (suc at + length blanks) x rest is
-      ∙ ap At size
+      ∙ ap Some size
 
   -- A record of one to three bytes, whatever white space but line feeds between them, is told by how many it has, where it begins, when a
   -- digit follows on a later line.

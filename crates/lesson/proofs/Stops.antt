@@ -1,18 +1,30 @@
 -- The causes that a fault is told by, one after the other as the code comes to them; and that its place is in the text.
 use Prim.Native.Nat.{ℕ, suc, ◌+◌, ◌-◌, ◌/◌, ◌%◌, ◌≤◌}
-use mathlib.Core.Bool.{true, false}
+use mathlib.Core.Bool.{Bool, true, false, not, ◌&&◌}
+use lib.Dec.{ltb}
+use Rattle.std.specs.Option.{is_some}
+use Rattle.text.specs.Hex.{digit, digit_of}
+use Rattle.text.specs.HexLaws.{digit_found}
+use Rattle.lesson.specs.Text.{apart}
 use mathlib.Core.List.{List, [], ◌∷◌}
 use mathlib.Core.Path.{◌≡◌, sym, ◌∙◌}
 use native.Mathlib.Omega.{arith}
 use lib.ListN.{length, take}
 use lib.Seq.{length-take-le}
 use borrow.Author.Tests.{eq-eqb, ne_eqb}
+use Rattle.base.specs.Pick.{pick}
 use Rattle.base.specs.PickLaws.{pick_true, pick_false, pick_either, pick_le}
 use Rattle.lesson.specs.Fault.{start, half, after, behind}
 use Rattle.lesson.specs.Cause.{character_at, alien, begins, begun_from, begun_in, stopped_at, marked, wide, finding}
 use Rattle.lesson.specs.declared.Cause.TheVariants.{NoDigit, OneDigit, ShortRecord, ByteOrderMark, Utf16}
 use Rattle.lesson.specs.declared.causes.Finding.{Finding}
 use Rattle.lesson.specs.declared.faults.Reading.{Reading}
+
+-- neither a digit nor what may stand between two bytes, by the two questions
+pub alien_by : (c : ℕ) (none : Bool) → is_some (digit_of c) ≡ not none → (none && not (apart c)) ≡ alien c
+unfolding alien pick
+alien_by c true found = sym (pick_false (ltb (digit c) 16) false (not (apart c)) (sym (digit_found c) ∙ found))
+alien_by c false found = sym (pick_true (ltb (digit c) 16) false (not (apart c)) (sym (digit_found c) ∙ found))
 
 module _ (text : List ℕ) (at : ℕ) where
   pub stops_alien : alien (character_at text at) ≡ true → record { at = at; cause = NoDigit } ≡ stopped_at text at

@@ -1,5 +1,5 @@
 -- White space between two bytes changes nothing: no byte, and no fault but its place.
-use Rattle.std.specs.Prelude.{ℕ, suc, ◌+◌, ◌%◌, true, false, List, [], ◌∷◌, ◌++◌, ◌≡◌, refl, ◌⊎◌, eqb, length}
+use Rattle.std.specs.Prelude.{ℕ, suc, ◌+◌, ◌%◌, true, false, List, [], ◌∷◌, ◌++◌, ◌≡◌, refl, ◌⊎◌, eqb, length, None}
 use Rattle.std.proofs.Common.{ap, sym, ◌∙◌, inl, inr, ⊎_elim, arith, add-zero, ne_eqb}
 use Rattle.base.specs.Pick.{pick}
 use Rattle.base.specs.PickLaws.{pick_false}
@@ -10,7 +10,6 @@ use Rattle.lesson.specs.Fault.{start, faulty, after, behind, fault_from, fault_o
 use Rattle.lesson.specs.FaultLaws.{parts_from, opened, moved, moved_from}
 use Rattle.lesson.specs.Plain.{Blank, OneLine}
 use Rattle.lesson.specs.declared.faults.Reading.{Reading}
-use Rattle.lesson.specs.declared.faults.Found.TheVariants.{Nowhere}
 
 -- ---- bytes
 
@@ -54,7 +53,7 @@ blanks_from k at (c ∷ blanks) l even all either =
 
 -- Where a text has no fault and ends behind k digits of a record, white space that follows moves the faults behind it, and makes none: any
 -- between two records, and within a record any but a line feed.
-pub blank_moves : (a blanks b : List ℕ) (k : ℕ) → fault_of a ≡ Nowhere → behind start a ≡ opened k → k % 2 ≡ 0
+pub blank_moves : (a blanks b : List ℕ) (k : ℕ) → fault_of a ≡ None → behind start a ≡ opened k → k % 2 ≡ 0
     → Blank blanks → (k ≡ 0) ⊎ OneLine blanks
     → fault_of (a ++ (blanks ++ b)) ≡ moved (length blanks) (fault_of (a ++ b))
 unfolding fault_of

@@ -1,5 +1,5 @@
 -- A record that is told has one, two or three bytes, in any text.
-use Rattle.std.specs.Prelude.{ℕ, suc, ◌-◌, ◌/◌, ◌%◌, ◌≤◌, ◌<◌, Bool, List, [], ◌∷◌, refl, ◌⊎◌, take, get_or}
+use Rattle.std.specs.Prelude.{ℕ, suc, ◌-◌, ◌/◌, ◌%◌, ◌≤◌, ◌<◌, Bool, List, [], ◌∷◌, refl, ◌⊎◌, take, get_or, Some, None}
 use Rattle.std.proofs.Math.Bool.{true, false, not}
 use Rattle.std.proofs.Math.Path.{◌≡◌, sym, ap, subst}
 use Rattle.std.proofs.Common.{◌∙◌, inl, inr, arith}
@@ -17,7 +17,6 @@ use Rattle.lesson.specs.Cause.{character_at, alien, stopped_at, marked, wide, fi
 use Rattle.lesson.specs.declared.Cause.TheVariants.{ShortRecord}
 use Rattle.lesson.specs.declared.causes.Finding.{Finding}
 use Rattle.lesson.specs.declared.faults.Reading.{Reading}
-use Rattle.lesson.specs.declared.faults.Found.TheVariants.{At, Nowhere}
 
 -- where no fault was found, a line has ended only within a record that is begun
 pub record Sound (s : Reading) : Type 0 where
@@ -53,22 +52,22 @@ abbrev Stops : Reading → List ℕ → ℕ → Type 0
 Stops s l n =
     Sound (behind s (take n l)) × ((half (behind s (take n l)) ≡ true) ⊎ (faulty (behind s (take n l)) (get_or l n 32) ≡ true))
 
-stops_from : (s : Reading) (at k : ℕ) (l : List ℕ) → Sound s → fault_from s at l ≡ At k → (at ≤ k) × Stops s l (k - at)
+stops_from : (s : Reading) (at k : ℕ) (l : List ℕ) → Sound s → fault_from s at l ≡ Some k → (at ≤ k) × Stops s l (k - at)
 unfolding fault_from
 stops_from s at k [] sound found =
     ⊎_elim
     (λ (odd : half s ≡ true).
-    let here : At at ≡ At k = sym (pick_true _ _ _ odd) ∙ found in
+    let here : Some at ≡ Some k = sym (pick_true _ _ _ odd) ∙ found in
     let same : at ≡ k = cc in
     let none : k - at ≡ 0 = omega arith in (omega arith, rw none (sound, inl odd)))
     (λ (even : half s ≡ false).
-    let here : Nowhere ≡ At k = sym (pick_false _ _ _ even) ∙ found in
+    let here : None ≡ Some k = sym (pick_false _ _ _ even) ∙ found in
     let z : ◌≡◌ {A = ℕ} 0 1 = cc in absurd (omega arith))
     (either_way (half s))
 stops_from s at k (c ∷ l) sound found =
     ⊎_elim
     (λ (bad : faulty s c ≡ true).
-    let here : At at ≡ At k = sym (pick_true _ _ _ bad) ∙ found in
+    let here : Some at ≡ Some k = sym (pick_true _ _ _ bad) ∙ found in
     let same : at ≡ k = cc in
     let none : k - at ≡ 0 = omega arith in (omega arith, rw none (sound, inr bad)))
     (λ (fine : faulty s c ≡ false).
@@ -95,7 +94,7 @@ cut_there s c known even bad =
     not_false true e = refl
     not_false false e = sym e
 
-module _ (text : List ℕ) (at k : ℕ) (found : fault_of text ≡ At at) where
+module _ (text : List ℕ) (at k : ℕ) (found : fault_of text ≡ Some at) where
   few_bytes : alien (character_at text at) ≡ false → half (behind start (take at text)) ≡ false
       → ShortRecord ((behind start (take at text)).digits / 2) ≡ ShortRecord k → (1 ≤ k) × (k ≤ 3)
   unfolding fault_of

@@ -1,5 +1,5 @@
 -- No digit is lost: where a text has no fault, each digit outside comments is half of a byte.
-use Rattle.std.specs.Prelude.{ℕ, suc, ◌+◌, ◌*◌, ◌%◌, ◌≤◌, Bool, List, [], ◌∷◌, ◌≡◌, refl, ltb, length}
+use Rattle.std.specs.Prelude.{ℕ, suc, ◌+◌, ◌*◌, ◌%◌, ◌≤◌, Bool, List, [], ◌∷◌, ◌≡◌, refl, ltb, length, Option, Some, None}
 use Rattle.std.proofs.Math.Bool.{true, false, not}
 use Rattle.std.proofs.Common.{sym, ◌∙◌, arith, zero-add, ltb-true, ltb-false}
 use Rattle.std.proofs.Math.Logic.{⊎_elim}
@@ -12,11 +12,9 @@ use Rattle.lesson.specs.Text.{line_feed, number_sign, is_digit, commented, uncom
 use Rattle.lesson.specs.TextLaws.{pair_count}
 use Rattle.lesson.specs.Fault.{start, half, faulty, next, after, fault_from, fault_of}
 use Rattle.lesson.specs.declared.faults.Reading.{Reading}
-use Rattle.lesson.specs.declared.faults.Found.{Found}
-use Rattle.lesson.specs.declared.faults.Found.TheVariants.{At, Nowhere}
 
 -- a place is not nowhere
-no_fault : (b : Bool) (at : ℕ) (f : Found) → pick b (At at) f ≡ Nowhere → (b ≡ false) × (f ≡ Nowhere)
+no_fault : (b : Bool) (at : ℕ) (f : Option ℕ) → pick b (Some at) f ≡ None → (b ≡ false) × (f ≡ None)
 unfolding pick
 no_fault true at f e = let z : ◌≡◌ {A = ℕ} 0 1 = cc in absurd (omega arith)
 no_fault false at f e = (refl, e)
@@ -103,14 +101,14 @@ after_below s c h =
     (pick_either (λ (r : Reading). r.digits ≤ 7) (is_digit c) _ _ (next_below s.digits)
     (pick_either (λ (r : Reading). r.digits ≤ 7) (eqb c line_feed) _ _ h h))
 
-even_from : (s : Reading) (at : ℕ) (l : List ℕ) → s.digits ≤ 7 → fault_from s at l ≡ Nowhere → left s l % 2 ≡ 0
+even_from : (s : Reading) (at : ℕ) (l : List ℕ) → s.digits ≤ 7 → fault_from s at l ≡ None → left s l % 2 ≡ 0
 unfolding fault_from uncommented worths
-even_from s at [] h e = omega (arith, eqb-false (s.digits % 2) 1 (no_fault (half s) at Nowhere e).0)
+even_from s at [] h e = omega (arith, eqb-false (s.digits % 2) 1 (no_fault (half s) at None e).0)
 even_from s at (c ∷ l) h e =
     one_more s c l h (even_from (after s c) (suc at) l (after_below s c h) (no_fault (faulty s c) at _ e).1)
 
 -- each byte has its two digits, and each digit its byte
-pub digits_all : (text : List ℕ) → fault_of text ≡ Nowhere → 2 * length (bytes_of text) ≡ length (digits_of text)
+pub digits_all : (text : List ℕ) → fault_of text ≡ None → 2 * length (bytes_of text) ≡ length (digits_of text)
 unfolding fault_of digits_of bytes_of
 digits_all text e =
     let even : length (worths (uncommented false text)) % 2 ≡ 0 = rw (zero-add) at (even_from start 0 text (omega arith) e) in

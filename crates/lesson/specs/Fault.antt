@@ -1,10 +1,8 @@
 -- The faults of a text, by the rules at the head of Text.
-use Rattle.std.specs.Prelude.{ℕ, suc, ◌+◌, ◌%◌, Bool, true, false, not, List, [], ◌∷◌, ltb, eqb}
+use Rattle.std.specs.Prelude.{ℕ, suc, ◌+◌, ◌%◌, Bool, true, false, not, List, [], ◌∷◌, ltb, eqb, Option, Some, None}
 use Rattle.base.specs.Pick.{pick}
 use Rattle.lesson.specs.Text.{is_digit, apart, commented, line_feed}
 use Rattle.lesson.specs.declared.faults.Reading.{Reading}
-use Rattle.lesson.specs.declared.faults.Found.{Found}
-use Rattle.lesson.specs.declared.faults.Found.TheVariants.{At, Nowhere}
 
 -- before the first character: no digit of a record is read, no line has ended within one, and no comment goes on
 abbrev pub start : Reading
@@ -36,9 +34,9 @@ behind s [] = s
 behind s (c ∷ rest) = behind (after s c) rest
 
 -- where the first fault from a place on is found: how many characters of the text stand before it
-unfoldable pub fault_from : Reading → ℕ → List ℕ → Found
-fault_from s at [] = pick (half s) (At at) Nowhere
-fault_from s at (c ∷ rest) = pick (faulty s c) (At at) (fault_from (after s c) (suc at) rest)
+unfoldable pub fault_from : Reading → ℕ → List ℕ → Option ℕ
+fault_from s at [] = pick (half s) (Some at) None
+fault_from s at (c ∷ rest) = pick (faulty s c) (Some at) (fault_from (after s c) (suc at) rest)
 
-unfoldable pub fault_of : List ℕ → Found
+unfoldable pub fault_of : List ℕ → Option ℕ
 fault_of text = fault_from start 0 text

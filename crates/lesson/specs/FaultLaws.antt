@@ -1,5 +1,5 @@
 -- Where a text has its first fault, by how it was written.
-use Rattle.std.specs.Prelude.{ℕ, suc, ◌+◌, ◌%◌, ◌≤◌, ◌<◌, Bool, true, false, List, [], ◌∷◌, ◌++◌, ◌≡◌, refl, ◌⊎◌, eqb, length}
+use Rattle.std.specs.Prelude.{ℕ, suc, ◌+◌, ◌%◌, ◌≤◌, ◌<◌, Bool, true, false, List, [], ◌∷◌, ◌++◌, ◌≡◌, refl, ◌⊎◌, eqb, length, Option, Some, None}
 use Rattle.std.proofs.Common.{append_assoc, append-nil, sym, ap, ◌∙◌, ⊎_elim, arith, add-zero, zero-add, length-append, lt-ltb, eq-eqb, ne_eqb}
 use Rattle.base.specs.Pick.{pick}
 use Rattle.base.specs.PickLaws.{pick_true, pick_false, pick_same, pick_either, pick_through, either_way}
@@ -9,22 +9,20 @@ use Rattle.lesson.specs.TextLaws.{digit_uncommented, comment_goes, white_is}
 use Rattle.lesson.specs.Fault.{start, half, faulty, next, after, behind, fault_from, fault_of}
 use Rattle.lesson.specs.Plain.{Digits, Blank, OneLine, comment}
 use Rattle.lesson.specs.declared.faults.Reading.{Reading}
-use Rattle.lesson.specs.declared.faults.Found.{Found}
-use Rattle.lesson.specs.declared.faults.Found.TheVariants.{At, Nowhere}
 
 -- ---- any text
 
 -- a fault, if there is one, stands at a place up to n
-abbrev pub Within : Found → ℕ → Type 0
-Within (At at) n = at ≤ n
-Within Nowhere n = Unit {0}
+abbrev pub Within : Option ℕ → ℕ → Type 0
+Within (Some at) n = at ≤ n
+Within None n = Unit {0}
 
 within_from : (s : Reading) (at : ℕ) (l : List ℕ) → Within (fault_from s at l) (at + length l)
 unfolding fault_from
-within_from s at [] = pick_either (λ (f : Found). Within f (at + 0)) (half s) _ _ (omega arith) tt
+within_from s at [] = pick_either (λ (f : Option ℕ). Within f (at + 0)) (half s) _ _ (omega arith) tt
 within_from s at (c ∷ l) =
     let on : suc at + length l ≡ at + suc (length l) = omega arith in
-    pick_either (λ (f : Found). Within f (at + suc (length l))) (faulty s c) _ _ (omega arith) (rw on at (within_from (after s c) (suc at) l))
+    pick_either (λ (f : Option ℕ). Within f (at + suc (length l))) (faulty s c) _ _ (omega arith) (rw on at (within_from (after s c) (suc at) l))
 
 -- a fault stands in the text, or right behind it
 pub fault_within : (text : List ℕ) → Within (fault_of text) (length text)
@@ -32,14 +30,14 @@ unfolding fault_of
 fault_within text = rw (zero-add (length text)) at (within_from start 0 text)
 
 -- what follows characters without a fault is read from where they leave off
-pub parts_from : (s : Reading) (at : ℕ) (a b : List ℕ) → fault_from s at a ≡ Nowhere
+pub parts_from : (s : Reading) (at : ℕ) (a b : List ℕ) → fault_from s at a ≡ None
     → fault_from s at (a ++ b) ≡ fault_from (behind s a) (at + length a) b
 unfolding fault_from
 parts_from s at [] b e = rw (add-zero at)
 parts_from s at (c ∷ a) b e =
     ⊎_elim
     (λ (bad : faulty s c ≡ true).
-    let here : At at ≡ Nowhere = sym (pick_true _ _ _ bad) ∙ e in
+    let here : Some at ≡ None = sym (pick_true _ _ _ bad) ∙ e in
     let z : ◌≡◌ {A = ℕ} 0 1 = cc in absurd (omega arith))
     (λ (fine : faulty s c ≡ false).
     let on : suc at + length a ≡ at + suc (length a) = omega arith in
@@ -48,7 +46,7 @@ parts_from s at (c ∷ a) b e =
 
 -- a text without a fault, behind which a record may begin
 pub record Whole (text : List ℕ) : Type 0 where
-  pub good : fault_of text ≡ Nowhere
+  pub good : fault_of text ≡ None
   pub over : behind start text ≡ start
 
 pub whole_parts : (a b : List ℕ) → Whole a → fault_of (a ++ b) ≡ fault_from start (length a) b
@@ -56,15 +54,15 @@ unfolding fault_of
 whole_parts a b w = parts_from start 0 a b w.good ∙ rw (w.over, zero-add)
 
 -- what stands behind the first fault does not matter
-first_from : (s : Reading) (at k : ℕ) (a b : List ℕ) → fault_from s at a ≡ At k → k < at + length a → fault_from s at (a ++ b) ≡ At k
+first_from : (s : Reading) (at k : ℕ) (a b : List ℕ) → fault_from s at a ≡ Some k → k < at + length a → fault_from s at (a ++ b) ≡ Some k
 unfolding fault_from
 first_from s at k [] b e h =
     ⊎_elim
     (λ (odd : half s ≡ true).
-    let here : At at ≡ At k = sym (pick_true _ _ _ odd) ∙ e in
+    let here : Some at ≡ Some k = sym (pick_true _ _ _ odd) ∙ e in
     let same : at ≡ k = cc in absurd (omega arith))
     (λ (even : half s ≡ false).
-    let here : Nowhere ≡ At k = sym (pick_false _ _ _ even) ∙ e in
+    let here : None ≡ Some k = sym (pick_false _ _ _ even) ∙ e in
     let z : ◌≡◌ {A = ℕ} 0 1 = cc in absurd (omega arith))
     (either_way (half s))
 first_from s at k (c ∷ a) b e h =
@@ -74,7 +72,7 @@ first_from s at k (c ∷ a) b e h =
     pick_false _ _ _ fine ∙ first_from (after s c) (suc at) k a b (sym (pick_false _ _ _ fine) ∙ e) (omega arith))
     (either_way (faulty s c))
 
-pub fault_first : (a b : List ℕ) (k : ℕ) → fault_of a ≡ At k → k < length a → fault_of (a ++ b) ≡ At k
+pub fault_first : (a b : List ℕ) (k : ℕ) → fault_of a ≡ Some k → k < length a → fault_of (a ++ b) ≡ Some k
 unfolding fault_of
 fault_first a b k e h = first_from start 0 k a b e (omega arith)
 
@@ -154,7 +152,7 @@ blanks_on k at (c ∷ blanks) l all some even =
     let e : suc at + length blanks ≡ at + suc (length blanks) = omega arith in
     pick_false _ _ _ fine.0 ∙ rw (fine.1, blanks_on k (suc at) blanks l all.1 some even, e)
 
-pub cut_digit : (k at d : ℕ) (l : List ℕ) → digit d < 16 → fault_from (cut_behind k) at (d ∷ l) ≡ At at
+pub cut_digit : (k at d : ℕ) (l : List ℕ) → digit d < 16 → fault_from (cut_behind k) at (d ∷ l) ≡ Some at
 unfolding fault_from faulty
 cut_digit k at d l is = pick_true _ _ _ (pick_false _ _ _ refl ∙ pick_true _ _ _ (lt-ltb (digit d) 16 is))
 
@@ -162,43 +160,43 @@ cut_digit k at d l is = pick_true _ _ _ (pick_false _ _ _ refl ∙ pick_true _ _
 -- nor white space nor number sign, or any that is no digit where a second digit is due.
 pub wrong_character : (a ds rest : List ℕ) (c : ℕ) → Whole a → Digits ds → length ds < 8
     → is_digit c ≡ false → (apart c ≡ false) ⊎ (length ds % 2 ≡ 1)
-    → fault_of (a ++ (ds ++ (c ∷ rest))) ≡ At (length a + length ds)
+    → fault_of (a ++ (ds ++ (c ∷ rest))) ≡ Some (length a + length ds)
 unfolding fault_from
 wrong_character a ds rest c w all h none other =
     whole_digits a ds (c ∷ rest) w all h ∙ pick_true _ _ _ (not_there (length ds) c none other)
 
 -- The text may end within a record, and not within a byte.
 pub text_ends : (a ds : List ℕ) → Whole a → Digits ds → length ds < 8
-    → fault_of (a ++ ds) ≡ pick (eqb (length ds % 2) 1) (At (length a + length ds)) Nowhere
+    → fault_of (a ++ ds) ≡ pick (eqb (length ds % 2) 1) (Some (length a + length ds)) None
 unfolding fault_from
 text_ends a ds w all h = ap (λ (l : List ℕ). fault_of (a ++ l)) (sym (append-nil ds)) ∙ whole_digits a ds [] w all h
 
 -- A forgotten byte is found at the first digit of a later line.
 pub forgotten_byte : (a ds blanks rest : List ℕ) (d : ℕ) → Whole a → Digits ds → 0 < length ds → length ds < 8 → length ds % 2 ≡ 0
     → Blank blanks → digit d < 16
-    → fault_of (a ++ (ds ++ (line_feed ∷ (blanks ++ (d ∷ rest))))) ≡ At (length a + length ds + 1 + length blanks)
+    → fault_of (a ++ (ds ++ (line_feed ∷ (blanks ++ (d ∷ rest))))) ≡ Some (length a + length ds + 1 + length blanks)
 forgotten_byte a ds blanks rest d w all some h even blank is =
     let same : suc (length a + length ds) + length blanks ≡ length a + length ds + 1 + length blanks = omega arith in
     whole_digits a ds (line_feed ∷ (blanks ++ (d ∷ rest))) w all h
     ∙ feed_cuts (length ds) (length a + length ds) (blanks ++ (d ∷ rest)) some even
     ∙ blanks_on (length ds) (suc (length a + length ds)) blanks (d ∷ rest) blank some even
     ∙ cut_digit (length ds) (suc (length a + length ds) + length blanks) d rest is
-    ∙ ap At same
+    ∙ ap Some same
 
 -- ---- comments
 
 -- a fault so many characters further on
-abbrev pub moved : ℕ → Found → Found
-moved n (At at) = At (at + n)
-moved n Nowhere = Nowhere
+abbrev pub moved : ℕ → Option ℕ → Option ℕ
+moved n (Some at) = Some (at + n)
+moved n None = None
 
 pub moved_from : (n : ℕ) (s : Reading) (at : ℕ) (l : List ℕ) → fault_from s (at + n) l ≡ moved n (fault_from s at l)
 unfolding fault_from
-moved_from n s at [] = sym (pick_through (moved n) (half s) (At at) Nowhere)
+moved_from n s at [] = sym (pick_through (moved n) (half s) (Some at) None)
 moved_from n s at (c ∷ l) =
     let e : suc (at + n) ≡ suc at + n = omega arith in
-    ap (λ (f : Found). pick (faulty s c) (At (at + n)) f) (rw e (moved_from n (after s c) (suc at) l))
-    ∙ sym (pick_through (moved n) (faulty s c) (At at) (fault_from (after s c) (suc at) l))
+    ap (λ (f : Option ℕ). pick (faulty s c) (Some (at + n)) f) (rw e (moved_from n (after s c) (suc at) l))
+    ∙ sym (pick_through (moved n) (faulty s c) (Some at) (fault_from (after s c) (suc at) l))
 
 -- within a comment, between records
 abbrev in_comment : Reading

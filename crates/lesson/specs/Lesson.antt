@@ -1,5 +1,5 @@
 -- What reading a text answers, and what it leaves in the buffer.
-use Rattle.std.specs.Prelude.{ℕ, List, ◌≡◌, ltb, length, take}
+use Rattle.std.specs.Prelude.{ℕ, List, ◌≡◌, ltb, length, take, Option, Some, None}
 use Rattle.std.proofs.lemmas.List.Edits.{sets}
 use Rattle.base.specs.Pick.{pick}
 use Rattle.lesson.specs.Text.{bytes_of}
@@ -7,8 +7,6 @@ use Rattle.lesson.specs.Fault.{fault_of}
 use Rattle.lesson.specs.Cause.{finding}
 use Rattle.lesson.specs.Place.{place_behind}
 use Rattle.lesson.specs.declared.causes.Finding.{Finding}
-use Rattle.lesson.specs.declared.faults.Found.{Found}
-use Rattle.lesson.specs.declared.faults.Found.TheVariants.{At, Nowhere}
 use Rattle.lesson.specs.declared.Lesson.{Lesson}
 use Rattle.lesson.specs.declared.Lesson.TheVariants.{Bytes, Fault, TooLong, NoRoom}
 
@@ -21,9 +19,9 @@ abbrev pub fault_by : Finding → List ℕ → Lesson
 fault_by f text = Fault (place_behind (take f.at text)).line (place_behind (take f.at text)).column f.cause
 
 -- a text with a fault is answered by that; one without is its bytes, where they fit
-unfoldable pub answer_by : Found → List ℕ → ℕ → Lesson
-answer_by (At at) text room = fault_by (finding text at) text
-answer_by Nowhere text room = pick (ltb room (length (bytes_of text))) NoRoom (Bytes (length (bytes_of text)))
+unfoldable pub answer_by : Option ℕ → List ℕ → ℕ → Lesson
+answer_by (Some at) text room = fault_by (finding text at) text
+answer_by None text room = pick (ltb room (length (bytes_of text))) NoRoom (Bytes (length (bytes_of text)))
 
 unfoldable pub lesson_of : List ℕ → ℕ → Lesson
 lesson_of text room = pick (ltb longest (length text)) TooLong (answer_by (fault_of text) text room)

@@ -1,5 +1,5 @@
 -- Reading from end to end: what was written is handed out.
-use Rattle.std.specs.Prelude.{ℕ, zero, suc, ◌*◌, ◌/◌, ◌%◌, ◌≤◌, ◌<◌, Bool, List, [], ◌∷◌, ◌++◌, ◌≡◌, refl, ltb, length}
+use Rattle.std.specs.Prelude.{ℕ, zero, suc, ◌*◌, ◌/◌, ◌%◌, ◌≤◌, ◌<◌, Bool, List, [], ◌∷◌, ◌++◌, ◌≡◌, refl, ltb, length, Option, Some, None}
 use Rattle.std.proofs.Common.{sym, ap, subst, ◌∙◌, arith, le-ltb, ltb-false}
 use Rattle.std.proofs.lemmas.List.Edits.{sets}
 use Rattle.base.specs.Pick.{pick}
@@ -13,8 +13,6 @@ use Rattle.lesson.specs.Lesson.{longest, answer_by, lesson_of, handed_out, Reads
 use Rattle.lesson.specs.Plain.{letter, two, plain}
 use Rattle.lesson.specs.Plain as Plain-Form
 use Rattle.lesson.specs.declared.faults.Reading.{Reading}
-use Rattle.lesson.specs.declared.faults.Found.{Found}
-use Rattle.lesson.specs.declared.faults.Found.TheVariants.{At, Nowhere}
 use Rattle.lesson.specs.declared.Lesson.{Lesson}
 use Rattle.lesson.specs.declared.Lesson.TheVariants.{Bytes, Fault, TooLong, NoRoom}
 
@@ -42,8 +40,8 @@ pairs : (next (next 0) ≡ 2) × (next (next 2) ≡ 4) × (next (next 4) ≡ 6) 
 unfolding next pick
 pairs = (refl, refl, refl, refl)
 
-ends : (at : ℕ) → (fault_from start at [] ≡ Nowhere) × (fault_from (opened 2) at [] ≡ Nowhere)
-    × (fault_from (opened 4) at [] ≡ Nowhere) × (fault_from (opened 6) at [] ≡ Nowhere)
+ends : (at : ℕ) → (fault_from start at [] ≡ None) × (fault_from (opened 2) at [] ≡ None)
+    × (fault_from (opened 4) at [] ≡ None) × (fault_from (opened 6) at [] ≡ None)
 unfolding fault_from pick
 ends at = (refl, refl, refl, refl)
 
@@ -55,7 +53,7 @@ feed_after : after start line_feed ≡ start
 unfolding after commented digit pick
 feed_after = refl
 
-plain_from : (small : Bool) (at : ℕ) (bs : List ℕ) → Plain-Form.Bytes bs → fault_from start at (plain small bs) ≡ Nowhere
+plain_from : (small : Bool) (at : ℕ) (bs : List ℕ) → Plain-Form.Bytes bs → fault_from start at (plain small bs) ≡ None
 unfolding plain
 plain_from small at [] all = (ends at).0
 plain_from small at (a ∷ []) all = byte_on small 0 2 at a [] all.0 pairs.0 ∙ (ends _).1
@@ -102,7 +100,7 @@ pub reads_back : (small : Bool) (bs d d' : List ℕ) (r : Lesson) → Plain-Form
     → (r ≡ Bytes (length bs)) × (d' ≡ sets d 0 bs)
 unfolding fault_of lesson_of answer_by handed_out
 reads_back small bs d d' r all room limit reads =
-    let good : fault_of (plain small bs) ≡ Nowhere = plain_from small 0 bs all in
+    let good : fault_of (plain small bs) ≡ None = plain_from small 0 bs all in
     let same : bytes_of (plain small bs) ≡ bs = plain_back small bs all in
     let is : r ≡ Bytes (length bs) =
     reads.told
@@ -117,10 +115,10 @@ Fits (Fault line column cause) room = Unit {0}
 Fits TooLong room = Unit {0}
 Fits NoRoom room = Unit {0}
 
-answer_fits : (f : Found) (text : List ℕ) (room : ℕ) → Fits (answer_by f text room) room
+answer_fits : (f : Option ℕ) (text : List ℕ) (room : ℕ) → Fits (answer_by f text room) room
 unfolding answer_by
-answer_fits (At at) text room = tt
-answer_fits Nowhere text room =
+answer_fits (Some at) text room = tt
+answer_fits None text room =
     pick_cases (λ (r : Lesson). Fits r room) (ltb room (length (bytes_of text))) NoRoom (Bytes (length (bytes_of text)))
     (λ more. tt)
     (λ less. ltb-false room (length (bytes_of text)) less)

@@ -1,21 +1,17 @@
 // The bytes of a text that has no fault.
-ghost use Rattle.std.specs.Prelude.{◌≡◌, ◌≤◌, length};
+ghost use Rattle.std.specs.Prelude.{◌≡◌, ◌≤◌, ◌<◌, IfSome, None, length};
 ghost use Rattle.std.proofs.lemmas.List.Edits.{sets};
 ghost use Rattle.base.specs.Pick.{pick};
 ghost use Rattle.lesson.specs.Text.{bytes_of, digits_of};
-ghost use Rattle.text.specs.Hex.{digit};
+ghost use Rattle.text.specs.Hex.{digit_of};
 
 use crate::characters;
-use text::NO_DIGIT;
 
-// What the character is worth where it is a digit and no comment has it, and `NO_DIGIT` elsewhere.
-fn worth(comment: bool, c: u8) -> u8
-    ensures { (result ≡ pick comment 16 (digit c)) × (result ≤ 16) }
+// What the character is worth where it is a digit and no comment has it.
+fn worth(comment: bool, c: u8) -> Option<u8>
+    ensures { (result ≡ pick comment None (digit_of c)) × IfSome result (λ d. d < 16) }
 {
-    if comment {
-        return NO_DIGIT;
-    }
-    text::digit(c)
+    if comment { None } else { text::digit(c) }
 }
 
 pub(crate) fn count_digits(text: &[u8]) -> usize
@@ -23,38 +19,34 @@ pub(crate) fn count_digits(text: &[u8]) -> usize
 {
     let mut comment = false;
     let mut count: usize = 0;
-    for i in 0..text.len() {
-        let c = text[i];
-        comment = characters::is_commented(comment, c);
-        if worth(comment, c) == NO_DIGIT {
-            continue;
+    for c in text {
+        comment = characters::is_commented(comment, *c);
+        if worth(comment, *c).is_some() {
+            count += 1;
         }
-        count += 1;
     }
     count
 }
 
-// `high` is the first digit of a byte whose second is still to come, and `NO_DIGIT` where there is none.
+// `high` is the first digit of a byte whose second is still to come.
 pub(crate) fn put_bytes(text: &[u8], out: &mut [u8])
     requires { length (bytes_of text.now) ≤ length out.old }
     ensures { out.new ≡ sets out.old 0 (bytes_of text.now) }
 {
     let mut comment = false;
-    let mut high = NO_DIGIT;
+    let mut high = None;
     let mut at: usize = 0;
-    for i in 0..text.len() {
-        let c = text[i];
-        comment = characters::is_commented(comment, c);
-        let low = worth(comment, c);
-        if low == NO_DIGIT {
+    for c in text {
+        comment = characters::is_commented(comment, *c);
+        let Some(low) = worth(comment, *c) else {
             continue;
-        }
-        if high == NO_DIGIT {
-            high = low;
+        };
+        let Some(first) = high else {
+            high = Some(low);
             continue;
-        }
-        out[at] = 16 * high + low;
+        };
+        out[at] = 16 * first + low;
         at += 1;
-        high = NO_DIGIT;
+        high = None;
     }
 }

@@ -1,12 +1,10 @@
 // What a fault is told as, and where.
 ghost use Rattle.std.specs.Prelude.{◌≡◌, ◌≤◌, length};
-ghost use Rattle.base.specs.Pick.{pick};
 ghost use Rattle.lesson.specs.Fault.{start, behind};
 ghost use Rattle.lesson.specs.Cause.{character_at, marked, wide, alien, begins, begun_in, stopped_at, finding};
 
 use crate::faults::{Reading, START};
 use crate::{Cause, characters};
-use text::NO_DIGIT;
 
 // A fault as it is told: how many characters stand before it, and its cause.
 #[derive(Clone, Copy)]
@@ -25,57 +23,38 @@ struct Behind {
 pub(crate) fn character_at(text: &[u8], at: usize) -> u8
     ensures { result ≡ character_at text.now at }
 {
-    if at < text.len() {
-        return text[at];
-    }
-    b' '
+    text.get(at).copied().unwrap_or(b' ')
 }
 
+#[tactic(auto, using(std::proofs::lemmas::Bool::Decides::nat_tests, std::proofs::lemmas::Grind::get_or_default_zero, std::proofs::lemmas::List::get_or_past), unfolding(crate::specs::Cause::marked))]
 fn is_marked(text: &[u8]) -> bool
     ensures { result ≡ marked text.now }
 {
-    let first = character_at(text, 0);
-    let second = character_at(text, 1);
-    let third = character_at(text, 2);
-    (first == 0xEF) & (second == 0xBB) & (third == 0xBF)
+    matches!(text, [0xEF, 0xBB, 0xBF, ..])
 }
 
+#[tactic(auto, using(std::proofs::lemmas::Bool::Decides::nat_tests, std::proofs::lemmas::Grind::get_or_default_zero, std::proofs::lemmas::List::get_or_past), unfolding(crate::specs::Cause::wide))]
 fn is_wide(text: &[u8]) -> bool
     ensures { result ≡ wide text.now }
 {
-    let first = character_at(text, 0);
-    let second = character_at(text, 1);
-    ((first == 0xFF) & (second == 0xFE))
-        | ((first == 0xFE) & (second == 0xFF))
-        | (first == 0)
-        | (second == 0)
+    matches!(
+        text,
+        [0xFF, 0xFE, ..] | [0xFE, 0xFF, ..] | [0, ..] | [_, 0, ..]
+    )
 }
 
 fn is_alien(c: u8) -> bool
     ensures { result ≡ alien c }
 {
-    if text::digit(c) < NO_DIGIT {
-        return false;
-    }
-    !characters::is_apart(c)
+    text::digit(c).is_none() & !characters::is_apart(c)
 }
 
 impl Reading {
     fn begins(self, c: u8) -> bool
         ensures { result ≡ begins self c }
     {
-        !self.comment & (self.digits == 0) & (text::digit(c) < NO_DIGIT)
+        !self.comment & (self.digits == 0) & text::digit(c).is_some()
     }
-}
-
-// Where the record was begun last, behind one more character.
-fn begun_by(reading: Reading, begun: usize, at: usize, c: u8) -> usize
-    ensures { result ≡ pick (begins reading c) at begun }
-{
-    if reading.begins(c) {
-        return at;
-    }
-    begun
 }
 
 fn begun_behind(text: &[u8]) -> Behind
@@ -83,10 +62,11 @@ fn begun_behind(text: &[u8]) -> Behind
 {
     let mut reading = START;
     let mut begun: usize = 0;
-    for i in 0..text.len() {
-        let c = text[i];
-        begun = begun_by(reading, begun, i, c);
-        reading = reading.after(c);
+    for (i, c) in text.iter().enumerate() {
+        if reading.begins(*c) {
+            begun = i;
+        }
+        reading = reading.after(*c);
     }
     Behind { reading, begun }
 }

@@ -7,18 +7,16 @@ ghost use Rattle.lesson.specs.Text.{apart as Text·apart};
 pub(crate) fn is_apart(c: u8) -> bool
     ensures { result ≡ Text·apart c }
 {
-    (c == b' ') | (c == b'\t') | (c == b'\r') | (c == b'\n') | (c == b'#')
+    matches!(c, b' ' | b'\t' | b'\r' | b'\n' | b'#')
 }
 
 // Whether a character belongs to a comment, given whether the one before it does.
 pub(crate) fn is_commented(comment: bool, c: u8) -> bool
     ensures { result ≡ commented comment c }
 {
-    if c == b'#' {
-        return true;
+    match c {
+        b'#' => true,
+        b'\n' => false,
+        _ => comment,
     }
-    if c == b'\n' {
-        return false;
-    }
-    comment
 }

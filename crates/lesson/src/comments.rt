@@ -1,81 +1,77 @@
 // Where the comment of a record stands: right behind its last digit, on the same line.
-ghost use Rattle.std.specs.Prelude.{◌≡◌, ◌≤◌, length};
-ghost use Rattle.lesson.specs.Comments.{in_text, due_behind, place_after, goes_on, run_end, comment_at};
+ghost use Rattle.std.specs.Prelude.{◌≡◌, ◌≤◌, false, length, not, position};
+ghost use Rattle.lesson.specs.Comments.{due_behind, reach, place_after, goes_on, run_end, comment_at};
 
 use crate::causes::character_at;
 use crate::{Comment, characters};
-use text::NO_DIGIT;
 
-fn in_text(text: &[u8], at: usize) -> usize
-    ensures { (result ≡ in_text text.now at) × (result ≤ length text.now) }
-{
-    if text.len() < at {
-        return text.len();
-    }
-    at
-}
-
+// How many digits are due behind one more character.
 fn due_behind(comment: bool, c: u8, due: usize) -> usize
     requires { 1 ≤ due }
     ensures { result ≡ due_behind comment c due }
 {
-    if comment {
+    if comment | text::digit(c).is_none() {
         return due;
     }
-    if text::digit(c) < NO_DIGIT {
-        return due - 1;
+    due - 1
+}
+
+// How many characters a text has up to right behind so many digits; all of them, where it has fewer.
+fn reach(text: &[u8], digits: usize) -> usize
+    ensures { (result ≡ reach false digits text.now) × (result ≤ length text.now) }
+{
+    let mut comment = false;
+    let mut due = digits;
+    for (i, c) in text.iter().enumerate() {
+        if due == 0 {
+            return i;
+        }
+        comment = characters::is_commented(comment, *c);
+        due = due_behind(comment, *c, due);
     }
-    due
+    text.len()
 }
 
 // The place right behind so many more digits outside comments, from a place that no comment has; the text's end where there are fewer.
 pub fn behind(text: &[u8], from: usize, digits: usize) -> usize
     ensures { (result ≡ place_after text.now from digits) × (result ≤ length text.now) }
 {
-    let mut comment = false;
-    let mut due = digits;
-    let mut at = in_text(text, from);
-    while at < text.len() {
-        if due == 0 {
-            return at;
-        }
-        let c = text[at];
-        comment = characters::is_commented(comment, c);
-        due = due_behind(comment, c, due);
-        at += 1;
-    }
-    at
+    let start = from.min(text.len());
+    start + reach(&text[start..], digits)
 }
 
+#[tactic(auto, using(std::proofs::lemmas::Bool::Decides::nat_tests, base::specs::PickLaws::tests), unfolding(crate::specs::Comments::goes_on))]
 fn goes_on(comment: bool, c: u8) -> bool
     ensures { result ≡ goes_on comment c }
 {
     if comment {
-        return !((c == b'\r') | (c == b'\n'));
+        return !matches!(c, b'\r' | b'\n');
     }
-    (c == b' ') | (c == b'\t') | (c == b'\r')
+    matches!(c, b' ' | b'\t' | b'\r')
+}
+
+// The first character that doesn't go on.
+fn run_stop(comment: bool, text: &[u8]) -> Option<usize>
+    ensures { result ≡ position (λ c. not (goes_on comment c)) text.now }
+{
+    text.iter().position(|c| !goes_on(comment, *c))
 }
 
 fn run_end(comment: bool, text: &[u8], from: usize) -> usize
     requires { from ≤ length text.now }
     ensures { (result ≡ run_end comment text.now from) × (from ≤ result) × (result ≤ length text.now) }
 {
-    let mut at = from;
-    while at < text.len() {
-        if goes_on(comment, text[at]) {
-            at += 1;
-            continue;
-        }
-        return at;
+    match run_stop(comment, &text[from..]) {
+        Some(length) => from + length,
+        None => text.len(),
     }
-    at
 }
 
 // The comment that follows a place on its line.
 pub fn comment_at(text: &[u8], at: usize) -> Comment
     ensures { (result ≡ comment_at text.now at) × (result.from ≤ result.end) × (result.end ≤ length text.now) }
 {
-    let from = run_end(false, text, in_text(text, at));
+    let from = run_end(false, text, at.min(text.len()));
     if character_at(text, from) == b'#' {
         let end = run_end(true, text, from);
         return Comment { from, end };

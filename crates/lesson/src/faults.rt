@@ -4,7 +4,6 @@ ghost use Rattle.lesson.specs.Fault.{fault_of, faulty, next};
 ghost use Rattle.lesson.specs.Fault.{after as Fault·after};
 
 use crate::characters;
-use text::NO_DIGIT;
 
 // Where reading stands: how many digits of the record are read, whether a line has ended since its first, and whether a comment
 // goes on.
@@ -24,12 +23,6 @@ pub(crate) const START: Reading = Reading {
     comment: false,
 };
 
-#[derive(Clone, Copy)]
-pub(crate) enum Found {
-    At(usize),
-    Nowhere,
-}
-
 impl Reading {
     fn is_faulty(self, c: u8) -> bool
         ensures { result ≡ faulty self c }
@@ -37,7 +30,7 @@ impl Reading {
         if self.comment {
             return false;
         }
-        if text::digit(c) < NO_DIGIT {
+        if text::digit(c).is_some() {
             return self.cut;
         }
         if characters::is_apart(c) {
@@ -60,42 +53,40 @@ impl Reading {
     {
         if characters::is_commented(self.comment, c) {
             return Reading {
-                digits: self.digits,
-                cut: self.cut,
                 comment: true,
+                ..self
             };
         }
-        if text::digit(c) < NO_DIGIT {
+        if text::digit(c).is_some() {
             return Reading {
                 digits: self.counted(),
-                cut: self.cut,
                 comment: false,
+                ..self
             };
         }
         if c == b'\n' {
             return Reading {
-                digits: self.digits,
-                cut: !(self.digits == 0),
+                cut: self.digits != 0,
                 comment: false,
+                ..self
             };
         }
         self
     }
 }
 
-pub(crate) fn first_fault(text: &[u8]) -> Found
+pub(crate) fn first_fault(text: &[u8]) -> Option<usize>
     ensures { result ≡ fault_of text.now }
 {
     let mut reading = START;
-    for i in 0..text.len() {
-        let c = text[i];
-        if reading.is_faulty(c) {
-            return Found::At(i);
+    for (i, c) in text.iter().enumerate() {
+        if reading.is_faulty(*c) {
+            return Some(i);
         }
-        reading = reading.after(c);
+        reading = reading.after(*c);
     }
     if reading.digits % 2 == 1 {
-        return Found::At(text.len());
+        return Some(text.len());
     }
-    Found::Nowhere
+    None
 }

@@ -11,7 +11,6 @@ mod places;
 ghost use Rattle.lesson.specs.Lesson.{Reads};
 
 pub use comments::{behind, comment_at};
-use faults::Found;
 
 // Of a text that is not longer, every line and column is a number that there is.
 const LONGEST: usize = 4294967295;
@@ -52,12 +51,10 @@ pub fn read(text: &[u8], out: &mut [u8]) -> Lesson
     if LONGEST < text.len() {
         return Lesson::TooLong;
     }
-    if let Found::At(at) = faults::first_fault(text) {
+    if let Some(at) = faults::first_fault(text) {
         let finding = causes::find(text, at);
-        let before = finding.at;
-        let cause = finding.cause;
-        let place = places::place_behind(&text[..before]);
-        return Lesson::Fault(place.line, place.column, cause);
+        let place = places::place_behind(&text[..finding.at]);
+        return Lesson::Fault(place.line, place.column, finding.cause);
     }
     let count = bytes::count_digits(text) / 2;
     if out.len() < count {

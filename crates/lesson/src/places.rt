@@ -21,8 +21,8 @@ impl Place {
             };
         }
         Place {
-            line: self.line,
             column: self.column + 1,
+            ..self
         }
     }
 }
@@ -33,8 +33,8 @@ pub(crate) fn place_behind(text: &[u8]) -> Place
     ensures { result ≡ place_behind text.now }
 {
     let mut place = Place { line: 1, column: 1 };
-    for i in 0..text.len() {
-        place = place.onward(text[i]);
+    for c in text {
+        place = place.onward(*c);
     }
     place
 }

@@ -1,5 +1,5 @@
 -- What a run leaves to the next: its lines in the buffer, the bench, the number and the bytes that are left. Two runs are one.
-use Rattle.std.specs.Prelude.{ℕ, zero, suc, ◌+◌, ◌-◌, ◌≤◌, Bool, List, [], ◌∷◌, ◌++◌, ◌≡◌, refl, length, take, drop}
+use Rattle.std.specs.Prelude.{ℕ, zero, suc, ◌+◌, ◌-◌, ◌≤◌, Bool, List, [], ◌∷◌, ◌++◌, ◌≡◌, length, take, drop}
 use Rattle.std.proofs.Common.{sym, ap, ap₂, ◌∙◌, arith, zero-add, suc-add, length-take-le}
 use Rattle.std.proofs.Math.Seq.{take-nil}
 use Rattle.base.specs.PickLaws.{pick_cases}

@@ -1,8 +1,7 @@
 -- How much finds room: a run answers as many records as fit, no fewer and no more.
 use Rattle.std.specs.Prelude.{ℕ, zero, suc, ◌+◌, ◌-◌, ◌*◌, ◌≤◌, ◌<◌, Bool, true, false, List, [], ◌∷◌, ◌++◌, ◌≡◌, refl, ltb, leb, length, take, drop}
 use Rattle.std.proofs.Common.{sym, ap, subst, ◌∙◌, ⊎_elim, arith, length-append, drop_of_length-le, lt-ltb, le-leb, leb-true, ltb-true, ltb-false}
-use Rattle.std.proofs.lemmas.Bool.{lt-leb}
-use Rattle.base.specs.PickLaws.{pick_true, pick_false, pick_cases, both_hold, either_way}
+use Rattle.base.specs.PickLaws.{pick_true, pick_cases, both_hold, either_way}
 use Rattle.base.specs.declared.Answer.TheVariants.{Done}
 use Rattle.records.specs.Events.{Record, whole}
 use Rattle.bench.specs.Runs.{after_all}

@@ -3,7 +3,7 @@ use Prim.Native.Nat.{ℕ, suc, ◌+◌, ◌-◌, ◌*◌, ◌≤◌, ◌<◌, mi
 use mathlib.Core.Path.{◌≡◌, refl, sym, ap, ◌∙◌}
 use mathlib.Core.Bool.{Bool, true, false, and-false}
 use mathlib.Core.List.{List, [], ◌∷◌, ◌++◌, append-nil}
-use mathlib.Core.Logic.{◌⊎◌, inl, inr, ⊎_elim}
+use mathlib.Core.Logic.{⊎_elim}
 use native.Mathlib.Omega.{arith}
 use native.Mathlib.Numerals.{add-one}
 use native.Mathlib.Nat.{add-zero, zero-add, sub-zero, eq-or-lt_of_le}
@@ -168,15 +168,11 @@ module _ (b₀ : Bench) (n : ℕ) (rs : List Record) (d₀ : List ℕ) (b : Benc
 
 -- ---- how far a run goes: to the last record or the last number, or no further than it came, for want of room
 
-abbrev pub Until : Bench → ℕ → List Record → List ℕ → ℕ → ℕ → Type 0
-Until b₀ n rs d₀ end k = (end ≡ min (length rs) (number_end - n)) ⊎ ((end ≡ k) × Full b₀ n rs d₀ k)
+pub end_is : (last : Bool) (s : List ℕ) (n count end : ℕ) → count ≡ record_count last (length s) → end ≡ min count (number_end - n)
+    → end ≡ min (length (records_of last s)) (number_end - n)
+end_is last s n count end counted is = omega (arith, record_count_lem last s)
 
--- while it goes on, nothing has wanted room
-pub going : (b₀ : Bench) (n : ℕ) (rs : List Record) (d₀ : List ℕ) (end k : ℕ) → Until b₀ n rs d₀ end k → k < end → end ≡ min (length rs) (number_end - n)
-going b₀ n rs d₀ end k (inl e) less = e
-going b₀ n rs d₀ end k (inr f) less = absurd (omega (arith, f.0))
-
--- and then the next record is there, it begins inside the input, and its number fits 64 bits
+-- before the end the next record is there, it begins inside the input, and its number fits 64 bits
 pub ahead : (last : Bool) (s : List ℕ) (n end k : ℕ) → end ≡ min (length (records_of last s)) (number_end - n) → k < end
     → (k < length (records_of last s)) × (4 * k < length s) × (n + k < number_end)
 ahead last s n end k e less =
@@ -198,7 +194,7 @@ over b₀ n rs d₀ b d w k a t at_end =
     t.left ∙ rw (drop-cons rs k short less, it-does-not, pick_false) (add-zero k))
     (eq-or-lt_of_le within)
 
-module _ (b₀ : Bench) (n : ℕ) (s : List ℕ) (last : Bool) (d₀ : List ℕ) (b : Bench) (d : List ℕ) (w end k : ℕ) (a : Answer) (t : Turn b₀ n (records_of last s) d₀ b d w k a) where
+module _ (b₀ : Bench) (n : ℕ) (s : List ℕ) (last : Bool) (d₀ : List ℕ) (b : Bench) (d : List ℕ) (w k : ℕ) (a : Answer) (t : Turn b₀ n (records_of last s) d₀ b d w k a) where
   -- the answer of a run that ends after k records
   finished : answered b₀ n (records_of last s) (length d₀) ≡ k
       → (longest * length (records_of last s) ≤ length d₀ → n + length (records_of last s) ≤ number_end → k ≡ length (records_of last s))
@@ -214,9 +210,12 @@ module _ (b₀ : Bench) (n : ℕ) (s : List ℕ) (last : Bool) (d₀ : List ℕ)
     enough = enough;
   }
 
-  pub ended : Until b₀ n (records_of last s) d₀ end k → k ≤ end → end ≤ k
+  -- at the end of the records, or of the numbers
+  pub ended : k ≡ min (length (records_of last s)) (number_end - n)
       → Runs b₀ n s last d₀ d (record { bench = b; answer = a; records = k; used = min (4 * k) (length s); written = w })
-  ended (inl e) within over-it =
-      let at_end : k ≡ min (length (records_of last s)) (number_end - n) = omega arith in
-      finished (over b₀ n (records_of last s) d₀ b d w k a t at_end) (λ long fit. at_end ∙ omega arith)
-  ended (inr f) within over-it = finished f.1.told (λ long fit. absurd (f.1.narrow long))
+  ended at_end = finished (over b₀ n (records_of last s) d₀ b d w k a t at_end) (λ long fit. at_end ∙ omega arith)
+
+  -- or where the next line found no room
+  pub stopped : Full b₀ n (records_of last s) d₀ k
+      → Runs b₀ n s last d₀ d (record { bench = b; answer = a; records = k; used = min (4 * k) (length s); written = w })
+  stopped f = finished f.told (λ long fit. absurd (f.narrow long))

@@ -1,82 +1,61 @@
 // The records where they stand in the input, and each on the parts that it touches.
 ghost use Rattle.std.specs.Prelude.{◌≡◌, ◌<◌, length};
-ghost use Rattle.records.specs.Events.{whole};
+ghost use Rattle.records.specs.Events.{seat_named, resets};
 ghost use Rattle.records.specs.Parts.{parted};
+ghost use Rattle.bench.specs.Seats.{chair};
 ghost use Rattle.listing.specs.Places.{record_at, record_count};
-ghost use Rattle.listing.specs.Held.{held_record, Holds};
+ghost use Rattle.listing.specs.Held.{held_record};
 
 use crate::RECORD_BYTES;
+use base::Whole;
 use controller::Controller;
 use records::{Event, Touched};
 use seat::Seat;
 
-// A record taken out of the input: its bytes, or that it is short; whether it is a master reset, and the chair of its seat.
-#[derive(Clone, Copy)]
-pub(crate) struct Held {
-    pub(crate) short: bool,
-    pub(crate) resets: bool,
-    pub(crate) chair: usize,
-    pub(crate) kind: u8,
-    pub(crate) seat: u8,
-    pub(crate) number: u8,
-    pub(crate) value: u8,
-}
-
 pub(crate) fn record_count(bytes: usize, last: bool) -> usize
     ensures { result ≡ record_count last bytes }
 {
-    if last & !(bytes % RECORD_BYTES == 0) {
-        return bytes / RECORD_BYTES + 1;
+    if last {
+        return bytes.div_ceil(RECORD_BYTES);
     }
     bytes / RECORD_BYTES
 }
 
-fn held_whole(kind: u8, seat: u8, number: u8, value: u8) -> Held
-    ensures { Holds result (whole kind seat number value) }
+// The record that stands at `at`; of one that the input cuts off there are not all bytes.
+pub(crate) fn record_at(input: &[u8], at: usize) -> Option<Whole>
+    requires { at < length input.now }
+    ensures { held_record result ≡ record_at input.now at }
 {
-    Held {
-        short: false,
-        resets: kind == Event::MASTER_RESET,
-        chair: bench::chair(seat),
+    let &[kind, seat, number, value, ..] = &input[at..] else {
+        return None;
+    };
+    Some(Whole {
         kind,
         seat,
         number,
         value,
-    }
+    })
 }
 
-// The record that stands at `at`; one that the input cuts off is short.
-pub(crate) fn record_at(input: &[u8], at: usize) -> Held
-    requires { at < length input.now }
-    ensures { Holds result (record_at input.now at) }
+// The chair of its seat; one that is cut off names none, and any chair serves.
+pub(crate) fn chair(held: Option<Whole>) -> usize
+    ensures { result ≡ chair (seat_named (held_record held)) }
 {
-    if input.len() - at < RECORD_BYTES {
-        return Held {
-            short: true,
-            resets: false,
-            chair: 0,
-            kind: 0,
-            seat: 0,
-            number: 0,
-            value: 0,
-        };
-    }
-    held_whole(input[at], input[at + 1], input[at + 2], input[at + 3])
+    held.map_or(0, |whole| bench::chair(whole.seat))
+}
+
+pub(crate) fn resets(held: Option<Whole>) -> bool
+    ensures { result ≡ resets (held_record held) }
+{
+    held.is_some_and(|whole| whole.kind == Event::MASTER_RESET)
 }
 
 // What it makes of its seat and the controller.
-pub(crate) fn meet(seat: Seat, controller: Controller, held: Held) -> Touched
+pub(crate) fn meet(seat: Seat, controller: Controller, held: Option<Whole>) -> Touched
     ensures { result ≡ parted seat controller (held_record held) }
 {
-    if held.short {
-        return records::short_parts(seat, controller);
+    match held {
+        Some(whole) => records::step_parts(seat, controller, whole),
+        None => records::short_parts(seat, controller),
     }
-    records::step_parts(
-        seat,
-        controller,
-        held.kind,
-        held.seat,
-        held.number,
-        held.value,
-    )
 }

@@ -4,6 +4,7 @@
 use base::Answer;
 use bench::Bench;
 
+mod front;
 mod held;
 mod runs;
 

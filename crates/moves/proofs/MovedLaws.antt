@@ -1,8 +1,7 @@
 -- Every piece of what moved fits, and there are few of them.
-use Rattle.std.specs.Prelude.{ℕ, ◌≤◌, ◌<◌, Bool, true, ◌&&◌, not, List, [], ◌∷◌, ◌++◌, ◌≡◌, eqb, length}
+use Rattle.std.specs.Prelude.{ℕ, ◌≤◌, ◌<◌, Bool, true, ◌&&◌, not, List, [], ◌∷◌, ◌≡◌, eqb, length}
 use Rattle.std.proofs.Math.Path.{refl}
 use Rattle.std.proofs.Common.{arith}
-use Rattle.base.specs.Pick.{pick}
 use Rattle.base.specs.PickLaws.{pick_either}
 use Rattle.base.specs.Bits.{bit}
 use Rattle.text.specs.Quoted.{quoted}

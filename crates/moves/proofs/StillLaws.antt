@@ -6,7 +6,6 @@ use Rattle.base.specs.PickLaws.{pick_true, pick_either}
 use Rattle.page.specs.Pages.{placed, joined, joined_all}
 use Rattle.page.specs.declared.Page.{Page}
 use Rattle.channel.specs.declared.Channel.{Channel}
-use Rattle.channel.specs.Status.{lsr, msr}
 use Rattle.controller.specs.declared.Controller.{Controller}
 use Rattle.records.specs.Events.{uses_seat, seat_above}
 use Rattle.moves.specs.Moved.{counted, turned, queues_moved, troubles_moved, flags_moved, changes_moved, loopback_moved, channel_moved, seat_moved, line_turned, lines_turned, first_moved, first_line, ready_moved, output_moved, controller_moved}

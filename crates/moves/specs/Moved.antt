@@ -1,5 +1,6 @@
 -- What moved: pieces in the order of docs/TELLING.md, each only where it has changed by the record.
-use Rattle.std.specs.Prelude.{ℕ, Bool, not, ◌&&◌, List, [], ◌∷◌, ◌++◌, eqb}
+use Rattle.std.specs.Prelude.{ℕ, suc, Bool, not, ◌&&◌, List, [], ◌∷◌, ◌++◌, eqb}
+use denote.Ref.{Bor}
 use Rattle.base.specs.Pick.{pick}
 use Rattle.base.specs.Bits.{bit}
 use Rattle.text.specs.Quoted.{quoted}
@@ -25,6 +26,14 @@ turned before after on off = pick after (pick before [] on) (pick before off [])
 -- the same of a bit
 abbrev pub bit_turned : ℕ → ℕ → ℕ → List ℕ → List ℕ → List ℕ
 bit_turned k before after on off = turned (bit k before) (bit k after) on off
+
+-- a bit that is set and cleared, by its name; and bits from k on, each by its own
+abbrev pub latch_moved : ℕ → ℕ → ℕ → List ℕ → List ℕ
+latch_moved k before after name = bit_turned k before after (name ++ quoted " set") (name ++ quoted " cleared")
+
+abbrev pub latches_moved : ℕ → ℕ → ℕ → List (Bor (List ℕ)) → List (List ℕ)
+latches_moved k before after [] = []
+latches_moved k before after (name ∷ names) = latch_moved k before after name.now ∷ latches_moved (suc k) before after names
 
 -- ---- the seat that the record names
 

@@ -1,9 +1,9 @@
 // What has changed: a piece of it, joined to the page.
-ghost use Rattle.std.specs.Prelude.{◌≡◌};
-ghost use Rattle.base.specs.Bits.{bit};
+ghost use Rattle.std.specs.Prelude.{◌≡◌, ◌+◌, ◌≤◌, ◌++◌, length};
+ghost use Rattle.text.specs.Quoted.{quoted};
 ghost use Rattle.page.specs.Pieces.{piece};
-ghost use Rattle.page.specs.Pages.{joined};
-ghost use Rattle.moves.specs.Moved.{turned};
+ghost use Rattle.page.specs.Pages.{joined, joined_all};
+ghost use Rattle.moves.specs.Moved.{turned, latch_moved, latches_moved};
 ghost use Rattle.moves.specs.Moved.{counted as Moved·counted};
 
 use page::{Page, Piece};
@@ -26,16 +26,12 @@ pub(crate) fn count(page: Page, words: &[u8], before: u8, after: u8) -> Page
 fn flagged(before: bool, after: bool, on: &[u8], off: &[u8]) -> Piece
     ensures { result ≡ piece (turned before after on.now off.now) }
 {
-    if after {
-        if before {
-            return Piece::empty();
-        }
-        return Piece::empty().text(on);
+    let none = Piece::empty();
+    match (before, after) {
+        (false, true) => none.text(on),
+        (true, false) => none.text(off),
+        _ => none,
     }
-    if before {
-        return Piece::empty().text(off);
-    }
-    Piece::empty()
 }
 
 pub(crate) fn flag(page: Page, before: bool, after: bool, on: &[u8], off: &[u8]) -> Page
@@ -44,9 +40,31 @@ pub(crate) fn flag(page: Page, before: bool, after: bool, on: &[u8], off: &[u8])
     page.join(flagged(before, after, on, off))
 }
 
-// Bit k of two bytes.
-pub(crate) fn turn(page: Page, k: u8, before: u8, after: u8, on: &[u8], off: &[u8]) -> Page
-    ensures { result ≡ joined page (turned (bit k before) (bit k after) on.now off.now) }
+fn latched(name: &[u8], before: bool, after: bool) -> Piece
+    ensures { result ≡ piece (turned before after (name.now ++ quoted " set") (name.now ++ quoted " cleared")) }
 {
-    flag(page, base::bit(k, before), base::bit(k, after), on, off)
+    let none = Piece::empty();
+    match (before, after) {
+        (false, true) => none.text(name).text(b" set"),
+        (true, false) => none.text(name).text(b" cleared"),
+        _ => none,
+    }
+}
+
+fn latch(page: Page, k: u8, before: u8, after: u8, name: &[u8]) -> Page
+    ensures { result ≡ joined page (latch_moved k before after name.now) }
+{
+    page.join(latched(name, base::bit(k, before), base::bit(k, after)))
+}
+
+// Bits from `from` on, each by its name.
+pub(crate) fn latches(page: Page, from: u8, before: u8, after: u8, names: &[&[u8]]) -> Page
+    requires { from + length names.now ≤ 8 }
+    ensures { result ≡ joined_all page (latches_moved from before after names.now) }
+{
+    let mut told = page;
+    for (k, name) in names.iter().enumerate() {
+        told = latch(told, from + k as u8, before, after, name);
+    }
+    told
 }

@@ -3,13 +3,19 @@ ghost use Rattle.std.specs.Prelude.{◌≡◌};
 ghost use Rattle.channel.specs.Status.{lsr as Status·lsr};
 ghost use Rattle.channel.specs.Status.{msr as Status·msr};
 ghost use Rattle.page.specs.Pages.{joined, joined_all};
-ghost use Rattle.moves.specs.Moved.{queues_moved, troubles_moved, flags_moved, changes_moved, loopback_moved, channel_moved};
+ghost use Rattle.moves.specs.Moved.{queues_moved, flags_moved, loopback_moved, channel_moved};
 ghost use Rattle.moves.specs.Moved.{seat_moved};
 
 use crate::changes;
 use channel::Channel;
 use page::Page;
 use records::Event;
+
+// LSR bits 1 to 4.
+const TROUBLES: [&[u8]; 4] = [b"overrun", b"parity", b"framing", b"break"];
+
+// MSR bits 0 to 3.
+const INPUTS: [&[u8]; 4] = [b"CTS-changed", b"DSR-changed", b"RI-ended", b"DCD-changed"];
 
 fn queues(page: Page, before: Channel, after: Channel) -> Page
     ensures { result ≡ joined_all page (queues_moved before after) }
@@ -35,15 +41,6 @@ fn queues(page: Page, before: Channel, after: Channel) -> Page
     )
 }
 
-fn troubles(page: Page, before: u8, after: u8) -> Page
-    ensures { result ≡ joined_all page (troubles_moved before after) }
-{
-    let overrun = changes::turn(page, 1, before, after, b"overrun set", b"overrun cleared");
-    let parity = changes::turn(overrun, 2, before, after, b"parity set", b"parity cleared");
-    let framing = changes::turn(parity, 3, before, after, b"framing set", b"framing cleared");
-    changes::turn(framing, 4, before, after, b"break set", b"break cleared")
-}
-
 fn flags(page: Page, before: Channel, after: Channel) -> Page
     ensures { result ≡ joined_all page (flags_moved before after) }
 {
@@ -60,36 +57,6 @@ fn flags(page: Page, before: Channel, after: Channel) -> Page
         after.transmitter.flag,
         b"holding-empty flag set",
         b"holding-empty flag cleared",
-    )
-}
-
-fn inputs(page: Page, before: u8, after: u8) -> Page
-    ensures { result ≡ joined_all page (changes_moved before after) }
-{
-    let cts = changes::turn(
-        page,
-        0,
-        before,
-        after,
-        b"CTS-changed set",
-        b"CTS-changed cleared",
-    );
-    let dsr = changes::turn(
-        cts,
-        1,
-        before,
-        after,
-        b"DSR-changed set",
-        b"DSR-changed cleared",
-    );
-    let ri = changes::turn(dsr, 2, before, after, b"RI-ended set", b"RI-ended cleared");
-    changes::turn(
-        ri,
-        3,
-        before,
-        after,
-        b"DCD-changed set",
-        b"DCD-changed cleared",
     )
 }
 
@@ -126,9 +93,9 @@ fn channel_moved(page: Page, before: Channel, after: Channel) -> Page
     ensures { result ≡ joined_all page (channel_moved before after) }
 {
     let queues = queues(page, before, after);
-    let troubles = troubles(queues, lsr(before), lsr(after));
+    let troubles = changes::latches(queues, 1, lsr(before), lsr(after), &TROUBLES);
     let flags = flags(troubles, before, after);
-    let inputs = inputs(flags, msr(before), msr(after));
+    let inputs = changes::latches(flags, 0, msr(before), msr(after), &INPUTS);
     loopback(inputs, before, after)
 }
 

@@ -2,7 +2,7 @@
 ghost use Rattle.std.specs.Prelude.{◌≡◌};
 ghost use Rattle.page.specs.Pieces.{piece};
 ghost use Rattle.page.specs.Pages.{joined, joined_all};
-ghost use Rattle.moves.specs.Moved.{line_words, line_turned, lines_turned, first_moved, ready_moved, output_moved, controller_moved};
+ghost use Rattle.moves.specs.Moved.{turned, line_words, line_turned, lines_turned, first_moved, ready_moved, output_moved, controller_moved};
 
 use crate::changes;
 use controller::{Controller, Setup};
@@ -14,40 +14,33 @@ fn named(n: u8, words: &[u8]) -> Piece
     Piece::empty().text(b"line ").decimal(n as u64).text(words)
 }
 
-fn turned(n: u8, before: u8, after: u8, on: &[u8], off: &[u8]) -> Piece
-    ensures { result ≡ piece (line_turned n before after on.now off.now) }
+fn turned(n: u8, before: bool, after: bool, on: &[u8], off: &[u8]) -> Piece
+    ensures { result ≡ piece (turned before after (line_words n on.now) (line_words n off.now)) }
 {
-    let was = base::bit(n, before);
-    let is = base::bit(n, after);
-    if is {
-        if was {
-            return Piece::empty();
-        }
-        return named(n, on);
+    let none = Piece::empty();
+    match (before, after) {
+        (false, true) => named(n, on),
+        (true, false) => named(n, off),
+        _ => none,
     }
-    if was {
-        return named(n, off);
-    }
-    Piece::empty()
 }
 
 fn turn(page: Page, n: u8, before: u8, after: u8, on: &[u8], off: &[u8]) -> Page
     ensures { result ≡ joined page (line_turned n before after on.now off.now) }
 {
-    page.join(turned(n, before, after, on, off))
+    let was = base::bit(n, before);
+    let is = base::bit(n, after);
+    page.join(turned(n, was, is, on, off))
 }
 
 fn turns(page: Page, before: u8, after: u8, on: &[u8], off: &[u8]) -> Page
     ensures { result ≡ joined_all page (lines_turned before after on.now off.now) }
 {
-    let p0 = turn(page, 0, before, after, on, off);
-    let p1 = turn(p0, 1, before, after, on, off);
-    let p2 = turn(p1, 2, before, after, on, off);
-    let p3 = turn(p2, 3, before, after, on, off);
-    let p4 = turn(p3, 4, before, after, on, off);
-    let p5 = turn(p4, 5, before, after, on, off);
-    let p6 = turn(p5, 6, before, after, on, off);
-    turn(p6, 7, before, after, on, off)
+    let mut told = page;
+    for n in 0..rank::LINES {
+        told = turn(told, n, before, after, on, off);
+    }
+    told
 }
 
 fn ready(page: Page, before: Controller, after: Controller) -> Page

@@ -1,3 +1,5 @@
+pub mod Sized
+pub mod Named
 pub mod Exemplified
 pub mod Differ
 pub mod Statements

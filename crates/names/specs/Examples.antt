@@ -1,5 +1,4 @@
 -- The words by examples, as a class reads them.
-use Prim.Native.String.{String}
 use Rattle.std.specs.Prelude.{true, false, [], ◌≡◌}
 use Rattle.text.specs.Quoted.{quoted}
 use Rattle.names.specs.Words.{refusal_words, register_words, iir_words, lsr_said, msr_said, marks_named, marks_said, levels_said, lines_said}

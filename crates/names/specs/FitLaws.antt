@@ -1,5 +1,5 @@
 -- What fits a piece: words in quotation marks, numbers, bytes and letters, choices of them, and one behind the other.
-use Rattle.std.specs.Prelude.{ℕ, suc, ◌+◌, ◌-◌, ◌/◌, ◌%◌, ◌^◌, ◌≤◌, ◌<◌, Bool, true, false, ◌&&◌, List, [], ◌∷◌, ◌++◌, ◌≡◌, refl, ltb, leb, eqb, length}
+use Rattle.std.specs.Prelude.{ℕ, suc, ◌+◌, ◌-◌, ◌/◌, ◌%◌, ◌^◌, ◌≤◌, ◌<◌, Bool, true, ◌&&◌, List, [], ◌∷◌, ◌++◌, ◌≡◌, refl, ltb, leb, eqb, length}
 use Prim.Native.String.{String}
 use Rattle.std.proofs.Common.{arith, length-append, leb-true, ltb-false}
 use Rattle.base.specs.Pick.{pick}

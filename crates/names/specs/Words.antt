@@ -1,6 +1,7 @@
 -- What is said with the names.
-use Rattle.std.specs.Prelude.{ℕ, suc, ◌+◌, ◌%◌, ◌^◌, Bool, ◌&&◌, List, [], ◌∷◌, ◌++◌, ltb, eqb}
+use Rattle.std.specs.Prelude.{ℕ, suc, ◌+◌, ◌%◌, ◌^◌, Bool, List, [], ◌∷◌, ◌++◌, ltb, eqb}
 use Prim.Native.String.{String}
+use denote.Ref.{Bor}
 use Rattle.base.specs.Pick.{pick}
 use Rattle.base.specs.Bits.{bit, digit}
 use Rattle.text.specs.Quoted.{quoted}
@@ -19,6 +20,11 @@ words_by (r ∷ rows) n others = pick (eqb n r.number) (quoted r.words) (words_b
 abbrev pub words_from : ℕ → List String → ℕ → List ℕ
 words_from k [] byte = []
 words_from k (name ∷ names) byte = pick (bit k byte) (quoted " " ++ quoted name) [] ++ words_from (suc k) names byte
+
+-- the same of words that stand in the program, each behind its blank
+abbrev pub names_from : ℕ → List (Bor (List ℕ)) → ℕ → List ℕ
+names_from k [] byte = []
+names_from k (name ∷ names) byte = pick (bit k byte) name.now [] ++ names_from (suc k) names byte
 
 abbrev pub words_of : List String → ℕ → List ℕ
 words_of names byte = words_from 0 names byte

@@ -1,14 +1,39 @@
 // The words of the bits that are set.
-ghost use Rattle.std.specs.Prelude.{◌≡◌, [], ◌+◌, ◌≤◌};
+ghost use Rattle.std.specs.Prelude.{◌≡◌, ◌==◌, [], ◌≤◌, length};
 ghost use Rattle.base.specs.Pick.{pick};
-ghost use Rattle.base.specs.Bits.{bit};
+ghost use Rattle.text.specs.Quoted.{quoted};
 ghost use Rattle.page.specs.Pieces.{piece, with};
-ghost use Rattle.names.specs.Names.{lsr_words, msr_words, level_words};
-ghost use Rattle.names.specs.Words.{bits_said, lsr_said, msr_said, marks_named, marks_said, levels_said};
+ghost use Rattle.names.specs.Words.{names_from, lsr_said, msr_said, marks_named, marks_said, levels_said};
 
 use page::Piece;
 
 const ALL_LEVELS: u8 = 15;
+
+const LSR: [&[u8]; 8] = [
+    b" data",
+    b" overrun",
+    b" parity",
+    b" framing",
+    b" break",
+    b" holding-empty",
+    b" empty",
+    b" marked",
+];
+
+const MSR: [&[u8]; 8] = [
+    b" CTS-changed",
+    b" DSR-changed",
+    b" RI-ended",
+    b" DCD-changed",
+    b" CTS",
+    b" DSR",
+    b" RI",
+    b" DCD",
+];
+
+const MARKS: [&[u8]; 3] = [b" parity", b" framing", b" break"];
+
+const LEVELS: [&[u8]; 4] = [b" CTS", b" DSR", b" RI", b" DCD"];
 
 // Words that are said where something is so.
 pub fn word(piece: Piece, set: bool, words: &[u8]) -> Piece
@@ -20,90 +45,48 @@ pub fn word(piece: Piece, set: bool, words: &[u8]) -> Piece
     piece
 }
 
-// The words of four bits, from the bit given on.
-pub(crate) fn four(
-    piece: Piece,
-    byte: u8,
-    from: u8,
-    a: &[u8],
-    b: &[u8],
-    c: &[u8],
-    d: &[u8],
-) -> Piece
-    requires { from ≤ 4 }
-    ensures { result ≡ with (with (with (with piece (pick (bit from byte) a.now [])) (pick (bit (from + 1) byte) b.now [])) (pick (bit (from + 2) byte) c.now [])) (pick (bit (from + 3) byte) d.now []) }
+// The names of the bits that are set, each behind a blank, lowest first.
+pub(crate) fn named(piece: Piece, byte: u8, names: &[&[u8]]) -> Piece
+    requires { length names.now ≤ 8 }
+    ensures { result ≡ with piece (names_from 0 names.now byte) }
 {
-    let first = word(piece, base::bit(from, byte), a);
-    let second = word(first, base::bit(from + 1, byte), b);
-    let third = word(second, base::bit(from + 2, byte), c);
-    word(third, base::bit(from + 3, byte), d)
+    let mut said = piece;
+    for (k, name) in names.iter().enumerate() {
+        said = word(said, base::bit(k as u8, byte), name);
+    }
+    said
 }
 
-fn lsr_bits(piece: Piece, byte: u8) -> Piece
-    ensures { result ≡ with piece (bits_said lsr_words byte) }
+// The same, and words for none.
+fn named_or_none(piece: Piece, byte: u8, names: &[&[u8]]) -> Piece
+    requires { length names.now ≤ 8 }
+    ensures { result ≡ with piece (pick (byte == 0) (quoted " none") (names_from 0 names.now byte)) }
 {
     if byte == 0 {
         return piece.text(b" none");
     }
-    let low = four(
-        piece,
-        byte,
-        0,
-        b" data",
-        b" overrun",
-        b" parity",
-        b" framing",
-    );
-    four(
-        low,
-        byte,
-        4,
-        b" break",
-        b" holding-empty",
-        b" empty",
-        b" marked",
-    )
+    named(piece, byte, names)
 }
 
 pub fn lsr(byte: u8) -> Piece
     ensures { result ≡ piece (lsr_said byte) }
 {
     let head = Piece::empty().text(b"LSR ").hex(byte).text(b":");
-    lsr_bits(head, byte)
-}
-
-fn msr_bits(piece: Piece, byte: u8) -> Piece
-    ensures { result ≡ with piece (bits_said msr_words byte) }
-{
-    if byte == 0 {
-        return piece.text(b" none");
-    }
-    let low = four(
-        piece,
-        byte,
-        0,
-        b" CTS-changed",
-        b" DSR-changed",
-        b" RI-ended",
-        b" DCD-changed",
-    );
-    four(low, byte, 4, b" CTS", b" DSR", b" RI", b" DCD")
+    named_or_none(head, byte, &LSR)
 }
 
 pub fn msr(byte: u8) -> Piece
     ensures { result ≡ piece (msr_said byte) }
 {
     let head = Piece::empty().text(b"MSR ").hex(byte).text(b":");
-    msr_bits(head, byte)
+    named_or_none(head, byte, &MSR)
 }
 
 // The words of marks, each behind a blank.
 pub fn marks_named(piece: Piece, marks: u8) -> Piece
     ensures { result ≡ with piece (marks_named marks) }
 {
-    let parity = word(piece, base::bit(base::MARK_PARITY, marks), b" parity");
-    let framing = word(parity, base::bit(base::MARK_FRAMING, marks), b" framing");
-    word(framing, base::bit(base::MARK_BREAK, marks), b" break")
+    named(piece, marks, &MARKS)
 }
 
 // The marks that a character comes with.
@@ -119,15 +102,6 @@ pub fn marks(piece: Piece, marks: u8) -> Piece
     marks_named(piece.text(b" with"), marks)
 }
 
-fn level_bits(piece: Piece, levels: u8) -> Piece
-    ensures { result ≡ with piece (bits_said level_words levels) }
-{
-    if levels == 0 {
-        return piece.text(b" none");
-    }
-    four(piece, levels, 0, b" CTS", b" DSR", b" RI", b" DCD")
-}
-
 // The modem levels that are set.
 pub fn levels(piece: Piece, levels: u8) -> Piece
     ensures { result ≡ with piece (levels_said levels) }
@@ -135,5 +109,5 @@ pub fn levels(piece: Piece, levels: u8) -> Piece
     if ALL_LEVELS < levels {
         return piece.text(b" ").hex(levels);
     }
-    level_bits(piece, levels)
+    named_or_none(piece, levels, &LEVELS)
 }

@@ -5,19 +5,20 @@ use mathlib.Core.List.{List, [], ◌∷◌}
 use mathlib.Core.Logic.{◌⊎◌, inl, inr, ⊎_elim}
 use mathlib.Core.Path.{◌≡◌, refl, sym, ap, ◌∙◌}
 use native.Mathlib.Omega.{arith}
-use lib.Dec.{eqb}
 use lib.ListN.{length, get_or, set}
-use borrow.Author.Tests.{eq-eqb, ne_eqb}
+use Rattle.std.specs.Prelude.{Option, Some, None}
+use Rattle.std.specs.Option.{is_some}
 use Rattle.base.specs.Pick.{pick}
 use Rattle.base.specs.PickLaws.{pick_true, pick_false, pick_either, either_way, not_both}
 use Rattle.text.specs.Quoted.{quoted}
 use Rattle.options.specs.Moments.{same_bytes, moment_of}
 use Rattle.options.specs.SameLaws.{same_only}
 use Rattle.options.specs.Asked as asked
-use Rattle.options.specs.Words.{option, moment, nothing, when, no_words, awaiting, stopped, place_of, once, with_moment, with_when, dashed, Row, table, read_by, option_read, words_after, words_behind, whole}
+use Rattle.options.specs.Words.{option, moment, nothing, when, placed, no_words, awaiting, stopped, place_of, once, with_moment, with_when, dashed, Row, table, read_by, option_read, words_after, words_behind, whole}
 use Rattle.options.specs.WordsRead.{between, Free, Taken, Reads, NoneOf, OptionsRead, NotUnderstood, TableFollowed}
 use Rattle.options.specs.declared.Moment.{Moment}
-use Rattle.options.specs.declared.Moment.TheVariants.{Behind, End, Unread}
+use Rattle.options.specs.declared.Moment.TheVariants.{Behind, End}
+use Rattle.options.specs.declared.Awaited.{Awaited}
 use Rattle.options.specs.declared.Words.{Words}
 
 -- a word that is another is not this one
@@ -53,26 +54,30 @@ module _ (s : Words) (place : ℕ) (word : List ℕ) where
 
 -- ---- once
 
-module _ (m : Moment) (places : List ℕ) (what next place : ℕ) where
-  asks : Free places what → once what next (between m places) place ≡ record { awaited = next; moment = m; asked = set places what place; wrong = 0 }
+some_taken : (o : Option ℕ) → (o ≡ None → ⊥) → is_some o ≡ true
+some_taken None taken = absurd (taken refl)
+some_taken (Some place) taken = refl
+
+module _ (m : Option Moment) (places : List (Option ℕ)) (what : ℕ) (next : Awaited) (place : ℕ) where
+  asks : Free places what → once what next (between m places) place ≡ record { awaited = next; moment = m; asked = set places what (placed place); wrong = None }
   unfolding once place_of
-  asks free = pick_true _ _ _ (eq-eqb _ 0 free)
+  asks free = pick_false _ _ _ (ap is_some free)
 
   asks_twice : Taken places what → once what next (between m places) place ≡ stopped (between m places) place
   unfolding once place_of
-  asks_twice taken = pick_false _ _ _ (ne_eqb _ 0 taken)
+  asks_twice taken = pick_true _ _ _ (some_taken _ taken)
 
-module _ (m : Moment) (places : List ℕ) (place : ℕ) where
-  save_read_lem : (count : ℕ) (when file : List ℕ) → moment_of when ≡ Behind count
-      → Reads m places place (quoted "--save-at" ∷ when ∷ file ∷ []) (between (Behind count) places)
+module _ (m : Option Moment) (places : List (Option ℕ)) (place : ℕ) where
+  save_read_lem : (count : ℕ) (when file : List ℕ) → moment_of when ≡ Some (Behind count)
+      → Reads m places place (quoted "--save-at" ∷ when ∷ file ∷ []) (between (Some (Behind count)) places)
   unfolding words_after option_read same_bytes pick
   save_read_lem count when file e = rw e
 
-  save_end_read : (when file : List ℕ) → moment_of when ≡ End → Reads m places place (quoted "--save-at" ∷ when ∷ file ∷ []) (between End places)
+  save_end_read : (when file : List ℕ) → moment_of when ≡ Some End → Reads m places place (quoted "--save-at" ∷ when ∷ file ∷ []) (between (Some End) places)
   unfolding words_after option_read same_bytes pick
   save_end_read when file e = rw e
 
-  moment_stops : (when : List ℕ) → moment_of when ≡ Unread → Reads m places place (quoted "--save-at" ∷ when ∷ []) (stopped (between m places) (suc place))
+  moment_stops : (when : List ℕ) → moment_of when ≡ None → Reads m places place (quoted "--save-at" ∷ when ∷ []) (stopped (between m places) (suc place))
   unfolding words_after option_read same_bytes pick
   moment_stops when e = rw e
 
@@ -107,7 +112,7 @@ module _ (m : Moment) (places : List ℕ) (place : ℕ) where
 
   -- behind `--show` its moment is read
   show_read_lem : Free places asked.show → (word : List ℕ)
-      → Reads m places place (quoted "--show" ∷ word ∷ []) (with_when (record { awaited = when; moment = m; asked = set places asked.show place; wrong = 0 }) (suc place) word)
+      → Reads m places place (quoted "--show" ∷ word ∷ []) (with_when (record { awaited = when; moment = m; asked = set places asked.show (placed place); wrong = None }) (suc place) word)
   unfolding words_after option_read same_bytes pick
   show_read_lem free word = rw (asks m places asked.show when place free)
 
@@ -115,13 +120,13 @@ module _ (m : Moment) (places : List ℕ) (place : ℕ) where
   unfolding words_after option_read pick
   option_stops word t none = no_option (between m places) place word table none ∙ pick_true _ _ _ t
 
-each_read : (m : Moment) (places : List ℕ) (place : ℕ) → Free places asked.show → Free (set places asked.show place) asked.each
-    → Reads m places place (quoted "--show" ∷ quoted "each" ∷ []) (between m (set (set places asked.show place) asked.each (suc place)))
+each_read : (m : Option Moment) (places : List (Option ℕ)) (place : ℕ) → Free places asked.show → Free (set places asked.show (placed place)) asked.each
+    → Reads m places place (quoted "--show" ∷ quoted "each" ∷ []) (between m (set (set places asked.show (placed place)) asked.each (Some (suc place))))
 unfolding with_when same_bytes pick once place_of
 each_read m places place free never = show_read_lem m places place free (quoted "each") ∙ rw never
 
-end_read : (m : Moment) (places : List ℕ) (place : ℕ) → Free places asked.show
-    → Reads m places place (quoted "--show" ∷ quoted "end" ∷ []) (between m (set places asked.show place))
+end_read : (m : Option Moment) (places : List (Option ℕ)) (place : ℕ) → Free places asked.show
+    → Reads m places place (quoted "--show" ∷ quoted "end" ∷ []) (between m (set places asked.show (placed place)))
 unfolding with_when same_bytes pick
 end_read m places place free = show_read_lem m places place free (quoted "end")
 
@@ -141,18 +146,18 @@ options_read = record {
 
 -- ---- not understood
 
-when_stops : (m : Moment) (places : List ℕ) (place : ℕ) (word : List ℕ) → Free places asked.show
+when_stops : (m : Option Moment) (places : List (Option ℕ)) (place : ℕ) (word : List ℕ) → Free places asked.show
     → (word ≡ quoted "each" → ⊥) → (word ≡ quoted "end" → ⊥)
-    → Reads m places place (quoted "--show" ∷ word ∷ []) (stopped (between m (set places asked.show place)) (suc place))
+    → Reads m places place (quoted "--show" ∷ word ∷ []) (stopped (between m (set places asked.show (placed place))) (suc place))
 unfolding with_when
 when_stops m places place word free each end =
     show_read_lem m places place free word ∙ pick_false _ _ _ (other (quoted "each") word each) ∙ pick_false _ _ _ (other (quoted "end") word end)
 
 -- one that awaits nothing
-abbrev over : Moment → List ℕ → ℕ → Words
+abbrev over : Option Moment → List (Option ℕ) → Option ℕ → Words
 over m places wrong = record { awaited = nothing; moment = m; asked = places; wrong = wrong }
 
-over_stays : (m : Moment) (places : List ℕ) (wrong place : ℕ) (words : List (List ℕ)) → words_behind (over m places wrong) place words ≡ over m places wrong
+over_stays : (m : Option Moment) (places : List (Option ℕ)) (wrong : Option ℕ) (place : ℕ) (words : List (List ℕ)) → words_behind (over m places wrong) place words ≡ over m places wrong
 unfolding words_after pick
 over_stays m places wrong place [] = refl
 over_stays m places wrong place (word ∷ words) = over_stays m places wrong (suc place) words
@@ -186,17 +191,15 @@ Ended s = (s.awaited ≡ option) ⊎ (s.awaited ≡ nothing)
 abbrev save_read : Words
 save_read = awaiting no_words moment
 
-file_missing : (place : ℕ) (m : Moment) → whole (with_moment save_read place m) ≡ false
+file_missing : (place : ℕ) (m : Option Moment) → whole (with_moment save_read place m) ≡ false
 unfolding whole
-file_missing place (Behind count) = refl
-file_missing place End = refl
-file_missing place Unread = refl
+file_missing place (Some m) = refl
+file_missing place None = refl
 
-save_ended : (place : ℕ) (m : Moment) (file : List ℕ) → Ended (words_after (with_moment save_read place m) (suc place) file)
+save_ended : (place : ℕ) (m : Option Moment) (file : List ℕ) → Ended (words_after (with_moment save_read place m) (suc place) file)
 unfolding words_after pick
-save_ended place (Behind count) file = inl refl
-save_ended place End file = inl refl
-save_ended place Unread file = inr refl
+save_ended place (Some m) file = inl refl
+save_ended place None file = inr refl
 
 save_fewer : (place : ℕ) (words : List (List ℕ)) → length words < 2 → whole (words_behind no_words place (quoted "--save-at" ∷ words)) ≡ false
 unfolding words_after option_read same_bytes pick whole
@@ -270,13 +273,13 @@ show_missing place = refl
 
 -- the state is asked for, and its moment is next
 abbrev show_read : ℕ → Words
-show_read place = record { awaited = when; moment = Unread; asked = set no_words.asked asked.show place; wrong = 0 }
+show_read place = record { awaited = when; moment = None; asked = set no_words.asked asked.show (placed place); wrong = None }
 
 when_ended : (place : ℕ) (word : List ℕ) → Ended (with_when (show_read place) (suc place) word)
 unfolding with_when once place_of
 when_ended place word =
     pick_either Ended (same_bytes word (quoted "each")) _ _
-    (pick_either Ended (eqb (get_or (show_read place).asked asked.each 0) 0) _ _ (inl refl) (inr refl))
+    (pick_either Ended (is_some (get_or (show_read place).asked asked.each None)) _ _ (inr refl) (inl refl))
     (pick_either Ended (same_bytes word (quoted "end")) _ _ (inl refl) (inr refl))
 
 show_ended : (place : ℕ) (word : List ℕ) → Ended (words_after (words_after no_words place (quoted "--show")) (suc place) word)

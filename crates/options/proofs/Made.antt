@@ -1,12 +1,12 @@
 -- Which saves are due, and where a run stops for them.
 use Prim.Native.Nat.{ℕ, ◌≤◌, ◌<◌}
-use mathlib.Core.Path.{◌≡◌, refl, ◌∙◌}
+use mathlib.Core.Path.{◌≡◌, refl}
 use native.Mathlib.Omega.{arith}
-use lib.Dec.{eqb, ltb}
+use Rattle.std.specs.Prelude.{Option, Some, None}
+use lib.Dec.{ltb}
 use borrow.Author.Tests.{lt-ltb, le-ltb, ltb-true, ltb-false, eq-eqb, ne_eqb}
 use Rattle.base.specs.PickLaws.{pick_true, pick_false, pick_cases}
-use Rattle.options.specs.Words.{file}
-use Rattle.options.specs.Saves.{due_at, due_of, stop_behind, stop_at, stop_of}
+use Rattle.options.specs.Saves.{due_by, due_of, save_next, stop_behind, stop_by, stop_of}
 use Rattle.options.specs.SavesMade.{MadeOnce, NonePassed}
 use Rattle.options.specs.declared.Moment.{Moment}
 use Rattle.options.specs.declared.Moment.TheVariants as moment
@@ -26,15 +26,15 @@ made_once = record {
 
 -- ---- where a run stops
 
--- what is said of a save at a moment, by the number r behind which the run stops
-pub record Stops (m : Moment) (from most r : ℕ) : Type 0 where
+-- what is said of a save, if there is one, by the number r behind which the run stops
+pub record Stops (m : Option Moment) (from most r : ℕ) : Type 0 where
   pub onward : from < most → from < r
   pub inside : r ≤ most
-  pub passed : (k : ℕ) → from < k → k < r → due_at m (stands.Behind k) ≡ No
-  pub due : r < most → due_at m (stands.Behind r) ≡ Save
+  pub passed : (k : ℕ) → from < k → k < r → due_by m (stands.Behind k) ≡ No
+  pub due : r < most → due_by m (stands.Behind r) ≡ Save
 
 -- a save that is due at none of the records
-never : (m : Moment) (from most : ℕ) → ((k : ℕ) → from < k → k < most → due_at m (stands.Behind k) ≡ No) → Stops m from most most
+never : (m : Option Moment) (from most : ℕ) → ((k : ℕ) → from < k → k < most → due_by m (stands.Behind k) ≡ No) → Stops m from most most
 never m from most none = record {
   onward = λ h. h;
   inside = omega arith;
@@ -42,52 +42,32 @@ never m from most none = record {
   due = λ h. absurd (omega arith);
 }
 
-behind_stops : (count from most : ℕ) → Stops (moment.Behind count) from most (stop_behind count from most)
+behind_stops : (count from most : ℕ) → Stops (Some (moment.Behind count)) from most (stop_behind count from most)
 unfolding stop_behind
 behind_stops count from most =
-    pick_cases (Stops (moment.Behind count) from most) (ltb from count) _ _
+    pick_cases (Stops (Some (moment.Behind count)) from most) (ltb from count) _ _
     (λ t.
-    pick_cases (Stops (moment.Behind count) from most) (ltb count most) _ _
+    pick_cases (Stops (Some (moment.Behind count)) from most) (ltb count most) _ _
     (λ u. record {
       onward = λ h. ltb-true from count t;
       inside = omega (arith, ltb-true count most u);
       passed = λ k low high. made_once.nowhere count k (λ e. omega arith);
       due = λ h. made_once.made count count (omega arith);
     })
-    (λ f. never (moment.Behind count) from most (λ k low high. made_once.nowhere count k (λ e. omega (arith, ltb-false count most f)))))
-    (λ f. never (moment.Behind count) from most (λ k low high. made_once.nowhere count k (λ e. omega (arith, ltb-false from count f))))
+    (λ f. never (Some (moment.Behind count)) from most (λ k low high. made_once.nowhere count k (λ e. omega (arith, ltb-false count most f)))))
+    (λ f. never (Some (moment.Behind count)) from most (λ k low high. made_once.nowhere count k (λ e. omega (arith, ltb-false from count f))))
 
-moment_stops : (m : Moment) (from most : ℕ) → Stops m from most (stop_at m from most)
-moment_stops (moment.Behind count) from most = behind_stops count from most
-moment_stops moment.End from most = never moment.End from most (λ k low high. refl)
-moment_stops moment.Unread from most = never moment.Unread from most (λ k low high. refl)
+next_stops : (m : Option Moment) (from most : ℕ) → Stops m from most (stop_by m from most)
+next_stops (Some (moment.Behind count)) from most = behind_stops count from most
+next_stops (Some moment.End) from most = never (Some moment.End) from most (λ k low high. refl)
+next_stops None from most = never None from most (λ k low high. refl)
 
--- the same of the words, where the file of a save is next or not
-pub record WordsStop (s : Words) (from most r : ℕ) : Type 0 where
-  pub onward : from < most → from < r
-  pub inside : r ≤ most
-  pub passed : (k : ℕ) → from < k → k < r → due_of s (stands.Behind k) ≡ No
-  pub due : r < most → due_of s (stands.Behind r) ≡ Save
-
-words_stop : (s : Words) (from most : ℕ) → WordsStop s from most (stop_of s from most)
-unfolding stop_of due_of
-words_stop s from most =
-    let at : Stops s.moment from most (stop_at s.moment from most) = moment_stops s.moment from most in
-    pick_cases (WordsStop s from most) (eqb s.awaited file) _ _
-    (λ t. record {
-      onward = at.onward;
-      inside = at.inside;
-      passed = λ k low high. pick_true _ _ _ t ∙ at.passed k low high;
-      due = λ h. pick_true _ _ _ t ∙ at.due h;
-    })
-    (λ f. record {
-      onward = λ h. h;
-      inside = omega arith;
-      passed = λ k low high. pick_false _ _ _ f;
-      due = λ h. absurd (omega arith);
-    })
+words_stop : (s : Words) (from most : ℕ) → Stops (save_next s) from most (stop_of s from most)
+unfolding stop_of
+words_stop s from most = next_stops (save_next s) from most
 
 pub none_passed : NonePassed
+unfolding due_of
 none_passed = record {
   onward = λ s from most h. ((words_stop s from most).onward h, (words_stop s from most).inside);
   passed = λ s from most k low high. (words_stop s from most).passed k low high;

@@ -5,6 +5,7 @@ use mathlib.Core.List.{List, [], ◌∷◌}
 use mathlib.Core.Logic.{◌⊎◌, inl, inr, ⊎_elim}
 use mathlib.Core.Path.{◌≡◌, refl, sym, ap, subst, ◌∙◌}
 use native.Mathlib.Omega.{arith}
+use Rattle.std.specs.Prelude.{Option, Some, None}
 use lib.Dec.{eqb, ltb}
 use lib.ListN.{length}
 use borrow.Author.Tests.{lt-ltb, le-ltb, ltb-true, ltb-false, eqb-false, ne_eqb}
@@ -20,7 +21,7 @@ use Rattle.options.specs.Moments.{many, same_bytes, is, with_digit, number_from,
 use Rattle.options.specs.SameLaws.{same_only}
 use Rattle.options.specs.SaveMoments.{count_of, MomentsRead, MomentsOnly}
 use Rattle.options.specs.declared.Moment.{Moment}
-use Rattle.options.specs.declared.Moment.TheVariants.{Behind, End, Unread}
+use Rattle.options.specs.declared.Moment.TheVariants.{Behind, End}
 
 -- ---- what digits denote
 
@@ -42,7 +43,7 @@ enough : (n digit : ℕ) → many ≤ n → with_digit n digit ≡ n
 unfolding with_digit
 enough n digit h = pick_false _ _ _ (le-ltb n many h)
 
-number_denoted : (n : ℕ) (word : List ℕ) → Digits word → denoted n word < many → number_from n word ≡ Behind (denoted n word + 1)
+number_denoted : (n : ℕ) (word : List ℕ) → Digits word → denoted n word < many → number_from n word ≡ Some (Behind (denoted n word + 1))
 unfolding number_from
 number_denoted n [] all h = refl
 number_denoted n (c ∷ word) (low, high, all) h =
@@ -51,7 +52,7 @@ number_denoted n (c ∷ word) (low, high, all) h =
     ∙ ap (λ (k : ℕ). number_from k word) (small n (c - 48) less)
     ∙ number_denoted (10 * n + (c - 48)) word all h
 
-number_stays : (n : ℕ) (word : List ℕ) → Digits word → many ≤ n → number_from n word ≡ Behind (n + 1)
+number_stays : (n : ℕ) (word : List ℕ) → Digits word → many ≤ n → number_from n word ≡ Some (Behind (n + 1))
 unfolding number_from
 number_stays n [] all h = refl
 number_stays n (c ∷ word) (low, high, all) h =
@@ -64,11 +65,11 @@ number_large n [] all h = omega arith
 number_large n (c ∷ word) (low, high, all) h =
     ⊎_elim
     (λ (t : ltb n many ≡ true).
-    subst (λ (m : Moment). many < count_of m)
+    subst (λ (m : Option Moment). many < count_of m)
     (sym (digit_on n c word low high ∙ ap (λ (k : ℕ). number_from k word) (small n (c - 48) (ltb-true n many t))))
     (number_large (10 * n + (c - 48)) word all h))
     (λ (f : ltb n many ≡ false).
-    subst (λ (m : Moment). many < count_of m) (sym (number_stays n (c ∷ word) (low, high, all) (ltb-false n many f)))
+    subst (λ (m : Option Moment). many < count_of m) (sym (number_stays n (c ∷ word) (low, high, all) (ltb-false n many f)))
     (omega (arith, ltb-false n many f)))
     (either_way (ltb n many))
 
@@ -95,19 +96,19 @@ unfolding moment_of number_of
 digits_number word all some =
     pick_false _ _ _ (no_start word all) ∙ pick_false _ _ _ (no_end word all) ∙ pick_false _ _ _ (ne_eqb (length word) 0 (λ e. omega arith))
 
-digits_read : (word : List ℕ) → Digits word → 0 < length word → denoted 0 word < many → moment_of word ≡ Behind (denoted 0 word + 1)
+digits_read : (word : List ℕ) → Digits word → 0 < length word → denoted 0 word < many → moment_of word ≡ Some (Behind (denoted 0 word + 1))
 digits_read word all some h = digits_number word all some ∙ number_denoted 0 word all h
 
-listed_read : (n : ℕ) → n < many → moment_of (decimal n) ≡ Behind (n + 1)
+listed_read : (n : ℕ) → n < many → moment_of (decimal n) ≡ Some (Behind (n + 1))
 listed_read n h =
     digits_read (decimal n) (decimal_digits n) (omega (arith, front_length n)) (subst (λ (k : ℕ). k < many) (sym (decimal_denotes n)) h)
-    ∙ ap (λ (k : ℕ). Behind (k + 1)) (decimal_denotes n)
+    ∙ ap (λ (k : ℕ). Some (Behind (k + 1))) (decimal_denotes n)
 
-start_read : moment_of (quoted "start") ≡ Behind 0
+start_read : moment_of (quoted "start") ≡ Some (Behind 0)
 unfolding moment_of same_bytes pick
 start_read = refl
 
-end_read : moment_of (quoted "end") ≡ End
+end_read : moment_of (quoted "end") ≡ Some End
 unfolding moment_of same_bytes pick
 end_read = refl
 
@@ -117,22 +118,22 @@ moments_read = record {
   end = end_read;
   listed = listed_read;
   digits = digits_read;
-  large = λ word all some h. subst (λ (m : Moment). many < count_of m) (sym (digits_number word all some)) (number_large 0 word all h);
+  large = λ word all some h. subst (λ (m : Option Moment). many < count_of m) (sym (digits_number word all some)) (number_large 0 word all h);
 }
 
 -- ---- no other word
 
-unread_count : (count : ℕ) → Unread ≡ Behind count → ⊥
-unread_count count e = let z : ◌≡◌ {A = ℕ} 0 1 = cc in omega arith
+none_behind : (count : ℕ) → None ≡ Some (Behind count) → ⊥
+none_behind count e = cc
 
-unread_end : Unread ≡ End → ⊥
-unread_end e = let z : ◌≡◌ {A = ℕ} 0 1 = cc in omega arith
+none_end : None ≡ Some End → ⊥
+none_end e = cc
 
-behind_end : (count : ℕ) → Behind count ≡ End → ⊥
-behind_end count e = let z : ◌≡◌ {A = ℕ} 0 1 = cc in omega arith
+behind_end : (count : ℕ) → Some (Behind count) ≡ Some End → ⊥
+behind_end count e = cc
 
 -- what is no digit makes it no number
-all_digits : (n : ℕ) (word : List ℕ) → (number_from n word ≡ Unread → ⊥) → Digits word
+all_digits : (n : ℕ) (word : List ℕ) → (number_from n word ≡ None → ⊥) → Digits word
 unfolding number_from
 all_digits n [] read = tt
 all_digits n (c ∷ word) read =
@@ -143,18 +144,18 @@ all_digits n (c ∷ word) read =
     (λ (f : ltb (worth c) 10 ≡ false). absurd (read (pick_false _ _ _ f)))
     (either_way (ltb (worth c) 10))
 
-number_end_lem : (n : ℕ) (word : List ℕ) → number_from n word ≡ End → ⊥
+number_end_lem : (n : ℕ) (word : List ℕ) → number_from n word ≡ Some End → ⊥
 unfolding number_from
 number_end_lem n [] e = behind_end (n + 1) e
 number_end_lem n (c ∷ word) e =
     ⊎_elim
     (λ (t : ltb (worth c) 10 ≡ true). number_end_lem (with_digit n (worth c)) word (sym (pick_true _ _ _ t) ∙ e))
-    (λ (f : ltb (worth c) 10 ≡ false). unread_end (sym (pick_false _ _ _ f) ∙ e))
+    (λ (f : ltb (worth c) 10 ≡ false). absurd (none_end (sym (pick_false _ _ _ f) ∙ e)))
     (either_way (ltb (worth c) 10))
 
 -- the three ways in which a word is read
 module _ (word : List ℕ) where
-  not_number : (m : Moment) → number_of word ≡ m → (m ≡ Unread → ⊥) → Digits word × (0 < length word)
+  not_number : (m : Option Moment) → number_of word ≡ m → (m ≡ None → ⊥) → Digits word × (0 < length word)
   unfolding number_of
   not_number m e read =
       ⊎_elim
@@ -163,15 +164,15 @@ module _ (word : List ℕ) where
       (all_digits 0 word (λ u. read (sym e ∙ pick_false _ _ _ f ∙ u)), omega (arith, eqb-false (length word) 0 f)))
       (either_way (eqb (length word) 0))
 
-  number_no_end : number_of word ≡ End → ⊥
+  number_no_end : number_of word ≡ Some End → ⊥
   unfolding number_of
   number_no_end e =
       ⊎_elim
-      (λ (t : eqb (length word) 0 ≡ true). unread_end (sym (pick_true _ _ _ t) ∙ e))
+      (λ (t : eqb (length word) 0 ≡ true). absurd (none_end (sym (pick_true _ _ _ t) ∙ e)))
       (λ (f : eqb (length word) 0 ≡ false). number_end_lem 0 word (sym (pick_false _ _ _ f) ∙ e))
       (either_way (eqb (length word) 0))
 
-  behind_only : (count : ℕ) → moment_of word ≡ Behind count → (word ≡ quoted "start") ⊎ (Digits word × (0 < length word))
+  behind_only : (count : ℕ) → moment_of word ≡ Some (Behind count) → (word ≡ quoted "start") ⊎ (Digits word × (0 < length word))
   unfolding moment_of
   behind_only count e =
       ⊎_elim
@@ -180,11 +181,11 @@ module _ (word : List ℕ) where
       ⊎_elim
       (λ (t : is "end" word ≡ true). absurd (behind_end count (sym e ∙ pick_false _ _ _ f ∙ pick_true _ _ _ t)))
       (λ (g : is "end" word ≡ false).
-      inr (not_number (Behind count) (sym (pick_false _ _ _ f ∙ pick_false _ _ _ g) ∙ e) (λ u. unread_count count (sym u))))
+      inr (not_number (Some (Behind count)) (sym (pick_false _ _ _ f ∙ pick_false _ _ _ g) ∙ e) (λ u. none_behind count (sym u))))
       (either_way (is "end" word)))
       (either_way (is "start" word))
 
-  end_only : moment_of word ≡ End → word ≡ quoted "end"
+  end_only : moment_of word ≡ Some End → word ≡ quoted "end"
   unfolding moment_of
   end_only e =
       ⊎_elim

@@ -1,4 +1,4 @@
--- What the words may ask for once, by number: at each the place of its word is kept, 0 for none.
+-- What the words may ask for once, by number: of each the place of its word is kept, if there is one.
 use Rattle.std.specs.Prelude.{ℕ}
 
 abbrev pub lesson : ℕ

@@ -10,7 +10,6 @@ mod saves;
 pub enum Moment {
     Behind(u64),
     End,
-    Unread,
 }
 
 // Where a run stands: behind so many records, or at its end, with so many behind it.
@@ -46,35 +45,30 @@ pub const TIMELINE: usize = 6;
 
 pub(crate) const ASKED: usize = 7;
 
-// The words as far as they are read: what the next one is, and the moment of the save that was read last; where each thing is asked for that may be
-// once, 0 for nowhere; `wrong` is the place of a word that is not understood.
+// What the next word is.
 #[derive(Clone, Copy)]
-pub struct Words {
-    pub(crate) awaited: u8,
-    pub(crate) moment: Moment,
-    pub(crate) asked: [usize; ASKED],
-    pub wrong: usize,
+pub(crate) enum Awaited {
+    // An option, or a lesson's name.
+    Word,
+    Moment,
+    File,
+    Image,
+    // A lesson's name, whatever it begins with.
+    Lesson,
+    // Behind which records the state is shown.
+    When,
+    // The file for the timeline.
+    Timeline,
+    // A word is not understood, and nothing is read any more.
+    Nothing,
 }
 
-impl Words {
-    // An option, or a lesson's name.
-    pub(crate) const OPTION: u8 = 0;
-
-    pub(crate) const MOMENT: u8 = 1;
-
-    pub(crate) const FILE: u8 = 2;
-
-    pub(crate) const IMAGE: u8 = 3;
-
-    // A lesson's name, whatever it begins with.
-    pub(crate) const LESSON: u8 = 4;
-
-    // A word is not understood, and nothing is read any more.
-    pub(crate) const NOTHING: u8 = 5;
-
-    // Behind which records the state is shown.
-    pub(crate) const WHEN: u8 = 6;
-
-    // The file for the timeline.
-    pub(crate) const TIMELINE: u8 = 7;
+// The words as far as they are read: what the next one is, and the moment of the save that was read last; where each thing is asked for that may be
+// once; `wrong` is the place of a word that is not understood.
+#[derive(Clone, Copy)]
+pub struct Words {
+    pub(crate) awaited: Awaited,
+    pub(crate) moment: Option<Moment>,
+    pub(crate) asked: [Option<usize>; ASKED],
+    pub wrong: Option<usize>,
 }

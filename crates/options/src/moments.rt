@@ -18,43 +18,43 @@ fn with_digit(n: u64, digit: u8) -> u64
     ensures { (result ≡ with_digit n digit) × (result ≤ 11529215046068469769) }
 {
     if n < MANY {
-        return 10 * n + digit as u64;
+        return 10 * n + u64::from(digit);
     }
     n
 }
 
 // Behind the record of the number that the digits are.
-fn counted(word: &[u8]) -> Moment
+fn counted(word: &[u8]) -> Option<Moment>
     ensures { result ≡ number_from 0 word.now }
 {
     let mut n: u64 = 0;
-    for i in 0..word.len() {
-        let digit = text::digit(word[i]);
+    for c in word {
+        let digit = text::digit(*c)?;
         if 10 <= digit {
-            return Moment::Unread;
+            return None;
         }
         n = with_digit(n, digit);
     }
-    Moment::Behind(n + 1)
+    Some(Moment::Behind(n + 1))
 }
 
-fn number(word: &[u8]) -> Moment
+fn number(word: &[u8]) -> Option<Moment>
     ensures { result ≡ number_of word.now }
 {
-    if word.len() == 0 {
-        return Moment::Unread;
+    if word.is_empty() {
+        return None;
     }
     counted(word)
 }
 
-pub(crate) fn read(word: &[u8]) -> Moment
+pub(crate) fn read(word: &[u8]) -> Option<Moment>
     ensures { result ≡ moment_of word.now }
 {
     if is_word(word, b"start") {
-        return Moment::Behind(0);
+        return Some(Moment::Behind(0));
     }
     if is_word(word, b"end") {
-        return Moment::End;
+        return Some(Moment::End);
     }
     number(word)
 }

@@ -1,17 +1,23 @@
 // The words, one after the other.
 ghost use Rattle.std.specs.Prelude.{◌≡◌, ◌<◌};
-ghost use Rattle.options.specs.Words.{no_words, awaiting, stopped, once, place_of, saving, with_moment, with_when, dashed, read_by, further, option_read, words_after, whole};
+ghost use Rattle.options.specs.Words.{placed, no_words, awaiting, stopped, once, place_of, saving, with_moment, with_when, dashed, read_by, further, option_read, words_after, whole};
 
 use crate::moments::is_word;
-use crate::{ASKED, EACH, EXPLAIN, IMAGE, LESSON, Moment, SHOW, TALLIES, TIMELINE, Words, moments};
+use crate::{
+    ASKED, Awaited, EACH, EXPLAIN, IMAGE, LESSON, Moment, SHOW, TALLIES, TIMELINE, Words, moments,
+};
 
 fn is_dashed(word: &[u8]) -> bool
     ensures { result ≡ dashed word.now }
 {
-    if word.len() == 0 {
-        return false;
-    }
-    word[0] == b'-'
+    matches!(word, [b'-', ..])
+}
+
+// Words are counted from 1, and so 0 is the place of none.
+fn placed(place: usize) -> Option<usize>
+    ensures { result ≡ placed place }
+{
+    (place != 0).then_some(place)
 }
 
 impl Words {
@@ -19,14 +25,14 @@ impl Words {
         ensures { result ≡ no_words }
     {
         Words {
-            awaited: Words::OPTION,
-            moment: Moment::Unread,
-            asked: [0usize; ASKED],
-            wrong: 0,
+            awaited: Awaited::Word,
+            moment: None,
+            asked: [None; ASKED],
+            wrong: None,
         }
     }
 
-    fn awaiting(mut self, awaited: u8) -> Words
+    fn awaiting(mut self, awaited: Awaited) -> Words
         ensures { result ≡ awaiting self awaited }
     {
         self.awaited = awaited;
@@ -36,43 +42,38 @@ impl Words {
     fn stopped(mut self, place: usize) -> Words
         ensures { result ≡ stopped self place }
     {
-        self.awaited = Words::NOTHING;
-        self.wrong = place;
+        self.awaited = Awaited::Nothing;
+        self.wrong = placed(place);
         self
     }
 
     // Asked for at this place, unless it is already.
-    fn once(mut self, what: usize, next: u8, place: usize) -> Words
+    fn once(mut self, what: usize, next: Awaited, place: usize) -> Words
         requires { what < 7 }
         ensures { result ≡ once what next self place }
     {
-        if self.asked[what] == 0 {
-            self.awaited = next;
-            self.asked[what] = place;
-            return self;
+        if self.asked[what].is_some() {
+            return self.stopped(place);
         }
-        self.stopped(place)
+        self.awaited = next;
+        self.asked[what] = placed(place);
+        self
     }
 
-    fn saving(self, moment: Moment) -> Words
+    fn saving(mut self, moment: Moment) -> Words
         ensures { result ≡ saving self moment }
     {
-        let asked = self.asked;
-        Words {
-            awaited: Words::FILE,
-            moment,
-            asked,
-            wrong: self.wrong,
-        }
+        self.awaited = Awaited::File;
+        self.moment = Some(moment);
+        self
     }
 
-    fn with_moment(self, place: usize, moment: Moment) -> Words
+    fn with_moment(self, place: usize, moment: Option<Moment>) -> Words
         ensures { result ≡ with_moment self place moment }
     {
         match moment {
-            Moment::Behind(count) => self.saving(Moment::Behind(count)),
-            Moment::End => self.saving(Moment::End),
-            Moment::Unread => self.stopped(place),
+            Some(moment) => self.saving(moment),
+            None => self.stopped(place),
         }
     }
 
@@ -80,10 +81,10 @@ impl Words {
         ensures { result ≡ with_when self place word.now }
     {
         if is_word(word, b"each") {
-            return self.once(EACH, Words::OPTION, place);
+            return self.once(EACH, Awaited::Word, place);
         }
         if is_word(word, b"end") {
-            return self.awaiting(Words::OPTION);
+            return self.awaiting(Awaited::Word);
         }
         self.stopped(place)
     }
@@ -92,16 +93,16 @@ impl Words {
         ensures { result ≡ option_read self place word.now }
     {
         if is_word(word, b"--save-at") {
-            return self.awaiting(Words::MOMENT);
+            return self.awaiting(Awaited::Moment);
         }
         if is_word(word, b"--restore") {
-            return self.awaiting(Words::IMAGE);
+            return self.awaiting(Awaited::Image);
         }
         if is_word(word, b"--tallies") {
-            return self.once(TALLIES, Words::OPTION, place);
+            return self.once(TALLIES, Awaited::Word, place);
         }
         if is_word(word, b"--explain") {
-            return self.once(EXPLAIN, Words::OPTION, place);
+            return self.once(EXPLAIN, Awaited::Word, place);
         }
         self.with_further(place, word)
     }
@@ -110,51 +111,47 @@ impl Words {
         ensures { result ≡ read_by further self place word.now }
     {
         if is_word(word, b"--show") {
-            return self.once(SHOW, Words::WHEN, place);
+            return self.once(SHOW, Awaited::When, place);
         }
         if is_word(word, b"--vcd") {
-            return self.awaiting(Words::TIMELINE);
+            return self.awaiting(Awaited::Timeline);
         }
         if is_word(word, b"--") {
-            return self.awaiting(Words::LESSON);
+            return self.awaiting(Awaited::Lesson);
         }
         if is_dashed(word) {
             return self.stopped(place);
         }
-        self.once(LESSON, Words::OPTION, place)
+        self.once(LESSON, Awaited::Word, place)
     }
 
     // Behind one more word, which stands at this place.
     pub fn after(self, place: usize, word: &[u8]) -> Words
         ensures { result ≡ words_after self place word.now }
     {
-        let awaited = self.awaited;
-        match awaited {
-            Words::OPTION => self.with_option(place, word),
-            Words::MOMENT => self.with_moment(place, moments::read(word)),
-            Words::FILE => self.awaiting(Words::OPTION),
-            Words::IMAGE => self.once(IMAGE, Words::OPTION, place),
-            Words::LESSON => self.once(LESSON, Words::OPTION, place),
-            Words::WHEN => self.with_when(place, word),
-            Words::TIMELINE => self.once(TIMELINE, Words::OPTION, place),
-            _ => self,
+        match self.awaited {
+            Awaited::Word => self.with_option(place, word),
+            Awaited::Moment => self.with_moment(place, moments::read(word)),
+            Awaited::File => self.awaiting(Awaited::Word),
+            Awaited::Image => self.once(IMAGE, Awaited::Word, place),
+            Awaited::Lesson => self.once(LESSON, Awaited::Word, place),
+            Awaited::When => self.with_when(place, word),
+            Awaited::Timeline => self.once(TIMELINE, Awaited::Word, place),
+            Awaited::Nothing => self,
         }
     }
 
-    // Where a thing is asked for that may be once; 0 for nowhere.
-    pub fn place_of(self, what: usize) -> usize
+    // Where a thing is asked for that may be once.
+    pub fn place_of(self, what: usize) -> Option<usize>
         ensures { result ≡ place_of self what }
     {
-        if what < ASKED {
-            return self.asked[what];
-        }
-        0
+        *self.asked.get(what)?
     }
 
     // Whether every word is understood and none is missing.
     pub fn are_whole(self) -> bool
         ensures { result ≡ whole self }
     {
-        self.awaited == Words::OPTION
+        matches!(self.awaited, Awaited::Word)
     }
 }

@@ -1,21 +1,15 @@
 // Whether the next word is the file of a save, and when that save is due.
 ghost use Rattle.std.specs.Prelude.{◌≡◌, ◌≤◌, ◌<◌};
-ghost use Rattle.options.specs.Saves.{due_behind, due_end, due_at, due_of, stop_behind, stop_at, stop_of};
+ghost use Rattle.options.specs.Saves.{due_behind, due_end, due_at, save_next, due_of, stop_behind, stop_at, stop_of};
 
-use crate::{Due, Moment, Now, Words};
+use crate::{Awaited, Due, Moment, Now, Words};
 
 fn due_behind(moment: Moment, n: u64) -> Due
     ensures { result ≡ due_behind moment n }
 {
     match moment {
-        Moment::Behind(count) => {
-            if count == n {
-                return Due::Save;
-            }
-            Due::No
-        }
-        Moment::End => Due::No,
-        Moment::Unread => Due::No,
+        Moment::Behind(count) if count == n => Due::Save,
+        _ => Due::No,
     }
 }
 
@@ -23,14 +17,9 @@ fn due_end(moment: Moment, n: u64) -> Due
     ensures { result ≡ due_end moment n }
 {
     match moment {
-        Moment::Behind(count) => {
-            if n < count {
-                return Due::Missed;
-            }
-            Due::No
-        }
+        Moment::Behind(count) if n < count => Due::Missed,
+        Moment::Behind(_) => Due::No,
         Moment::End => Due::Save,
-        Moment::Unread => Due::No,
     }
 }
 
@@ -46,12 +35,11 @@ fn due_at(moment: Moment, now: Now) -> Due
 fn stop_behind(count: u64, from: u64, most: u64) -> u64
     ensures { (result ≡ stop_behind count from most) × (result ≤ most) × (from < most → from < result) }
 {
-    if from < count {
-        if count < most {
-            return count;
-        }
+    if from < count && count < most {
+        count
+    } else {
+        most
     }
-    most
 }
 
 fn stop_at(moment: Moment, from: u64, most: u64) -> u64
@@ -60,29 +48,36 @@ fn stop_at(moment: Moment, from: u64, most: u64) -> u64
     match moment {
         Moment::Behind(count) => stop_behind(count, from, most),
         Moment::End => most,
-        Moment::Unread => most,
     }
 }
 
 impl Words {
+    // The moment of a save whose file is the next word.
+    fn save_next(self) -> Option<Moment>
+        ensures { result ≡ save_next self }
+    {
+        match self.awaited {
+            Awaited::File => self.moment,
+            _ => None,
+        }
+    }
+
     pub fn due(self, now: Now) -> Due
         ensures { result ≡ due_of self now }
     {
-        let moment = self.moment;
-        if self.awaited == Words::FILE {
-            return due_at(moment, now);
+        match self.save_next() {
+            Some(moment) => due_at(moment, now),
+            None => Due::No,
         }
-        Due::No
     }
 
     // A run that stands behind `from` records and was to stop behind `most` of them stops sooner where this save is due.
     pub fn stop(self, from: u64, most: u64) -> u64
         ensures { (result ≡ stop_of self from most) × (result ≤ most) × (from < most → from < result) }
     {
-        let moment = self.moment;
-        if self.awaited == Words::FILE {
-            return stop_at(moment, from, most);
+        match self.save_next() {
+            Some(moment) => stop_at(moment, from, most),
+            None => most,
         }
-        most
     }
 }

@@ -1,4 +1,3 @@
-pub mod Counted
 pub mod Words
 pub mod Exemplified
 pub mod Statements

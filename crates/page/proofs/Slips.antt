@@ -1,12 +1,10 @@
 -- Closed instances of laws, each false under a slip of `must-fail`, which names it.
 use Prim.Native.Nat.{ℕ}
-use mathlib.Core.List.{List, [], ◌∷◌}
+use mathlib.Core.List.{[], ◌∷◌}
 use mathlib.Core.Path.{◌≡◌, refl}
 use lib.ListN.{replicate}
 use Rattle.base.specs.Pick.{pick}
-use Rattle.text.specs.Line.{newline}
-use Rattle.text.specs.Quoted.{quoted}
-use Rattle.page.specs.Pages.{no_page, column_after, put_byte, put, shown, headed, separation, fits, placed, joined}
+use Rattle.page.specs.Pages.{no_page, column_after, put_byte, put, headed, separation, fits, placed, joined}
 use Rattle.page.specs.declared.Page.{Page}
 
 abbrev column_of : Page → ℕ

@@ -1,28 +1,27 @@
--- The word at a place of a text, as a loop goes through it.
-use Prim.Native.Nat.{ℕ, suc, ◌+◌, ◌≤◌, ◌<◌}
-use mathlib.Core.List.{List}
-use mathlib.Core.Path.{◌≡◌, refl, ap, ◌∙◌}
-use native.Mathlib.Omega.{arith}
-use native.Mathlib.Numerals.{add-one}
-use lib.ListN.{length, get_or, drop, drop_of_length-le}
-use lib.Seq.{drop-cons}
-use borrow.Author.Tests.{eq-eqb, ne_eqb}
-use Rattle.base.specs.PickLaws.{pick_true, pick_false}
+-- How long a word is; and a comment from a place on, as a loop goes through it.
+use Rattle.std.proofs.Common.{ℕ, suc, ◌+◌, ◌≤◌, ◌<◌, Bool, true, false, cond, List, ◌≡◌, refl, sym, ◌∙◌, arith, length, get_or, drop, drop_of_length-le, drop-cons, add-one, nat_lt, ◌==◌, position, unwrap_or, Some, None}
+use Rattle.std.specs.List.{position_or_len}
+use Rattle.std.proofs.lemmas.List.Recursion.{is_position_or_len}
+use Rattle.std.proofs.lemmas.List.Sums.{prefix_len-le-length}
+use Rattle.base.specs.Pick.{pick}
 use Rattle.page.specs.Notes.{plain, word_length, note_byte, noted}
 use Rattle.page.specs.declared.Page.{Page}
 
-module _ (text : List ℕ) (i : ℕ) where
-  pub word_on : i < length text → (plain (get_or text i 0) ≡ 32 → ⊥) → word_length (drop i text) ≡ suc (word_length (drop (i + 1) text))
-  unfolding word_length
-  word_on h other = rw (drop-cons text i 0 h, add-one i) (pick_false _ _ _ (ne_eqb (plain (get_or text i 0)) 32 other))
+-- a word ends at the first blank, or with the text
+step : (b : Bool) (n : ℕ) → pick b 0 (suc n) ≡ cond b 0 (1 + n)
+unfolding pick
+step true n = refl
+step false n = omega arith
 
-  pub word_done : i < length text → plain (get_or text i 0) ≡ 32 → word_length (drop i text) ≡ 0
-  unfolding word_length
-  word_done h blank = rw (drop-cons text i 0 h) (pick_true _ _ _ (eq-eqb (plain (get_or text i 0)) 32 blank))
+word_is : (text : List ℕ) → word_length text ≡ position_or_len (λ c. plain c == 32) text
+unfolding word_length
+word_is text = is_position_or_len word_length (λ c. plain c == 32) refl (λ c rest. step (plain c == 32) (word_length rest)) text
 
-  pub word_none : length text ≤ i → word_length (drop i text) ≡ 0
-  unfolding word_length
-  word_none h = rw (drop_of_length-le text h)
+here_or_end : (at all : ℕ) → at ≤ all → unwrap_or (cond (nat_lt at all) (Some at) None) all ≡ at
+here_or_end at all few = grind arith
+
+pub word_ends : (text : List ℕ) → unwrap_or (position (λ c. plain c == 32) text) (length text) ≡ word_length text
+word_ends text = here_or_end (position_or_len (λ c. plain c == 32) text) (length text) (prefix_len-le-length _ text) ∙ sym (word_is text)
 
 -- and the comment from a place on
 module _ (p : Page) (text : List ℕ) (i : ℕ) where

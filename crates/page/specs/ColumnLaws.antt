@@ -1,13 +1,13 @@
 -- The column behind a text; and a page whose column is that of its text, and whose lines keep to the width, as bytes are put on it.
-use Rattle.std.specs.Prelude.{ℕ, suc, ◌+◌, ◌-◌, ◌≤◌, ◌<◌, Bool, true, false, ◌&&◌, ◌⊎◌, ◌≡◌, refl, ltb, length, set}
+use Rattle.std.specs.Prelude.{ℕ, suc, ◌+◌, ◌-◌, ◌≤◌, ◌<◌, true, false, ◌⊎◌, ◌≡◌, refl, ltb, length}
 use mathlib.Core.List.{List, [], ◌∷◌, ◌++◌}
-use Rattle.std.proofs.Common.{inl, inr, sym, ◌∙◌, arith, length-set, take_all, lt-ltb, ne_eqb, eq-eqb, ltb-true, ltb-false, eqb-true}
+use Rattle.std.proofs.Common.{inl, inr, sym, ◌∙◌, arith, length-set, take_all, lt-ltb, ne_eqb, eq-eqb, ltb-true, ltb-false}
 use Rattle.std.proofs.Math.Logic.{⊎_elim}
 use Rattle.std.proofs.Math.Path.{ap, subst}
 use Rattle.std.proofs.Math.Dec.{eqb}
 use Rattle.std.proofs.lemmas.Bool.{eqb-false}
 use Rattle.base.specs.Pick.{pick}
-use Rattle.base.specs.PickLaws.{pick_true, pick_false, pick_le, either_way, both_hold}
+use Rattle.base.specs.PickLaws.{pick_true, pick_false, either_way, both_hold}
 use Rattle.text.specs.Line.{newline}
 use Rattle.page.specs.Pages.{page_most, width, column_after, put_byte, put, shown}
 use Rattle.page.specs.PageLaws.{put_more, put_full, put_full_all, shown_put}

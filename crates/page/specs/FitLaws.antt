@@ -1,6 +1,6 @@
 -- A page of a head, pieces and a comment fits a terminal.
-use Rattle.std.specs.Prelude.{ℕ, zero, suc, ◌+◌, ◌-◌, ◌≤◌, ◌<◌, Bool, true, false, not, ◌&&◌, List, [], ◌∷◌, ◌++◌, ◌⊎◌, ◌≡◌, refl, ltb, leb, eqb, length, set, replicate}
-use Rattle.std.proofs.Common.{inl, inr, ⊎_elim, sym, subst, ◌∙◌, arith, length-take, take_all, lt-ltb, le-ltb, ltb-true, ltb-false, leb-true, leb-false, eqb-true}
+use Rattle.std.specs.Prelude.{ℕ, zero, suc, ◌+◌, ◌-◌, ◌≤◌, ◌<◌, Bool, true, false, not, ◌&&◌, List, [], ◌∷◌, ◌++◌, ◌≡◌, refl, ltb, leb, eqb, length, replicate}
+use Rattle.std.proofs.Common.{inl, inr, ⊎_elim, sym, ◌∙◌, arith, length-take, take_all, lt-ltb, le-ltb, ltb-true, ltb-false, leb-true, leb-false}
 use Rattle.std.proofs.Math.Path.{ap}
 use Rattle.std.proofs.Math.ListN.{take}
 use Rattle.std.proofs.Math.Seq.{take-suc-set}
@@ -13,7 +13,6 @@ use Rattle.page.specs.Pieces.{piece_most}
 use Rattle.page.specs.Pages.{page_most, width, no_page, put_byte, put, shown, headed, indent, separation, fits, placed, joined, joined_all, ended}
 use Rattle.page.specs.Notes.{plain, word_length, continuation, passed, note_byte, noted, commented}
 use Rattle.page.specs.Columns.{keeps, OneLine, AllOneLine, FitsTerminal}
-use Rattle.page.specs.PageLaws.{put_full_all}
 use Rattle.page.specs.ColumnLaws.{column_behind, keeps_more, Stands, Left, shown_byte, byte_stands, line_stands, feed_stands}
 use Rattle.page.specs.declared.Page.{Page}
 

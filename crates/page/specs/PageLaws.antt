@@ -1,12 +1,12 @@
 -- A page has what was put on it, as far as it holds; and a piece is joined by what it says.
 use Rattle.std.specs.Prelude.{ℕ, ◌+◌, ◌-◌, ◌≤◌, ◌<◌, false, List, [], ◌∷◌, ◌++◌, ◌≡◌, refl, length, take, set}
-use Rattle.std.proofs.Common.{sym, ap, ◌∙◌, arith, length-take, take_all, lt-ltb, le-ltb}
+use Rattle.std.proofs.Common.{ap, ◌∙◌, arith, length-take, take_all, lt-ltb, le-ltb}
 use Rattle.base.specs.PickLaws.{pick_true, pick_false}
 use Rattle.page.specs.ThroughLaws.{through_append}
 use Rattle.page.specs.KeptLaws.{Keeps, full_through, kept_through}
 use Rattle.page.specs.Pieces.{piece_most, piece, said}
 use Rattle.page.specs.PieceLaws.{said_piece}
-use Rattle.page.specs.Pages.{page_most, no_page, column_after, put_byte, put, shown, placed, joined, joined_all}
+use Rattle.page.specs.Pages.{page_most, column_after, put_byte, put, shown, placed, joined, joined_all}
 use Rattle.page.specs.declared.Page.{Page}
 
 pub put_append : (p : Page) (first then : List ℕ) → put p (first ++ then) ≡ put (put p first) then

@@ -1,6 +1,6 @@
 -- A piece says what was put into it, one thing behind the other, as far as it holds.
-use Rattle.std.specs.Prelude.{ℕ, ◌+◌, ◌-◌, ◌≤◌, ◌<◌, List, [], ◌∷◌, ◌++◌, ◌≡◌, refl, length, take, set}
-use Rattle.std.proofs.Common.{sym, ap, ◌∙◌, arith, take_all, lt-ltb, le-ltb}
+use Rattle.std.specs.Prelude.{ℕ, ◌+◌, ◌≤◌, ◌<◌, List, [], ◌∷◌, ◌++◌, ◌≡◌, refl, length, take, set}
+use Rattle.std.proofs.Common.{ap, ◌∙◌, arith, take_all, lt-ltb, le-ltb}
 use Rattle.base.specs.PickLaws.{pick_true, pick_false}
 use Rattle.page.specs.ThroughLaws.{through_append}
 use Rattle.page.specs.KeptLaws.{Keeps, kept_through}

@@ -1,38 +1,32 @@
 // A comment, byte by byte: it goes on in a new line where its next word would not end on this one.
-ghost use Rattle.std.specs.Prelude.{◌≡◌, ◌+◌, ◌≤◌, length, drop};
+ghost use Rattle.std.specs.Prelude.{◌≡◌, ◌==◌, position};
 ghost use Rattle.page.specs.Pages.{put};
 ghost use Rattle.page.specs.Notes.{plain as Notes·plain};
 ghost use Rattle.page.specs.Notes.{word_length, continuation, passed, note_byte, noted, commented};
 
 use crate::Page;
 
-const DELETE: u8 = 0x7F;
-
 fn plain(c: u8) -> u8
     ensures { result ≡ Notes·plain c }
 {
-    if c < b' ' {
-        return b' ';
+    match c {
+        0..=0x1F | 0x7F => b' ',
+        _ => c,
     }
-    if c == DELETE {
-        return b' ';
-    }
-    c
 }
 
-// How many bytes the word has that begins at `from`.
-fn word_length(text: &[u8], from: usize) -> usize
-    requires { from ≤ length text.now }
-    ensures { (result ≡ word_length (drop from text.now)) × (from + result ≤ length text.now) }
+// Where the first blank is told.
+fn blank(text: &[u8]) -> Option<usize>
+    ensures { result ≡ position (λ c. Notes·plain c == 32) text.now }
 {
-    let mut end = from;
-    while end < text.len() {
-        if plain(text[end]) == b' ' {
-            return end - from;
-        }
-        end = end + 1;
-    }
-    end - from
+    text.iter().position(|c| plain(*c) == b' ')
+}
+
+// How many bytes the word has with which the text begins.
+fn word_length(text: &[u8]) -> usize
+    ensures { result ≡ word_length text.now }
+{
+    blank(text).unwrap_or(text.len())
 }
 
 impl Page {
@@ -45,13 +39,7 @@ impl Page {
     fn is_passed(self, behind: usize) -> bool
         ensures { result ≡ passed self behind }
     {
-        if Page::WIDTH <= self.column {
-            return true;
-        }
-        if Page::WIDTH < behind {
-            return true;
-        }
-        Page::WIDTH < self.column + 1 + behind
+        Page::WIDTH < self.column.saturating_add(1).saturating_add(behind)
     }
 
     // One byte of a comment, and how many bytes the word behind it has.
@@ -72,9 +60,8 @@ impl Page {
         ensures { result ≡ noted self text.now }
     {
         let mut page = self;
-        for i in 0..text.len() {
-            let behind = word_length(text, i + 1);
-            page = page.note_byte(text[i], behind);
+        for (i, c) in text.iter().enumerate() {
+            page = page.note_byte(*c, word_length(&text[i + 1..]));
         }
         page
     }
@@ -83,7 +70,7 @@ impl Page {
     pub fn comment(self, text: &[u8]) -> Page
         ensures { result ≡ commented self text.now }
     {
-        if text.len() == 0 {
+        if text.is_empty() {
             return self;
         }
         self.new_line().note(text)

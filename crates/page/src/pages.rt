@@ -1,18 +1,9 @@
 // Pages: a head, then pieces, and a new line wherever the next piece would not end on this one.
-ghost use Rattle.std.specs.Prelude.{◌≡◌, ◌+◌, ◌≤◌, min, leb, length};
+ghost use Rattle.std.specs.Prelude.{◌≡◌, ◌+◌, ◌≤◌, leb, length};
 ghost use Rattle.page.specs.Pieces.{said};
 ghost use Rattle.page.specs.Pages.{no_page, column_after, put_byte, put, shown, headed, width, indent, separation, placed, joined, ended};
 
 use crate::{Page, Piece};
-
-fn up_to(most: usize, n: usize) -> usize
-    ensures { (result ≡ min n most) × (result ≤ most) }
-{
-    if most < n {
-        return most;
-    }
-    n
-}
 
 fn column_after(column: usize, c: u8) -> usize
     ensures { result ≡ column_after column c }
@@ -55,19 +46,13 @@ impl Page {
     pub fn text(self, words: &[u8]) -> Page
         ensures { result ≡ put self words.now }
     {
-        let mut page = self;
-        for i in 0..words.len() {
-            page = page.byte(words[i]);
-        }
-        page
+        words.iter().fold(self, |page, c| page.byte(*c))
     }
 
     pub fn add(self, piece: Piece) -> Page
         ensures { result ≡ put self (said piece) }
     {
-        let bytes = piece.bytes;
-        let count = up_to(Piece::MOST, piece.count);
-        self.text(&bytes[..count])
+        self.text(piece.said())
     }
 
     // A page that begins with its head.
@@ -91,14 +76,8 @@ impl Page {
     fn fits(self, words: usize) -> bool
         ensures { result ≡ leb (self.column + length (separation self) + words) width }
     {
-        let between = self.between();
-        if Page::WIDTH < self.column {
-            return false;
-        }
-        if Page::WIDTH < words {
-            return false;
-        }
-        self.column + between + words <= Page::WIDTH
+        let column = self.column.saturating_add(self.between());
+        column.saturating_add(words) <= Page::WIDTH
     }
 
     fn separated(self) -> Page
@@ -119,7 +98,7 @@ impl Page {
     fn place(self, words: &[u8]) -> Page
         ensures { result ≡ placed self words.now }
     {
-        if words.len() == 0 {
+        if words.is_empty() {
             return self;
         }
         if self.fits(words.len()) {
@@ -132,16 +111,14 @@ impl Page {
     pub fn join(self, piece: Piece) -> Page
         ensures { result ≡ joined self (said piece) }
     {
-        let bytes = piece.bytes;
-        let count = up_to(Piece::MOST, piece.count);
-        self.place(&bytes[..count])
+        self.place(piece.said())
     }
 
     // How many bytes stand on it.
     pub fn length(self) -> usize
         ensures { (result ≡ length (shown self)) × (result ≤ 4096) }
     {
-        up_to(Page::MOST, self.count)
+        self.count.min(Page::MOST)
     }
 
     // The line feed at the end; where there is no room for it, it takes the last place.

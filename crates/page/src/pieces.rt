@@ -1,14 +1,10 @@
 // Words, numbers and letters, one behind the other.
 ghost use Rattle.std.specs.Prelude.{◌≡◌, []};
 ghost use Rattle.text.specs.Line.{decimal};
-ghost use Rattle.page.specs.Pieces.{no_piece, with_byte, with, hex, letter};
+ghost use Rattle.page.specs.Pieces.{no_piece, with_byte, with, said, hex, letter};
 
 use crate::Piece;
 use text::capital;
-
-const FIRST_LETTER: u8 = 0x21;
-
-const LAST_LETTER: u8 = 0x7E;
 
 impl Piece {
     pub fn empty() -> Piece
@@ -35,11 +31,14 @@ impl Piece {
     pub fn text(self, words: &[u8]) -> Piece
         ensures { result ≡ with self words.now }
     {
-        let mut piece = self;
-        for i in 0..words.len() {
-            piece = piece.byte(words[i]);
-        }
-        piece
+        words.iter().fold(self, |piece, c| piece.byte(*c))
+    }
+
+    // What it says.
+    pub(crate) fn said(&self) -> &[u8]
+        ensures { result.now ≡ said self.now }
+    {
+        &self.bytes[..self.count.min(Piece::MOST)]
     }
 
     pub fn decimal(self, n: u64) -> Piece
@@ -66,14 +65,9 @@ impl Piece {
         ensures { result ≡ with self (letter byte) }
     {
         let front = self.hex(byte);
-        if byte < FIRST_LETTER {
-            return front;
+        match byte {
+            0x21..=0x7E => front.text(b" '").byte(byte).byte(b'\''),
+            _ => front,
         }
-        if LAST_LETTER < byte {
-            return front;
-        }
-        let open = front.text(b" '");
-        let shown = open.byte(byte);
-        shown.byte(b'\'')
     }
 }

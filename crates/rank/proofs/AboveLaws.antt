@@ -1,16 +1,18 @@
 -- To rank above every line of a kind is to rank above the first-ranked of them; and what a search for such a line finds.
-use Rattle.std.specs.Prelude.{ℕ, ◌<◌, ◌≤◌, Bool, false, ◌||◌, ◌≡◌, refl}
+use Rattle.std.specs.Prelude.{ℕ, ◌<◌, ◌≤◌, Bool, false, ◌||◌, ◌≡◌, refl, Option, Some, None}
+use Rattle.std.specs.Option.{MatchOption, unwrap_or}
+use Rattle.std.specs.Bool.{then_some}
 use Rattle.std.proofs.Math.Bool.{true, not, ◌&&◌}
-use Rattle.std.proofs.Math.Path.{sym, ap₂, subst}
-use Rattle.std.proofs.Common.{◌∙◌, not-le_of_lt}
+use Rattle.std.proofs.Math.Path.{sym, ap, ap₂, subst}
+use Rattle.std.proofs.Common.{◌∙◌, not-le_of_lt, eq-or-lt_of_le, arith}
 use Rattle.std.proofs.Math.Logic.{⊎_elim}
 use Rattle.std.proofs.Math.Nat.{le_trans, lt_of_le_of_lt, le_antisymm}
-use borrow.Author.Tests.{lt-ltb, ltb-true, ltb-false}
+use borrow.Author.Tests.{lt-ltb, le-ltb, ltb-true, ltb-false}
 use Rattle.std.proofs.Math.Dec.{ltb}
 use Rattle.base.specs.Pick.{pick}
 use Rattle.base.specs.PickLaws.{pick_true, pick_false, either_way, not_both, both_hold}
 use Rattle.base.specs.EveryLaws.{every_each, every_from}
-use Rattle.rank.specs.Rank.{place, line_at, above, above_every, first_place}
+use Rattle.rank.specs.Rank.{place, line_at, above, above_every, first_place, place_found}
 use Rattle.rank.proofs.RankLaws.{place_lt, line_at_lt, first_least, first_passes, first_stands, first_none, first_up_to}
 
 module _ (first : ℕ) (test : ℕ → Bool) (n : ℕ) where
@@ -98,3 +100,43 @@ module _ (first : ℕ) (asks hinders : ℕ → Bool) where
   first_above =
       ⊎_elim (λ (e : ltb at bar ≡ true). found (ltb-true at bar e) ∙ sym (pick_true (ltb at bar) at 8 e))
       (λ (e : ltb at bar ≡ false). not_found (ltb-false at bar e) ∙ sym (pick_false (ltb at bar) at 8 e)) (either_way (ltb at bar))
+
+-- ---- the same of two searches that may find nothing
+
+pub place_some : (k : ℕ) → k < 8 → place_found k ≡ Some k
+unfolding place_found
+place_some k less = pick_true _ _ _ (lt-ltb k 8 less)
+
+pub place_none : place_found 8 ≡ None
+unfolding place_found pick
+place_none = refl
+
+-- with no line to rank above, the bar stands behind every place
+bar_of : (k : ℕ) → k ≤ 8 → unwrap_or (place_found k) 8 ≡ k
+bar_of k high =
+    ⊎_elim (λ (e : k ≡ 8). ap (λ (j : ℕ). unwrap_or (place_found j) 8) e ∙ ap (λ (p : Option ℕ). unwrap_or p 8) place_none ∙ sym e)
+    (λ (less : k < 8). ap (λ (p : Option ℕ). unwrap_or p 8) (place_some k less)) (eq-or-lt_of_le high)
+
+-- a place is kept where it is before the bar
+module _ (a b : ℕ) (up : a ≤ 8) (high : b ≤ 8) (bar : ℕ) (stands : bar ≡ unwrap_or (place_found b) 8) where
+  kept : (t : Bool) → t ≡ ltb a bar → a < 8 → then_some t a ≡ place_found (pick (ltb a b) a 8)
+  kept t e less =
+      let q : t ≡ ltb a b = e ∙ ap (ltb a) (stands ∙ bar_of b high) in
+      ⊎_elim
+      (λ (yes : ltb a b ≡ true). ap (λ (x : Bool). then_some x a) (q ∙ yes) ∙ sym (ap place_found (pick_true _ _ _ yes) ∙ place_some a less))
+      (λ (no : ltb a b ≡ false). ap (λ (x : Bool). then_some x a) (q ∙ no) ∙ sym (ap place_found (pick_false _ _ _ no) ∙ place_none))
+      (either_way (ltb a b))
+
+  pub found_above : (p : Option ℕ) → p ≡ place_found a → (test : ℕ → Bool → Type 0) → ((x : ℕ) (t : Bool) → test x t → t ≡ ltb x bar)
+      → (r : Option ℕ) → MatchOption p (r ≡ None) (λ x. (t : Bool) × test x t × (r ≡ then_some t x))
+      → r ≡ place_found (pick (ltb a b) a 8)
+  found_above p is test tested r found =
+      let Found = λ (q : Option ℕ). MatchOption q (r ≡ None) (λ x. (t : Bool) × test x t × (r ≡ then_some t x)) in
+      ⊎_elim
+      (λ (e : a ≡ 8).
+      subst Found (is ∙ ap place_found e ∙ place_none) found
+      ∙ sym (ap place_found (pick_false _ _ _ (le-ltb a b (omega arith))) ∙ place_none))
+      (λ (less : a < 8).
+      let (t, k, q) = subst Found (is ∙ place_some a less) found in
+      q ∙ kept t (tested a t k) less)
+      (eq-or-lt_of_le up)

@@ -1,5 +1,5 @@
 -- The way back from a divisor to its rate: exactly that of the list, so that each way undoes the other.
-use Rattle.std.specs.Prelude.{ℕ, suc, ◌<◌, ◌≤◌, true, false, ◌⊎◌, ◌≡◌, refl, eqb, get_or}
+use Rattle.std.specs.Prelude.{ℕ, suc, ◌<◌, ◌≤◌, true, false, ◌⊎◌, ◌≡◌, refl, eqb, get_or, Result, Ok, Err}
 use mathlib.Core.List.Memᴰ
 use mathlib.Core.List.{List, [], ◌∷◌, Memᴰ}
 use Rattle.std.proofs.Math.Logic.{inl, inr, ⊎_elim}
@@ -10,18 +10,19 @@ use Rattle.std.proofs.Math.Dec.{ltb}
 use Rattle.std.proofs.Math.ListN.{length}
 use Rattle.base.specs.Pick.{pick}
 use Rattle.base.specs.PickLaws.{pick_true, pick_false, either_way}
-use Rattle.base.specs.declared.Answer.TheVariants.{Divisor, Done, Refused}
+use Rattle.base.specs.declared.Answer.TheVariants.{Divisor, Refused}
+use Rattle.base.specs.declared.Refusal.{Refusal}
+use Rattle.base.specs.declared.Refusal.TheVariants.{NotListed}
 use Rattle.rates.specs.Rates.{rates_of, divisors_of, hertz, look, divisor_of, rate_in, rate_of, Nearest}
 use Rattle.rates.specs.Row.{row_of}
 use Rattle.rates.proofs.RatesLaws.{rate_at, divisor_at, nearest, answered, distinct_answered, nearest_answered, accepted, member, three, as_many}
-use Rattle.rates.specs.declared.Found.{Found}
 
 -- a rate that is found, and none
-abbrev pub rate_found : ℕ → Found
-rate_found rate = record { answer = Done; rate = rate }
+abbrev pub rate_found : ℕ → Result ℕ Refusal
+rate_found rate = Ok rate
 
-abbrev pub rate_none : Found
-rate_none = record { answer = Refused 10; rate = 0 }
+abbrev pub rate_none : Result ℕ Refusal
+rate_none = Err NotListed
 
 -- a number stands in its row
 in_row : (n : ℕ) (ms : List ℕ) → row_of n ms < length ms → get_or ms (row_of n ms) 0 ≡ n
@@ -119,5 +120,5 @@ module _ (divisor clock : ℕ) where
     -- and the rate of a divisor to that
     pub divisor_again : rate_of divisor clock ≡ rate_found rate → divisor_of rate clock ≡ Divisor divisor
     divisor_again is =
-        ⊎_elim (λ has. let same : has.0 ≡ rate = ap (λ (f : Found). f.rate) (sym has.1 ∙ is) in subst (λ (r : ℕ). divisor_of r clock ≡ Divisor divisor) same has.2)
-        (λ no. let z : ◌≡◌ {A = ℕ} 0 1 = cc (ap (λ (f : Found). f.answer) (sym no.0 ∙ is)) in absurd (omega arith)) either
+        ⊎_elim (λ has. let found : Ok has.0 ≡ Ok rate = sym has.1 ∙ is in let same : has.0 ≡ rate = cc in subst (λ (r : ℕ). divisor_of r clock ≡ Divisor divisor) same has.2)
+        (λ no. let other : Err NotListed ≡ Ok rate = sym no.0 ∙ is in absurd (cc)) either

@@ -1,35 +1,59 @@
--- The search for a row, step by step, and what the row found says of the look-up.
-use Prim.Native.Nat.{ℕ, zero, suc, ◌+◌, ◌<◌, ◌≤◌}
+-- The search for a row, and what the row found says of the look-up.
+use Rattle.std.specs.Prelude.{Option, Some, None, Ok, Err, MatchOption, is_some, unwrap_or, option_map, option_copied, position}
+use Rattle.std.specs.List.{position_or_len}
+use denote.Ref.{Bor}
+use Rattle.std.proofs.lemmas.List.Recursion.{is_position_or_len}
+use Rattle.std.proofs.lemmas.Option.{none-some}
+use Prim.Native.Nat.{ℕ, zero, suc, ◌<◌, ◌≤◌}
 use mathlib.Core.List.{List, [], ◌∷◌}
-use mathlib.Core.Bool.{true, false}
+use mathlib.Core.Bool.{Bool, true, false, cond}
 use mathlib.Core.Logic.{⊎_elim}
 use mathlib.Core.Path.{◌≡◌, refl, ap, sym, ◌∙◌}
 use native.Mathlib.Nat.{not-suc-le-zero}
-use native.Mathlib.Numerals.{add-one}
 use native.Mathlib.Omega.{arith}
-use borrow.Author.Tests.{eq-eqb, ne_eqb, ltb-true}
+use Rattle.std.proofs.Math.Numerals.{one-add}
+use borrow.Author.Tests.{ltb-true, ltb-false, lt-ltb, le-ltb}
 use lib.Dec.{eqb, ltb, lit≤}
-use lib.ListN.{length, get_or, drop, drop_of_length-le, get_or-append}
-use lib.Seq.{drop-cons}
+use lib.ListN.{length, get_or, get_or-append}
 use Rattle.base.specs.Pick.{pick}
 use Rattle.base.specs.PickLaws.{pick_true, pick_false, either_way}
-use Rattle.base.specs.declared.Answer.TheVariants.{Divisor, Done, Refused}
+use Rattle.base.specs.declared.Answer.TheVariants.{Divisor, Refused}
+use Rattle.base.specs.declared.Refusal.TheVariants.{NotListed}
 use Rattle.rates.specs.Rates.{everywhere, rates_of, first, second, third, divisors_of, look, divisor_of, rate_in, rate_of}
 use Rattle.rates.specs.Row.{row_of}
-use Rattle.rates.specs.declared.Found.{Found}
 
-module _ (rate : ℕ) (rs : List ℕ) (i : ℕ) where
-  pub row_here : i < length rs → get_or rs i 0 ≡ rate → row_of rate (drop i rs) ≡ 0
-  unfolding row_of
-  row_here inside same = rw (drop-cons rs i 0 inside, eq-eqb _ _ same, pick_true)
+-- a choice by a test is the library's
+chosen : {A : Type 0} (b : Bool) (x y : A) → pick b x y ≡ cond b x y
+unfolding pick
+chosen true x y = refl
+chosen false x y = refl
 
-  pub row_later : i < length rs → (get_or rs i 0 ≡ rate → ⊥) → row_of rate (drop i rs) ≡ suc (row_of rate (drop (i + 1) rs))
-  unfolding row_of
-  row_later inside other = rw (drop-cons rs i 0 inside, ne_eqb _ _ other, pick_false, add-one)
+-- the row as the code looks for it
+place_row : (n : ℕ) (ms : List ℕ) → row_of n ms ≡ position_or_len (λ m. eqb m n) ms
+unfolding row_of
+place_row n ms = is_position_or_len (row_of n) (λ m. eqb m n) refl (λ m ms. rw (one-add (row_of n ms)) (chosen (eqb m n) 0 (suc (row_of n ms)))) ms
 
-  pub row_past : length rs ≤ i → row_of rate (drop i rs) ≡ 0
-  unfolding row_of
-  row_past behind = rw (drop_of_length-le rs behind)
+module _ (n : ℕ) (ms : List ℕ) where
+  looked : position (λ m. eqb m n) ms ≡ cond (ltb (row_of n ms) (length ms)) (Some (row_of n ms)) None
+  looked = rw (place_row n ms)
+
+  pub row_found : (i : ℕ) → position (λ m. eqb m n) ms ≡ Some i → (i ≡ row_of n ms) × (i < length ms)
+  row_found i is =
+      ⊎_elim
+      (λ (t : ltb (row_of n ms) (length ms) ≡ true).
+      let same : Some (row_of n ms) ≡ Some i = sym (rw t at looked) ∙ is in
+      let at : i ≡ row_of n ms = cc in (at, omega (arith, ltb-true _ _ t)))
+      (λ (f : ltb (row_of n ms) (length ms) ≡ false).
+      let none : None ≡ Some i = sym (rw f at looked) ∙ is in absurd (none-some i none))
+      (either_way (ltb (row_of n ms) (length ms)))
+
+  pub row_missing : position (λ m. eqb m n) ms ≡ None → length ms ≤ row_of n ms
+  row_missing is =
+      ⊎_elim
+      (λ (t : ltb (row_of n ms) (length ms) ≡ true).
+      let some : Some (row_of n ms) ≡ None = sym (rw t at looked) ∙ is in absurd (none-some _ (sym some)))
+      (λ (f : ltb (row_of n ms) (length ms) ≡ false). ltb-false _ _ f)
+      (either_way (ltb (row_of n ms) (length ms)))
 
 pub look_found : (rate : ℕ) (rs ds : List ℕ) → length ds ≤ length rs → row_of rate rs < length ds
     → look rate rs ds ≡ Divisor (get_or ds (row_of rate rs) 0)
@@ -70,7 +94,7 @@ by_first rate (suc zero) = refl
 by_first rate (suc (suc zero)) = refl
 by_first rate (suc (suc (suc clock))) = refl
 
-no_longer : (clock : ℕ) → length (divisors_of clock) ≤ length (rates_of 0)
+pub no_longer : (clock : ℕ) → length (divisors_of clock) ≤ length (rates_of 0)
 unfolding rates_of divisors_of everywhere first second third
 no_longer zero = lit≤ tt
 no_longer (suc zero) = lit≤ tt
@@ -87,6 +111,26 @@ module _ (rate clock i : ℕ) (row : i ≡ row_of rate (rates_of 0)) where
   pub refused_at : length (divisors_of clock) ≤ i → Refused 10 ≡ divisor_of rate clock
   refused_at behind = sym (look_missing rate (rates_of 0) (divisors_of clock) (omega arith)) ∙ by_first rate clock
 
+-- a rate that is in no row
+pub refused_by : (rate clock : ℕ) → length (rates_of 0) ≤ row_of rate (rates_of 0) → Refused 10 ≡ divisor_of rate clock
+refused_by rate clock behind =
+    sym (look_missing rate (rates_of 0) (divisors_of clock) (omega (arith, no_longer clock))) ∙ by_first rate clock
+
+-- what the divisors of a clock have in the row of the rate, as an answer
+pub listed_by : (rate clock i : ℕ) (o : Option (Bor ℕ)) → i ≡ row_of rate (rates_of 0)
+    → is_some o ≡ ltb i (length (divisors_of clock)) → unwrap_or (option_map (λ (x : Bor ℕ). x.now) o) 0 ≡ get_or (divisors_of clock) i 0
+    → MatchOption (option_copied o) (divisor_of rate clock ≡ Refused 10) (λ d. divisor_of rate clock ≡ Divisor d)
+listed_by rate clock i None row has got = sym (refused_at rate clock i row (ltb-false _ _ (sym has)))
+listed_by rate clock i (Some x) row has got = sym (given_at rate clock i row (ltb-true _ _ (sym has))) ∙ ap Divisor (sym got)
+
+-- no clock but the three has a divisor
+pub no_divisors : (clock : ℕ) → 3 ≤ clock → divisors_of clock ≡ []
+unfolding divisors_of
+no_divisors zero above = absurd (not-suc-le-zero above)
+no_divisors (suc zero) above = absurd (omega arith)
+no_divisors (suc (suc zero)) above = absurd (omega arith)
+no_divisors (suc (suc (suc clock))) above = refl
+
 -- ---- the way back
 
 -- where a clock has a row, its rate there is the first clock's
@@ -97,24 +141,14 @@ same_rates (suc zero) k inside = get_or-append everywhere (560000 ∷ []) 0 k in
 same_rates (suc (suc zero)) k inside = get_or-append everywhere (560000 ∷ []) 0 k inside
 same_rates (suc (suc (suc clock))) k inside = absurd (not-suc-le-zero inside)
 
-pub rate_by_first : (divisor clock i : ℕ) (r : Found) → i ≡ row_of divisor (divisors_of clock) → r ≡ rate_in i (length (divisors_of clock)) (rates_of 0)
-    → r ≡ rate_of divisor clock
-unfolding rate_of rate_in
-rate_by_first divisor clock i r row told =
-    told
-    ∙ ⊎_elim
-    (λ (inside : ltb i (length (divisors_of clock)) ≡ true).
-    pick_true _ _ _ inside
-    ∙ ap (λ (n : ℕ). record { answer = Done; rate = n }) (same_rates clock i (ltb-true _ _ inside))
-    ∙ sym (pick_true _ _ _ inside))
-    (λ (behind : ltb i (length (divisors_of clock)) ≡ false). pick_false _ _ _ behind ∙ sym (pick_false _ _ _ behind))
-    (either_way (ltb i (length (divisors_of clock))))
-    ∙ ap (λ (k : ℕ). rate_in k (length (divisors_of clock)) (rates_of clock)) row
+module _ (divisor clock : ℕ) where
+  pub rate_given : (row : ℕ) → row ≡ row_of divisor (divisors_of clock) → row < length (divisors_of clock)
+      → Ok (get_or (rates_of 0) row 0) ≡ rate_of divisor clock
+  unfolding rate_of rate_in
+  rate_given row is inside =
+      rw (same_rates clock row inside, is)
+      (sym (pick_true _ _ _ (lt-ltb (row_of divisor (divisors_of clock)) (length (divisors_of clock)) (omega arith))))
 
--- a clock that is none has no row
-pub rate_refused : (divisor clock : ℕ) → 3 ≤ clock → record { answer = Refused 10; rate = 0 } ≡ rate_of divisor clock
-unfolding rate_of rate_in row_of divisors_of pick
-rate_refused divisor zero above = absurd (not-suc-le-zero above)
-rate_refused divisor (suc zero) above = absurd (omega arith)
-rate_refused divisor (suc (suc zero)) above = absurd (omega arith)
-rate_refused divisor (suc (suc (suc clock))) above = refl
+  pub rate_refused : length (divisors_of clock) ≤ row_of divisor (divisors_of clock) → Err NotListed ≡ rate_of divisor clock
+  unfolding rate_of rate_in
+  rate_refused behind = sym (pick_false _ _ _ (le-ltb _ _ behind))

@@ -1,2 +1,3 @@
 pub mod Rates
 pub mod Row
+pub mod Answering

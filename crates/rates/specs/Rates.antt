@@ -1,11 +1,12 @@
 -- The divisor list of document 01, and what is answered from it.
-use Rattle.std.specs.Prelude.{ℕ, zero, suc, ◌+◌, ◌-◌, ◌*◌, ◌<◌, List, [], ◌∷◌, ◌++◌, ◌≡◌, eqb, ltb, length, get_or}
+use Rattle.std.specs.Prelude.{ℕ, zero, suc, ◌+◌, ◌-◌, ◌*◌, ◌<◌, List, [], ◌∷◌, ◌++◌, ◌≡◌, eqb, ltb, length, get_or, Result, Ok, Err}
 use Rattle.base.specs.Pick.{pick}
 use Rattle.base.specs.Refusals.{not_listed_number}
 use Rattle.base.specs.declared.Answer.{Answer}
-use Rattle.base.specs.declared.Answer.TheVariants.{Divisor, Done, Refused}
+use Rattle.base.specs.declared.Answer.TheVariants.{Divisor, Refused}
+use Rattle.base.specs.declared.Refusal.{Refusal}
+use Rattle.base.specs.declared.Refusal.TheVariants.{NotListed}
 use Rattle.rates.specs.Row.{row_of}
-use Rattle.rates.specs.declared.Found.{Found}
 
 -- "Rates in tenths of a baud: 500, 750, 1100, 1345, 1500, 3000, 6000, 12000, 18000, 20000, 24000, 36000, 48000, 72000, 96000, 192000, 384000"
 unfoldable pub everywhere : List ℕ
@@ -56,11 +57,11 @@ divisor_of rate clock = look rate (rates_of clock) (divisors_of clock)
 -- ---- the way back
 
 -- the rate in a row of so many; past them, refusal 10
-unfoldable pub rate_in : ℕ → ℕ → List ℕ → Found
-rate_in row rows rates = pick (ltb row rows) (record { answer = Done; rate = get_or rates row 0 }) (record { answer = Refused not_listed_number; rate = 0 })
+unfoldable pub rate_in : ℕ → ℕ → List ℕ → Result ℕ Refusal
+rate_in row rows rates = pick (ltb row rows) (Ok (get_or rates row 0)) (Err NotListed)
 
 -- ticket 1: "then 10 (also for a divisor not listed at the clock)": the rate in the row of the divisor
-unfoldable pub rate_of : ℕ → ℕ → Found
+unfoldable pub rate_of : ℕ → ℕ → Result ℕ Refusal
 rate_of divisor clock = rate_in (row_of divisor (divisors_of clock)) (length (divisors_of clock)) (rates_of clock)
 
 -- ---- the rule

@@ -1,11 +1,12 @@
 // The divisor list: eighteen rates, a divisor for each at the first clock, and for all but the last at the other two.
 #![tactic(auto)]
 
-ghost use Rattle.std.specs.Prelude.{◌≡◌, ◌≤◌};
-ghost use Rattle.rates.specs.Rates.{divisor_of, rates_of, rate_in, rate_of};
-ghost use Rattle.rates.specs.Row.{row_of};
+ghost use Rattle.std.specs.Prelude.{◌≡◌, MatchOption};
+ghost use Rattle.base.specs.Refusals.{not_listed_number};
+ghost use Rattle.base.specs.declared.Answer.TheVariants.{Divisor, Refused};
+ghost use Rattle.rates.specs.Rates.{divisors_of, divisor_of, rate_of};
 
-use base::Answer;
+use base::{Answer, Refusal};
 
 // "Rates in tenths of a baud", so that 134.5 baud is a whole number too.
 pub const RATES: [u32; 18] = [
@@ -28,92 +29,42 @@ const THIRD: [u16; 17] = [
     3840, 2560, 1745, 1428, 1280, 640, 320, 160, 107, 96, 80, 53, 40, 27, 20, 10, 5,
 ];
 
-// The row of a rate; of one that is not listed, the number of rows.
-fn row(rate: u32) -> usize
-    ensures { result ≡ row_of rate (rates_of 0) }
+// "Clocks are numbered 0 to 2": no other number has a divisor.
+fn divisors(clock: u8) -> &'static [u16]
+    ensures { result.now ≡ divisors_of clock }
 {
-    let mut i: usize = 0;
-    while i < RATES.len() {
-        if RATES[i] == rate {
-            return i;
-        }
-        i = i + 1;
+    match clock {
+        0 => &FIRST,
+        1 => &SECOND,
+        2 => &THIRD,
+        _ => &[],
     }
-    i
+}
+
+// The divisor in the row of the rate.
+fn listed(rate: u32, clock: u8) -> Option<u16>
+    ensures { MatchOption result (divisor_of rate clock ≡ Refused not_listed_number) (λ d. divisor_of rate clock ≡ Divisor d) }
+{
+    let row = RATES.iter().position(|r| *r == rate)?;
+    divisors(clock).get(row).copied()
 }
 
 // "rate or clock not in the divisor list": refused.
 pub fn divisor(rate: u32, clock: u8) -> Answer
     ensures { result ≡ divisor_of rate clock }
 {
-    let i = row(rate);
-    match clock {
-        0 => if i < FIRST.len() {
-            Answer::Divisor(FIRST[i])
-        } else {
-            Answer::Refused(Answer::NOT_LISTED)
-        },
-        1 => if i < SECOND.len() {
-            Answer::Divisor(SECOND[i])
-        } else {
-            Answer::Refused(Answer::NOT_LISTED)
-        },
-        2 => if i < THIRD.len() {
-            Answer::Divisor(THIRD[i])
-        } else {
-            Answer::Refused(Answer::NOT_LISTED)
-        },
-        _ => Answer::Refused(Answer::NOT_LISTED),
+    match listed(rate, clock) {
+        Some(divisor) => Answer::Divisor(divisor),
+        None => Answer::Refused(Refusal::NotListed.number()),
     }
 }
 
-// A rate in tenths of a baud, or the refusal, with the rate 0.
-#[derive(Clone, Copy)]
-pub struct Found {
-    pub answer: Answer,
-    pub rate: u32,
-}
-
-const NOT_FOUND: Found = Found {
-    answer: Answer::Refused(Answer::NOT_LISTED),
-    rate: 0,
-};
-
-fn row_in(divisors: &[u16], divisor: u16) -> usize
-    ensures { result ≡ row_of divisor divisors.now }
-{
-    let mut i: usize = 0;
-    while i < divisors.len() {
-        if divisors[i] == divisor {
-            return i;
-        }
-        i = i + 1;
-    }
-    i
-}
-
-// The rate in a row of a table that has so many.
-fn rate_in(row: usize, rows: usize) -> Found
-    requires { rows ≤ 18 }
-    ensures { result ≡ rate_in row rows (rates_of 0) }
-{
-    if row < rows {
-        return Found {
-            answer: Answer::Done,
-            rate: RATES[row],
-        };
-    }
-    NOT_FOUND
-}
-
-// The way back: the rate of a divisor.
-pub fn rate(divisor: u16, clock: u8) -> Found
+// The way back: the rate of a divisor, in tenths of a baud.
+pub fn rate(divisor: u16, clock: u8) -> Result<u32, Refusal>
     ensures { result ≡ rate_of divisor clock }
 {
-    match clock {
-        0 => rate_in(row_in(&FIRST, divisor), FIRST.len()),
-        1 => rate_in(row_in(&SECOND, divisor), SECOND.len()),
-        2 => rate_in(row_in(&THIRD, divisor), THIRD.len()),
-        _ => NOT_FOUND,
+    match divisors(clock).iter().position(|d| *d == divisor) {
+        Some(row) => Ok(RATES[row]),
+        None => Err(Refusal::NotListed),
     }
 }

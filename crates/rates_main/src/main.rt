@@ -6,44 +6,45 @@ use std::io::Result;
 
 const CLOCKS: u8 = 4;
 
-const EDGE_RATES: [u32; 11] = [
-    0, 1, 4294967295, 500, 500, 12000, 560000, 560000, 9600, 65536, 4294967295,
+// Rates at the edges, each with the clock that it is asked at.
+const EDGES: [(u32, u8); 11] = [
+    (0, 0),
+    (1, 0),
+    (4294967295, 0),
+    (500, 4),
+    (500, 255),
+    (12000, 255),
+    (560000, 1),
+    (560000, 2),
+    (9600, 0),
+    (65536, 0),
+    (4294967295, 255),
 ];
-
-const EDGE_CLOCKS: [u8; 11] = [0, 0, 0, 4, 255, 255, 1, 2, 0, 0, 255];
 
 fn ask(rt: &impl Print, rate: u32, clock: u8) -> Result<()> {
     let answer = rates::divisor(rate, clock);
     let refusal = answer.refusal();
-    let value = answer.value() as u32;
-    let end = [
-        b' ',
-        text::capital(value / 256),
-        text::capital(value / 16),
-        text::capital(value),
-        b'\n',
-    ];
-    print!(rt; "{clock} {rate} {refusal}")?;
-    rt.write_all(&end)
+    let value = answer.value();
+    println!(rt; "{clock} {rate} {refusal} {value:03X}")
 }
 
 // Wrapping, since nothing here says that a listed rate has neighbours.
 fn ask_around(rt: &impl Print, rate: u32, clock: u8) -> Result<()> {
-    ask(rt, std::num::wrapping_sub_u32(rate, 1), clock)?;
+    ask(rt, rate.wrapping_sub(1), clock)?;
     ask(rt, rate, clock)?;
-    ask(rt, std::num::wrapping_add_u32(rate, 1), clock)
+    ask(rt, rate.wrapping_add(1), clock)
 }
 
 fn ask_table(rt: &impl Print, clock: u8) -> Result<()> {
-    for i in 0..rates::RATES.len() {
-        ask_around(rt, rates::RATES[i], clock)?;
+    for rate in rates::RATES {
+        ask_around(rt, rate, clock)?;
     }
     Ok(())
 }
 
 fn ask_edges(rt: &impl Print) -> Result<()> {
-    for i in 0..EDGE_RATES.len() {
-        ask(rt, EDGE_RATES[i], EDGE_CLOCKS[i])?;
+    for (rate, clock) in EDGES {
+        ask(rt, rate, clock)?;
     }
     Ok(())
 }

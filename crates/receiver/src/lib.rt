@@ -41,31 +41,31 @@ impl Receiver {
         }
     }
 
+    #[tactic(auto, unfolding(crate::specs::Receiver::none_queued))]
     pub fn is_empty(self) -> bool
         ensures { result ≡ none_queued self }
     {
         self.queue.count == 0
     }
 
+    #[tactic(auto, unfolding(crate::specs::Receiver::received))]
     pub fn receive(mut self, fifo: bool, ch: Character) -> Receiver
         ensures { result ≡ received fifo self ch }
     {
         let stands = self.timed_out();
-        let waiting = self.queue;
-        let put = waiting.accept(fifo, ch);
-        let next = put.queue;
-        self.queue = next;
+        let put = self.queue.accept(fifo, ch);
+        self.queue = put.queue;
         self.overrun = self.overrun | put.full;
         self.kept = base::pick_byte(fifo, self.kept, self.kept | ch.marks);
         self.timeout = base::pick_byte(stands, self.timeout, 0);
         self
     }
 
+    #[tactic(auto, unfolding(crate::specs::Receiver::got, crate::specs::Receiver::none_queued, base::specs::Pick::pick))]
     pub fn get(mut self) -> Got
         ensures { result ≡ got self }
     {
-        let none = self.is_empty();
-        if none {
+        if self.is_empty() {
             return Got {
                 receiver: self,
                 byte: self.last,
@@ -75,10 +75,8 @@ impl Receiver {
                 },
             };
         }
-        let waiting = self.queue;
-        let taken = waiting.take();
-        let rest = taken.queue;
-        self.queue = rest;
+        let taken = self.queue.take();
+        self.queue = taken.queue;
         self.timeout = 0;
         self.last = taken.character.data;
         Got {
@@ -86,22 +84,23 @@ impl Receiver {
             byte: taken.character.data,
             figures: Figures {
                 marks: taken.character.marks,
-                behind: rest.count,
+                behind: taken.queue.count,
             },
         }
     }
 
+    #[tactic(auto, unfolding(crate::specs::Receiver::shown_marks, base::specs::Pick::pick))]
     pub fn marks(self, fifo: bool) -> u8
         ensures { result ≡ shown_marks fifo self }
     {
         if fifo {
-            let waiting = self.queue;
-            let oldest = waiting.first();
-            return oldest.marks;
+            self.queue.first().marks
+        } else {
+            self.kept
         }
-        self.kept
     }
 
+    #[tactic(auto, unfolding(crate::specs::Receiver::troubled))]
     pub fn trouble(self, fifo: bool) -> bool
         ensures { result ≡ troubled fifo self }
     {
@@ -112,43 +111,40 @@ impl Receiver {
             | base::bit(base::MARK_BREAK, marks)
     }
 
+    #[tactic(auto, unfolding(crate::specs::Receiver::some_marked))]
     pub fn any_marked(self, fifo: bool) -> bool
         ensures { result ≡ some_marked fifo self }
     {
-        if fifo {
-            let waiting = self.queue;
-            return waiting.any_marked();
-        }
-        false
+        fifo && self.queue.any_marked()
     }
 
     // The LSR is read: what it showed is cleared.
+    #[tactic(auto, unfolding(crate::specs::Receiver::lsr_seen, base::specs::Pick::pick))]
     pub fn lsr_read(mut self, fifo: bool) -> Receiver
         ensures { result ≡ lsr_seen fifo self }
     {
         self.overrun = false;
         if fifo {
-            let waiting = self.queue;
-            let shown = waiting.unmark();
-            self.queue = shown;
-            return self;
+            self.queue = self.queue.unmark();
+        } else {
+            self.kept = 0;
         }
-        self.kept = 0;
         self
     }
 
+    #[tactic(auto, unfolding(crate::specs::Receiver::waited, base::specs::Pick::pick))]
     pub fn wait(mut self, fifo: bool) -> Receiver
         ensures { result ≡ waited fifo self }
     {
         let none = self.is_empty();
         let counts = fifo & !none & (self.timeout < Receiver::TIMEOUT);
         if counts {
-            self.timeout = self.timeout + 1;
-            return self;
+            self.timeout += 1;
         }
         self
     }
 
+    #[tactic(auto, unfolding(crate::specs::Receiver::cleared))]
     fn clear(mut self) -> Receiver
         ensures { result ≡ cleared self }
     {
@@ -157,6 +153,7 @@ impl Receiver {
         self
     }
 
+    #[tactic(auto, unfolding(crate::specs::Receiver::cleared, crate::specs::Receiver::after_mode_change))]
     fn change_mode(self) -> Receiver
         ensures { result ≡ after_mode_change self }
     {
@@ -166,18 +163,20 @@ impl Receiver {
     }
 
     // The FCR is written: its bit 0 changed, or it asks for an empty queue.
+    #[tactic(auto, unfolding(base::specs::Pick::pick))]
     pub fn fcr_written(self, changed: bool, asked: bool) -> Receiver
         ensures { result ≡ fcr_heard changed asked self }
     {
         if changed {
-            return self.change_mode();
+            self.change_mode()
+        } else if asked {
+            self.clear()
+        } else {
+            self
         }
-        if asked {
-            return self.clear();
-        }
-        self
     }
 
+    #[tactic(auto, unfolding(crate::specs::Receiver::restarted, crate::specs::Receiver::after_mode_change))]
     pub fn restart(self) -> Receiver
         ensures { result ≡ restarted self }
     {
@@ -186,16 +185,18 @@ impl Receiver {
         next
     }
 
+    #[tactic(auto, unfolding(crate::specs::Receiver::data_stands, base::specs::Pick::pick))]
     pub fn data(self, fifo: bool, trigger: u8) -> bool
         ensures { result ≡ data_stands fifo trigger self }
     {
         if fifo {
-            return trigger <= self.queue.count;
+            trigger <= self.queue.count
+        } else {
+            !self.is_empty()
         }
-        let none = self.is_empty();
-        !none
     }
 
+    #[tactic(auto, unfolding(crate::specs::Receiver::timeout_stands))]
     pub fn timed_out(self) -> bool
         ensures { result ≡ timeout_stands self }
     {

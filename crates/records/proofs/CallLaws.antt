@@ -1,23 +1,27 @@
--- What the contracts of two calls require together: a decoded record tells its refusal.
-use Prim.Native.Nat.{ℕ}
-use mathlib.Core.Bool.{true, false}
-use mathlib.Core.Path.{◌≡◌, ap, sym, ◌∙◌}
-use mathlib.Core.Logic.{⊎_elim}
-use lib.Dec.{eqb}
-use borrow.Author.Tests.{eqb-true}
+-- What a record's conversion to an event tells: the event, or which refusal comes first.
+use Rattle.std.specs.Prelude.{true, false, ◌≡◌, refl, Result, Ok, Err, eqb}
+use Rattle.std.specs.Result.{result_err}
+use Rattle.std.proofs.Common.{sym, ap, ◌∙◌, ⊎_elim, eqb-true}
 use Rattle.base.specs.PickLaws.{pick_true, pick_false, either_way}
-use Rattle.records.specs.declared.Decoded.{Decoded}
-use Rattle.records.specs.Events.{whole, early, decoded, refused_number}
-use Rattle.records.proofs.Decoded.decode.Reads as decode
-use Rattle.records.proofs.Decoded.refusal.Reads as number
+use Rattle.base.specs.Refusals.{number_given}
+use Rattle.base.specs.declared.Refusal.{Refusal}
+use Rattle.base.specs.declared.Whole.{Whole}
+use Rattle.records.specs.declared.Event.{Event}
+use Rattle.records.specs.Events.{Record, record_of, early, decoded, refused_number, numbered}
+use Rattle.records.proofs.events.EventTryFromWhole.try_from.Reads as try_from
+
+-- the refusal has the number that is told of the record, "0 for none"
+pub number_same : (d : Result Event Refusal) → number_given (result_err d) ≡ refused_number (numbered d)
+unfolding number_given refused_number numbered
+number_same (Ok e) = refl
+number_same (Err r) = refl
+
+pub decoded_number : (r : Record) → refused_number (decoded r) ≡ early r
+unfolding decoded refused_number
+decoded_number r =
+    ⊎_elim (λ (none : eqb (early r) 0 ≡ true). ap refused_number (pick_true _ _ _ none) ∙ sym (eqb-true _ _ none))
+    (λ (some : eqb (early r) 0 ≡ false). ap refused_number (pick_false _ _ _ some)) (either_way (eqb (early r) 0))
 
 -- "The order is 4, 3, 1, 2": a record that is decoded tells which of the first three it is refused by, "0 for none"; `refused_early` has the rest
-pub number_told : (κ κ' e e' : _) (k s n v : ℕ) (d : Decoded) (m : ℕ)
-    → decode.Post κ (k, (s, (n, (v, tt)))) d e → number.Post κ' (d, tt) m e' → m ≡ early (whole k s n v)
-unfolding decoded refused_number
-number_told κ κ' e e' k s n v d m p p' =
-    p' ∙ ap refused_number p
-    ∙ ⊎_elim
-    (λ (none : eqb (early (whole k s n v)) 0 ≡ true). ap refused_number (pick_true _ _ _ none) ∙ sym (eqb-true _ _ none))
-    (λ (some : eqb (early (whole k s n v)) 0 ≡ false). ap refused_number (pick_false _ _ _ some))
-    (either_way (eqb (early (whole k s n v)) 0))
+pub number_told : (κ e : _) (w : Whole) (d : Result Event Refusal) → try_from.Post κ (w, tt) d e → number_given (result_err d) ≡ early (record_of w)
+number_told κ e w d p = number_same d ∙ ap refused_number p ∙ decoded_number (record_of w)

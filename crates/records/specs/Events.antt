@@ -1,18 +1,22 @@
 -- A record of four bytes, and the event that it stands for.
-use Rattle.std.specs.Prelude.{ℕ, Bool, true, false, ◌&&◌, List, [], ◌∷◌, ltb, leb, eqb}
+use Rattle.std.specs.Prelude.{ℕ, Bool, true, false, ◌&&◌, ◌≡◌, List, [], ◌∷◌, ltb, leb, eqb, Result, Ok, Err}
 use Rattle.base.specs.Pick.{pick}
-use Rattle.base.specs.Refusals.{seat_above_number, kind_above_number, short_number, Ground, refusal_by, joined}
+use Rattle.base.specs.Refusals.{seat_above_number, kind_above_number, short_number, number_of, Ground, refusal_by, joined}
+use Rattle.base.specs.declared.Refusal.{Refusal}
+use Rattle.base.specs.declared.Whole.{Whole}
 use Rattle.registers.specs.declared.SeatEvent.TheVariants.{Read, Write, Arrival, Levels, Time}
 use Rattle.records.specs.Kinds as kinds
 use Rattle.records.specs.declared.Event.{Event}
 use Rattle.records.specs.declared.Event.TheVariants.{OfSeat, MasterReset, ReadController, WriteController, Acknowledge}
-use Rattle.records.specs.declared.Decoded.{Decoded}
-use Rattle.records.specs.declared.Decoded.TheVariants.{Taken, NoEvent}
 
 -- "An event is a four-byte record: kind, seat, number, value."; or a "record of 1 to 3 bytes at the end of input"
 pub data Record : Type 0 where
   whole : ℕ → ℕ → ℕ → ℕ → Record
   short : Record
+
+-- "kind, seat, number, value", all four of them
+abbrev pub record_of : Whole → Record
+record_of w = whole w.kind w.seat w.number w.value
 
 -- "Eight seats, 0 to 7."
 abbrev pub seat_count : ℕ
@@ -63,14 +67,27 @@ abbrev pub event : Record → Event
 event (whole kind seat number value) = event_of kind seat number value
 event short = Acknowledge
 
--- a record decoded: refused by itself, or taken as its event
+-- a record decoded: its event, or the number of its refusal
+abbrev pub Decoded : Type 0
+Decoded = Result Event ℕ
+
+-- refused by itself, or taken as its event
 unfoldable pub decoded : Record → Decoded
-decoded r = joined (early r) (Taken (event r)) NoEvent
+decoded r = joined (early r) (Ok (event r)) Err
 
 -- the number of the refusal, "0 for none"
 unfoldable pub refused_number : Decoded → ℕ
-refused_number (Taken e) = 0
-refused_number (NoEvent n) = n
+refused_number (Ok e) = 0
+refused_number (Err n) = n
+
+-- what the code has in place of a number: the refusal itself
+unfoldable pub numbered : Result Event Refusal → Decoded
+numbered (Ok e) = Ok e
+numbered (Err r) = Err (number_of r)
+
+-- what a whole record's conversion to an event gives
+abbrev pub Decodes : Whole → Result Event Refusal → Type 0
+Decodes w d = numbered d ≡ decoded (record_of w)
 
 -- the seat that a record names; a short one names none, and the one given here stays as it is
 abbrev pub seat_named : Record → ℕ

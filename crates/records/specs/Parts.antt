@@ -1,5 +1,5 @@
 -- One record on one seat and the controller beside it, which is how the code has it: but for a master reset no other seat is touched.
-use Rattle.std.specs.Prelude.{ℕ, eqb}
+use Rattle.std.specs.Prelude.{ℕ, eqb, Ok, Err}
 use Rattle.base.specs.Pick.{pick}
 use Rattle.base.specs.declared.Answer.TheVariants.{Done}
 use Rattle.base.specs.declared.Answer.TheVariants as answer
@@ -16,9 +16,7 @@ use Rattle.rank.specs.Sets.{with_line}
 use Rattle.records.specs.declared.Touched.{Touched}
 use Rattle.records.specs.declared.Event.{Event}
 use Rattle.records.specs.declared.Event.TheVariants.{OfSeat, MasterReset, ReadController, WriteController, Acknowledge}
-use Rattle.records.specs.declared.Decoded.{Decoded}
-use Rattle.records.specs.declared.Decoded.TheVariants.{Taken, NoEvent}
-use Rattle.records.specs.Events.{Record, decoded}
+use Rattle.records.specs.Events.{Record, decoded, Decoded}
 
 -- an event on the seat whose line is n
 unfoldable pub touched : Seat → Controller → ℕ → SeatEvent → Touched
@@ -44,8 +42,8 @@ met_parts s c (WriteController port byte) = besides s (step c (write port byte))
 met_parts s c Acknowledge = besides s (step c acknowledge)
 
 unfoldable pub dealt_parts : Seat → Controller → Decoded → Touched
-dealt_parts s c (Taken e) = met_parts s c e
-dealt_parts s c (NoEvent n) = record { seat = s; controller = c; answer = answer.Refused n }
+dealt_parts s c (Ok e) = met_parts s c e
+dealt_parts s c (Err n) = record { seat = s; controller = c; answer = answer.Refused n }
 
 -- a record on its two parts
 abbrev pub parted : Seat → Controller → Record → Touched

@@ -3,8 +3,7 @@ use Rattle.std.specs.Prelude.{ℕ, zero, suc, ◌<◌, ◌≡◌, refl}
 use Rattle.std.proofs.Common.{ap, ap₂, ◌∙◌, arith, lt-ltb}
 use Rattle.base.specs.Pick.{pick}
 use Rattle.base.specs.Refusals.{first_of, refusal_by}
-use Rattle.records.specs.declared.Decoded.{Decoded}
-use Rattle.records.specs.Events.{whole, early, event_of, decoded}
+use Rattle.records.specs.Events.{whole, early, event_of, decoded, Decoded}
 use Rattle.records.specs.Uses.{Agree}
 
 -- a record of a kind, as a function of the bytes that its kind uses

@@ -1,14 +1,21 @@
 // From the four bytes of a record to its event.
 ghost use Rattle.std.specs.Prelude.{◌≡◌};
-ghost use Rattle.records.specs.Events.{whole, event_of, decoded, refused_number};
+ghost use Rattle.records.specs.Events.{event_of, Decodes};
 
-use crate::{Decoded, Event, SEATS};
-use base::Answer;
+use crate::{Event, SEATS};
+use base::{Refusal, Whole};
 use registers::SeatEvent;
 
-fn event_of(kind: u8, seat: u8, number: u8, value: u8) -> Event
-    ensures { result ≡ event_of kind seat number value }
+#[tactic(auto, using(base::specs::PickLaws::tests), unfolding(crate::specs::Events::event_of))]
+fn event_of(whole: Whole) -> Event
+    ensures { result ≡ event_of whole.kind whole.seat whole.number whole.value }
 {
+    let Whole {
+        kind,
+        seat,
+        number,
+        value,
+    } = whole;
     match kind {
         Event::READ_REGISTER => Event::OfSeat(seat, SeatEvent::Read(number)),
         Event::WRITE_REGISTER => Event::OfSeat(seat, SeatEvent::Write(number, value)),
@@ -22,27 +29,19 @@ fn event_of(kind: u8, seat: u8, number: u8, value: u8) -> Event
     }
 }
 
-impl Decoded {
-    // The kinds before a master reset use the seat.
-    pub(crate) fn decode(kind: u8, seat: u8, number: u8, value: u8) -> Decoded
-        ensures { result ≡ decoded (whole kind seat number value) }
-    {
-        if Event::ACKNOWLEDGE < kind {
-            return Decoded::NoEvent(Answer::KIND_ABOVE);
-        }
-        if (kind < Event::MASTER_RESET) & (SEATS <= seat as usize) {
-            return Decoded::NoEvent(Answer::SEAT_ABOVE);
-        }
-        Decoded::Taken(event_of(kind, seat, number, value))
-    }
+impl TryFrom<Whole> for Event {
+    type Error = Refusal;
 
-    // The number of the refusal, 0 where the record was taken.
-    pub(crate) fn refusal(self) -> u8
-        ensures { result ≡ refused_number self }
-    {
-        let Decoded::NoEvent(number) = self else {
-            return 0;
-        };
-        number
+    ghost try_from_gives = { Decodes };
+
+    // The kinds before a master reset use the seat.
+    fn try_from(whole: Whole) -> Result<Event, Refusal> {
+        if Event::ACKNOWLEDGE < whole.kind {
+            return Err(Refusal::KindAbove);
+        }
+        if (whole.kind < Event::MASTER_RESET) & (SEATS <= whole.seat as usize) {
+            return Err(Refusal::SeatAbove);
+        }
+        Ok(event_of(whole))
     }
 }

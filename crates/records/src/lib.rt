@@ -44,13 +44,6 @@ impl Event {
     pub const ACKNOWLEDGE: u8 = 8;
 }
 
-// A record, decoded: its event, or the number of the refusal.
-#[derive(Clone, Copy)]
-pub enum Decoded {
-    Taken(Event),
-    NoEvent(u8),
-}
-
 // A record works on these parts alone, but a master reset, which touches the other seats too.
 #[derive(Clone, Copy)]
 pub struct Touched {

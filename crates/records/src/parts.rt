@@ -1,11 +1,11 @@
 // One record on one seat and the controller. The bench is not needed for it, and is not moved.
 ghost use Rattle.std.specs.Prelude.{◌≡◌};
-ghost use Rattle.records.specs.Events.{whole, short};
+ghost use Rattle.records.specs.Events.{record_of, short};
 ghost use Rattle.records.specs.Parts.{touched, besides, met_parts, parted};
 
-use crate::{Decoded, Event, Touched};
-use base::Answer;
-use controller::Controller;
+use crate::{Event, Touched};
+use base::{Answer, Refusal, Whole};
+use controller::{Controller, Signalled};
 use registers::SeatEvent;
 use seat::Seat;
 
@@ -33,11 +33,10 @@ fn touch_seat(seat: Seat, controller: Controller, n: u8, e: SeatEvent) -> Touche
 }
 
 // The controller is asked, and the seat is not.
-fn beside(seat: Seat, signalled: controller::Signalled) -> Touched
+fn beside(seat: Seat, signalled: Signalled) -> Touched
     ensures { result ≡ besides seat signalled }
 {
-    let controller = signalled.controller;
-    let answer = signalled.answer;
+    let Signalled { controller, answer } = signalled;
     Touched {
         seat,
         controller,
@@ -46,43 +45,38 @@ fn beside(seat: Seat, signalled: controller::Signalled) -> Touched
 }
 
 // Of a master reset, what it makes of this seat; every line is low after it.
+#[tactic(auto, unfolding(crate::specs::Parts::met_parts))]
 fn meet_parts(seat: Seat, controller: Controller, event: Event) -> Touched
     ensures { result ≡ met_parts seat controller event }
 {
     match event {
-        Event::OfSeat(n, e) => return touch_seat(seat, controller, n, e),
-        Event::MasterReset => return Touched {
+        Event::OfSeat(n, e) => touch_seat(seat, controller, n, e),
+        Event::MasterReset => Touched {
             seat: seat.reset(),
             controller: controller.settle(0),
             answer: Answer::Done,
         },
-        Event::ReadController(port) => return Touched {
+        Event::ReadController(port) => Touched {
             seat,
             controller,
             answer: controller.read(port),
         },
-        Event::WriteController(port, byte) => return beside(seat, controller.write(port, byte)),
-        Event::Acknowledge => return beside(seat, controller.acknowledge()),
+        Event::WriteController(port, byte) => beside(seat, controller.write(port, byte)),
+        Event::Acknowledge => beside(seat, controller.acknowledge()),
     }
 }
 
 // "The order is 4, 3, 1, 2": a record that is no event leaves with its refusal.
-pub fn step_parts(
-    seat: Seat,
-    controller: Controller,
-    kind: u8,
-    n: u8,
-    number: u8,
-    value: u8,
-) -> Touched
-    ensures { result ≡ parted seat controller (whole kind n number value) }
+pub fn step_parts(seat: Seat, controller: Controller, whole: Whole) -> Touched
+    ensures { result ≡ parted seat controller (record_of whole) }
 {
-    let decoded = Decoded::decode(kind, n, number, value);
-    let Decoded::Taken(event) = decoded else {
+    let decoded = Event::try_from(whole);
+    let Ok(event) = decoded else {
+        let number = decoded.err().map_or(0, |refusal| refusal.number());
         return Touched {
             seat,
             controller,
-            answer: Answer::Refused(decoded.refusal()),
+            answer: Answer::Refused(number),
         };
     };
     meet_parts(seat, controller, event)
@@ -95,6 +89,6 @@ pub fn short_parts(seat: Seat, controller: Controller) -> Touched
     Touched {
         seat,
         controller,
-        answer: Answer::Refused(Answer::SHORT),
+        answer: Answer::Refused(Refusal::Short.number()),
     }
 }

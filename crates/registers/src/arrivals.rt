@@ -8,13 +8,7 @@ impl Settings {
     pub(crate) fn is_beyond_word(self, byte: u8) -> bool
         ensures { result ≡ beyond_word self.lcr byte }
     {
-        let length = self.lcr % 4;
-        match length {
-            0 => 32 <= byte,
-            1 => 64 <= byte,
-            2 => 128 <= byte,
-            _ => false,
-        }
+        self.widest() < byte
     }
 
     pub(crate) fn is_parity_unasked(self, marks: u8) -> bool
@@ -26,6 +20,6 @@ impl Settings {
     pub(crate) fn is_break_with_data(marks: u8, byte: u8) -> bool
         ensures { result ≡ break_with_data marks byte }
     {
-        base::bit(base::MARK_BREAK, marks) & !(byte == 0)
+        base::bit(base::MARK_BREAK, marks) & (byte != 0)
     }
 }

@@ -8,9 +8,9 @@ mod loopback;
 mod modem;
 mod refusals;
 
-ghost use Rattle.std.specs.Prelude.{◌≡◌, eqb};
+ghost use Rattle.std.specs.Prelude.{◌≡◌, ◌+◌, ◌^◌, eqb};
 ghost use Rattle.base.specs.Bits.{bit};
-ghost use Rattle.registers.specs.Words.{trigger, cut, wire_answer};
+ghost use Rattle.registers.specs.Words.{trigger, word_bits, cut, wire_answer};
 ghost use Rattle.registers.specs.Registers.{plain_register, register_at, fcr_kept, kept, shown_by, divisor};
 ghost use Rattle.registers.specs.Modem.{differ};
 
@@ -18,7 +18,7 @@ pub use loopback::inputs;
 pub use modem::{any_change, changes_after, modem_status};
 
 #[repr(C)]
-#[derive(Clone, Copy)]
+#[derive(Clone, Copy, Default)]
 pub struct Settings {
     pub ier: u8,
     pub fcr: u8,
@@ -135,9 +135,10 @@ impl Settings {
     pub fn changes_mode(self, byte: u8) -> bool
         ensures { result ≡ differ (bit 0 self.fcr) (bit 0 byte) }
     {
-        modem::differ(self.is_fifo(), base::bit(Settings::FCR_FIFO, byte))
+        self.is_fifo() != base::bit(Settings::FCR_FIFO, byte)
     }
 
+    #[tactic(auto, unfolding(crate::specs::Words::trigger, base::specs::Pick::pick))]
     pub fn trigger(self) -> u8
         ensures { result ≡ trigger self.fcr }
     {
@@ -150,6 +151,7 @@ impl Settings {
     }
 
     // The registers as they stand with LCR bit 7 clear.
+    #[tactic(auto, unfolding(crate::specs::Registers::plain_register, base::specs::Pick::pick))]
     fn plain_register(number: u8) -> Register
         ensures { result ≡ plain_register number }
     {
@@ -165,6 +167,7 @@ impl Settings {
         }
     }
 
+    #[tactic(auto, unfolding(crate::specs::Registers::register_at, base::specs::Pick::pick))]
     pub fn register(self, number: u8) -> Register
         ensures { result ≡ register_at (bit 7 self.lcr) number }
     {
@@ -236,6 +239,7 @@ impl Settings {
         }
     }
 
+    #[tactic(auto, unfolding(crate::specs::Registers::fcr_kept, base::specs::Pick::pick))]
     pub fn fcr_kept(byte: u8) -> u8
         ensures { result ≡ fcr_kept byte }
     {
@@ -255,19 +259,26 @@ impl Settings {
         self.dll as u16 + 256 * self.dlm as u16 == 0
     }
 
-    pub fn cut(self, byte: u8) -> u8
-        ensures { result ≡ cut self.lcr byte }
+    // The largest byte of the word length; its set bits are those that the length has.
+    pub(crate) fn widest(self) -> u8
+        ensures { result + 1 ≡ 2 ^ word_bits self.lcr }
     {
-        let length = self.lcr % 4;
-        match length {
-            0 => byte % 32,
-            1 => byte % 64,
-            2 => byte % 128,
-            _ => byte,
+        match self.lcr % 4 {
+            0 => 0x1F,
+            1 => 0x3F,
+            2 => 0x7F,
+            _ => 0xFF,
         }
     }
 
+    pub fn cut(self, byte: u8) -> u8
+        ensures { result ≡ cut self.lcr byte }
+    {
+        byte & self.widest()
+    }
+
     // What a character time is answered with, given what is in the shift register.
+    #[tactic(auto, unfolding(base::specs::Pick::pick))]
     pub fn wire_answer(self, busy: bool, shift: u8) -> Answer
         ensures { result ≡ wire_answer self.mcr self.lcr busy shift }
     {

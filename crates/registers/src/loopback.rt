@@ -13,6 +13,7 @@ impl Settings {
 }
 
 // The modem inputs as the channel sees them, by its MCR and the levels last given. RTS feeds CTS, and DTR feeds DSR: they cross.
+#[tactic(auto, unfolding(crate::specs::Loopback::inputs_of, base::specs::Pick::pick))]
 pub fn inputs(mcr: u8, levels: u8) -> u8
     ensures { result ≡ inputs_of mcr levels }
 {

@@ -1,71 +1,64 @@
-// What a seat refuses, event by event, by the settings of its channel: the first number of the order whose condition holds, 0 for
-// none.
+// What a seat refuses, event by event, by the settings of its channel: the first refusal of the order whose condition holds.
 ghost use Rattle.std.specs.Prelude.{◌≡◌};
+ghost use Rattle.base.specs.Refusals.{number_given};
 ghost use Rattle.registers.specs.Refusals.{refusal};
 ghost use Rattle.registers.specs.declared.SeatEvent.TheVariants.{Read, Write, Arrival, Levels, Time};
 
 use crate::{Register, SeatEvent, Settings, modem};
-use base::Answer;
+use base::Refusal;
 
+#[tactic(auto, unfolding(crate::specs::Refusals::refusal, crate::specs::Refusals::grounds, base::specs::Refusals::refusal_by, base::specs::Refusals::first_of, base::specs::Refusals::number_given, base::specs::Refusals::number_of, base::specs::Pick::pick))]
 impl Settings {
     // Whatever the settings are, and whatever is written: a register is refused for its number alone.
-    fn refuse_access(number: u8) -> u8
-        ensures { (settings : _) → (result ≡ refusal settings (Read number)) × ((byte : _) → result ≡ refusal settings (Write number byte)) }
+    fn refuse_access(number: u8) -> Option<Refusal>
+        ensures { (settings : _) → (number_given result ≡ refusal settings (Read number)) × ((byte : _) → number_given result ≡ refusal settings (Write number byte)) }
     {
-        if Register::SCRATCH < number {
-            return Answer::NUMBER_ABOVE;
-        }
-        0
+        (Register::SCRATCH < number).then_some(Refusal::NumberAbove)
     }
 
-    fn refuse_arrival(self, marks: u8, byte: u8) -> u8
-        ensures { result ≡ refusal self (Arrival marks byte) }
+    fn refuse_arrival(self, marks: u8, byte: u8) -> Option<Refusal>
+        ensures { number_given result ≡ refusal self (Arrival marks byte) }
     {
         if self.no_divisor() {
-            return Answer::NO_DIVISOR;
+            return Some(Refusal::NoDivisor);
         }
         if base::ALL_MARKS < marks {
-            return Answer::MARKS_ABOVE;
+            return Some(Refusal::MarksAbove);
         }
         if self.is_beyond_word(byte) {
-            return Answer::BEYOND_WORD;
+            return Some(Refusal::BeyondWord);
         }
         if self.is_parity_unasked(marks) {
-            return Answer::PARITY_UNASKED;
+            return Some(Refusal::ParityUnasked);
         }
         if Settings::is_break_with_data(marks, byte) {
-            return Answer::BREAK_WITH_DATA;
+            return Some(Refusal::BreakWithData);
         }
-        0
+        None
     }
 
-    fn refuse_levels(levels: u8) -> u8
-        ensures { (settings : _) → result ≡ refusal settings (Levels levels) }
+    fn refuse_levels(levels: u8) -> Option<Refusal>
+        ensures { (settings : _) → number_given result ≡ refusal settings (Levels levels) }
     {
-        if modem::ALL_LEVELS < levels {
-            return Answer::LEVELS_ABOVE;
-        }
-        0
+        (modem::ALL_LEVELS < levels).then_some(Refusal::LevelsAbove)
     }
 
-    fn refuse_time(self) -> u8
-        ensures { result ≡ refusal self Time }
+    fn refuse_time(self) -> Option<Refusal>
+        ensures { number_given result ≡ refusal self Time }
     {
-        if self.no_divisor() {
-            return Answer::NO_DIVISOR;
-        }
-        0
+        self.no_divisor().then_some(Refusal::NoDivisor)
     }
 
-    pub fn refusal(self, e: SeatEvent) -> u8
-        ensures { result ≡ refusal self e }
+    pub fn refusal(self, e: SeatEvent) -> Option<Refusal>
+        ensures { number_given result ≡ refusal self e }
     {
         match e {
-            SeatEvent::Read(number) => return Settings::refuse_access(number),
-            SeatEvent::Write(number, _) => return Settings::refuse_access(number),
-            SeatEvent::Arrival(marks, byte) => return self.refuse_arrival(marks, byte),
-            SeatEvent::Levels(levels) => return Settings::refuse_levels(levels),
-            SeatEvent::Time => return self.refuse_time(),
+            SeatEvent::Read(number) | SeatEvent::Write(number, _) => Settings::refuse_access(
+                number,
+            ),
+            SeatEvent::Arrival(marks, byte) => self.refuse_arrival(marks, byte),
+            SeatEvent::Levels(levels) => Settings::refuse_levels(levels),
+            SeatEvent::Time => self.refuse_time(),
         }
     }
 }

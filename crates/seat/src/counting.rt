@@ -9,42 +9,31 @@ use crate::Tallies;
 use crate::events::received;
 use channel::{Channel, Stepped};
 use registers::SeatEvent;
-use std::num::wrapping_add_u32;
-
-const LARGEST: u32 = 4294967295;
-
-fn fewer(before: u8, after: u8) -> u8
-    ensures { result ≡ before - after }
-{
-    if after < before {
-        return before - after;
-    }
-    0
-}
 
 impl Tallies {
     fn read_more(mut self, n: u8) -> Tallies
         ensures { result ≡ more self 0 n 0 0 }
     {
-        self.read = wrapping_add_u32(self.read, n as u32);
+        self.read = self.read.wrapping_add(u32::from(n));
         self
     }
 
     pub(crate) fn dropped_more(mut self, n: u8) -> Tallies
         ensures { result ≡ more self 0 0 0 n }
     {
-        self.dropped = wrapping_add_u32(self.dropped, n as u32);
+        self.dropped = self.dropped.wrapping_add(u32::from(n));
         self
     }
 
     // As many are queued as before where an overrun has lost one.
+    #[tactic(auto, unfolding(base::specs::Pick::pick))]
     fn arrived_more(mut self, heard: bool, before: u8, after: u8) -> Tallies
         ensures { result ≡ pick heard (more self 1 0 (pick (after == before) 1 0) 0) (more self 0 0 0 0) }
     {
         if heard {
-            self.arrived = wrapping_add_u32(self.arrived, 1);
+            self.arrived = self.arrived.wrapping_add(1);
             if after == before {
-                self.lost = wrapping_add_u32(self.lost, 1);
+                self.lost = self.lost.wrapping_add(1);
             }
         }
         self
@@ -57,17 +46,15 @@ impl Tallies {
     {
         let before = held.receiver.queue.count;
         let after = left.channel.receiver.queue.count;
-        let answer = left.answer;
         match e {
-            SeatEvent::Read(_) => return self.read_more(fewer(before, after)),
-            SeatEvent::Write(_, _) => return self.dropped_more(fewer(before, after)),
-            SeatEvent::Arrival(_, _) => return self.arrived_more(
-                received(held, e, answer),
+            SeatEvent::Read(_) => self.read_more(before.saturating_sub(after)),
+            SeatEvent::Write(_, _) => self.dropped_more(before.saturating_sub(after)),
+            SeatEvent::Arrival(_, _) | SeatEvent::Time => self.arrived_more(
+                received(held, e, left.answer),
                 before,
                 after,
             ),
-            SeatEvent::Levels(_) => return self,
-            SeatEvent::Time => return self.arrived_more(received(held, e, answer), before, after),
+            SeatEvent::Levels(_) => self,
         }
     }
 
@@ -75,7 +62,7 @@ impl Tallies {
     pub(crate) fn is_full(self) -> bool
         ensures { result ≡ nat_le largest self.arrived }
     {
-        self.arrived == LARGEST
+        self.arrived == u32::MAX
     }
 
     // Whether the four others add up to what arrived, with so many still queued; in more than 32 bits, so that no sum wraps.

@@ -8,7 +8,7 @@ ghost use Rattle.seat.specs.Steps.{would_pass, stepped};
 ghost use Rattle.seat.specs.Counts.{refused_last};
 
 use crate::{Replied, Seat};
-use base::Answer;
+use base::{Answer, Refusal};
 use channel::Channel;
 use registers::SeatEvent;
 
@@ -17,11 +17,9 @@ fn hears(c: Channel, e: SeatEvent) -> bool
     ensures { pick result 1 0 ≡ length (arrived_in (accepted_moments c e)) }
 {
     match e {
-        SeatEvent::Arrival(_, _) => return !c.settings.is_looped(),
-        SeatEvent::Time => return c.settings.is_looped() & c.transmitter.busy,
-        SeatEvent::Read(_) => return false,
-        SeatEvent::Write(_, _) => return false,
-        SeatEvent::Levels(_) => return false,
+        SeatEvent::Arrival(_, _) => !c.settings.is_looped(),
+        SeatEvent::Time => c.settings.is_looped() & c.transmitter.busy,
+        SeatEvent::Read(_) | SeatEvent::Write(_, _) | SeatEvent::Levels(_) => false,
     }
 }
 
@@ -38,22 +36,21 @@ impl Seat {
     fn would_pass(self, e: SeatEvent) -> bool
         ensures { result ≡ would_pass self e }
     {
-        if self.tallies.is_full() {
-            return hears(self.channel, e);
-        }
-        false
+        self.tallies.is_full() && hears(self.channel, e)
     }
 
     // Where one more would arrive than can be tallied: what the channel refuses comes first.
     fn refuse_last(self, e: SeatEvent) -> Replied
         ensures { result ≡ refused_last self e }
     {
-        let settings = self.channel.settings;
-        let number = settings.refusal(e);
-        let given = base::pick_byte(number == 0, Answer::TALLY_FULL, number);
+        let refusal = self
+            .channel
+            .settings
+            .refusal(e)
+            .unwrap_or(Refusal::TallyFull);
         Replied {
             seat: self,
-            answer: Answer::Refused(given),
+            answer: Answer::Refused(refusal.number()),
         }
     }
 
@@ -61,20 +58,17 @@ impl Seat {
     pub fn step(self, e: SeatEvent) -> Replied
         ensures { result ≡ stepped self e }
     {
-        let held = self.channel;
         if self.would_pass(e) {
             return self.refuse_last(e);
         }
-        let stepped = lending::lent(held, e);
-        let moved = self.tallies.after(held, e, stepped);
-        let next = stepped.channel;
-        let answer = stepped.answer;
+        let stepped = lending::lent(self.channel, e);
+        let moved = self.tallies.after(self.channel, e, stepped);
         Replied {
             seat: Seat {
                 tallies: moved,
-                channel: next,
+                channel: stepped.channel,
             },
-            answer,
+            answer: stepped.answer,
         }
     }
 }

@@ -12,7 +12,7 @@ ghost use Rattle.seat.specs.Seats.{power_up, reset, line, five};
 
 // "five 32-bit tallies of received characters since power-up"
 #[repr(C)]
-#[derive(Clone, Copy)]
+#[derive(Clone, Copy, Default)]
 pub struct Tallies {
     pub arrived: u32,
     pub read: u32,
@@ -50,12 +50,7 @@ impl Seat {
         ensures { result ≡ power_up }
     {
         Seat {
-            tallies: Tallies {
-                arrived: 0,
-                read: 0,
-                lost: 0,
-                dropped: 0,
-            },
+            tallies: Tallies::default(),
             channel: Channel::power_up(),
         }
     }

@@ -1,5 +1,5 @@
 -- A sound seat is read back from its record, and a good record is written back.
-use Rattle.std.specs.Prelude.{ℕ, zero, suc, ◌+◌, ◌<◌, ◌≤◌, true, false, ◌⊎◌, ◌≡◌, refl, take, drop}
+use Rattle.std.specs.Prelude.{ℕ, zero, suc, ◌+◌, ◌<◌, ◌≤◌, true, false, ◌⊎◌, ◌≡◌, refl, take, drop, Some}
 use Rattle.std.proofs.Math.Bool.{◌&&◌}
 use mathlib.Core.List.{List, [], ◌∷◌, ◌++◌, append_assoc}
 use Rattle.std.proofs.Common.{inl, inr, ◌∙◌, arith, length-append, length-drop, take_at, drop_at, take_all, take-add, get_or-drop, eq-eqb, le-leb}
@@ -25,7 +25,7 @@ use Rattle.seat.specs.Sound.{sound}
 use Rattle.seat.specs.Tallies.{largest, add_up}
 use Rattle.seat_image.proofs.FieldLaws.{halves, tally_tests}
 use Rattle.seat_image.specs.Read.{has_tallies, length_of, channel_part, tally_part, queued_only, tallies_in, new_record}
-use Rattle.seat_image.specs.Read.{tallies_from, tallies_good, seat_from, record_good, found}
+use Rattle.seat_image.specs.Read.{tallies_from, tallies_good, tallies_told, seat_from, record_good, found}
 use Rattle.seat_image.specs.ReadLaws.{has_own, has_none, front_fits, found_good, new_channel, new_tallies, new_good, new_seat}
 use Rattle.seat_image.specs.WordLaws.{tally_length, tallies_back, still_back, tallies_written}
 use Rattle.seat_image.specs.Words.{word_at}
@@ -138,22 +138,18 @@ module _ (version : ℕ) (l : List ℕ) (long : length_of version ≤ length l) 
       (eq-eqb _ _ (still_back s.tallies (queued s)))
 
   -- ticket 2: "A bench read back answers every later event as the saved one": each seat is the same seat
-  pub found_as : found version l ≡ record { seat = s; good = true }
+  pub found_as : found version l ≡ Some s
   found_as =
       let good : record_good (new_record version l) ≡ true
       = new_good version l long ∙ ap₂ ◌&&◌ (ap channel_good front ∙ written.sound_good s.channel both.0) (ap₂ tallies_good block number ∙ fine) in
-      found_good version l long good ∙ (λ i. record { seat = new_seat version l long i; good = true })
-      ∙ (λ i. record {
-        seat =
-            record {
-              tallies = (ap tallies_from block ∙ tallies_back s.tallies (queued s)) i;
-              channel = (ap channel_from front ∙ written.read_back s.channel both.0) i;
-            };
-        good = true;
-      })
+      found_good version l long good ∙ ap Some (new_seat version l long)
+      ∙ (λ i. Some (record {
+        tallies = (ap tallies_from block ∙ tallies_back s.tallies (queued s)) i;
+        channel = (ap channel_from front ∙ written.read_back s.channel both.0) i;
+      }))
 
 -- in its own record, whatever stands behind it
-pub found_written : (s : Seat) (rest : List ℕ) → sound s ≡ true → found 2 (record_of s ++ rest) ≡ record { seat = s; good = true }
+pub found_written : (s : Seat) (rest : List ℕ) → sound s ≡ true → found 2 (record_of s ++ rest) ≡ Some s
 unfolding record_of
 found_written s rest own =
     let c = channel_bytes s.channel in
@@ -173,17 +169,26 @@ queued_few : (c : Channel) → sound_channel c ≡ true → c.receiver.queue.cou
 unfolding channel_bytes front_bytes
 queued_few c own = (good_fields (channel_bytes c) (written.sound_good c own)).received
 
-pub queued_adds_up : (n : ℕ) → n ≤ 16 → add_up (queued_only n) n ≡ true
+pub queued_adds_up : (n : ℕ) → n ≤ largest → add_up (queued_only n) n ≡ true
 unfolding add_up
 queued_adds_up n few = ap₂ ◌&&◌ (eq-eqb (0 + 0 + 0 + n) n (omega arith)) (le-leb n largest (omega (arith, few)))
 
+-- what version 1 leaves unsaid is told
+pub older_told : (n : ℕ) → n ≤ largest → tallies_told (tally_bytes (queued_only n) n) n ≡ Some (queued_only n)
+unfolding tallies_told tallies_good
+older_told n few =
+    pick_true _ _ _
+    (ap₂ ◌&&◌ (ap₂ add_up (tallies_back (queued_only n) n) (still_back (queued_only n) n) ∙ queued_adds_up n few)
+    (eq-eqb _ _ (still_back (queued_only n) n)))
+    ∙ ap Some (tallies_back (queued_only n) n)
+
 pub found_older : (c : Channel) (rest : List ℕ) → sound_channel c ≡ true
-    → found 1 (channel_bytes c ++ rest) ≡ record { seat = record { tallies = queued_only c.receiver.queue.count; channel = c }; good = true }
+    → found 1 (channel_bytes c ++ rest) ≡ Some (record { tallies = queued_only c.receiver.queue.count; channel = c })
 found_older c rest own =
     let long : length_of 1 ≤ length (channel_bytes c ++ rest)
     = omega (arith, pick_false {A = ℕ} (has_tallies 1) 86 66 refl, length-append (channel_bytes c) rest, channel_length_lem c) in
     let n = c.receiver.queue.count in
     found_as 1 (channel_bytes c ++ rest) long (record { tallies = queued_only n; channel = c })
-    (ap₂ ◌&&◌ own (queued_adds_up n (queued_few c own)))
+    (ap₂ ◌&&◌ own (queued_adds_up n (omega (arith, queued_few c own))))
     (take_at (channel_bytes c) rest 66 (channel_length_lem c))
     (has_none 1 (channel_bytes c ++ rest) n refl)

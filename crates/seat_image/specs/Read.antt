@@ -1,14 +1,12 @@
 -- The seat that a record says, in each version.
-use Rattle.std.specs.Prelude.{ℕ, Bool, true, false, ◌&&◌, List, ◌++◌, eqb, leb, length, take, drop}
+use Rattle.std.specs.Prelude.{ℕ, Bool, ◌&&◌, List, ◌++◌, eqb, leb, length, take, drop, Option, Some, None}
 use Rattle.base.specs.Pick.{pick}
 use Rattle.channel_image.specs.Allowed.{channel_good}
 use Rattle.channel_image.specs.Places.{at, channel_length, received_place}
 use Rattle.channel_image.specs.Read.{channel_from}
 use Rattle.seat.specs.declared.Seat.{Seat}
 use Rattle.seat.specs.declared.Tallies.{Tallies}
-use Rattle.seat.specs.Seats.{power_up}
 use Rattle.seat.specs.Tallies.{add_up}
-use Rattle.seat_image.specs.declared.Found.{Found}
 use Rattle.seat_image.specs.Words.{word_at}
 use Rattle.seat_image.specs.Written.{record_length, tally_bytes}
 
@@ -51,6 +49,10 @@ tallies_from b = record { arrived = word_at b 0; read = word_at b 4; lost = word
 unfoldable pub tallies_good : List ℕ → ℕ → Bool
 tallies_good b still = add_up (tallies_from b) (word_at b 16) && eqb (word_at b 16) still
 
+-- the tallies that their part of a record says, with so many queued, or none
+unfoldable pub tallies_told : List ℕ → ℕ → Option Tallies
+tallies_told b still = pick (tallies_good b still) (Some (tallies_from b)) None
+
 unfoldable pub seat_from : List ℕ → Seat
 seat_from l = record { tallies = tallies_from (tally_part l); channel = channel_from (channel_part l) }
 
@@ -60,13 +62,6 @@ record_good l = channel_good (channel_part l) && tallies_good (tally_part l) (at
 
 -- ---- in a lent part
 
--- where there is none, a seat at power-up stands for it
-abbrev pub none_found : Found
-none_found = record { seat = power_up; good = false }
-
 -- the seat of the record that a lent part begins with, or none; what stands behind the record is not looked at
-unfoldable pub found : ℕ → List ℕ → Found
-found version l =
-    pick (leb (length_of version) (length l) && record_good (new_record version l))
-    (record { seat = seat_from (new_record version l); good = true })
-    none_found
+unfoldable pub found : ℕ → List ℕ → Option Seat
+found version l = pick (leb (length_of version) (length l) && record_good (new_record version l)) (Some (seat_from (new_record version l))) None

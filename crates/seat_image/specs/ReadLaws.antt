@@ -1,5 +1,5 @@
 -- What is found in a lent part, case by case as the reader meets them.
-use Rattle.std.specs.Prelude.{ℕ, ◌<◌, ◌≤◌, Bool, false, List, ◌++◌, ◌⊎◌, ◌≡◌, refl, leb, take, drop}
+use Rattle.std.specs.Prelude.{ℕ, ◌-◌, ◌<◌, ◌≤◌, Bool, false, List, ◌++◌, ◌⊎◌, ◌≡◌, refl, leb, take, drop, Some, None}
 use Rattle.std.proofs.Math.Bool.{true, ◌&&◌}
 use Rattle.std.proofs.Common.{inl, inr, ap₂, sym, ◌∙◌, arith, length-drop, drop_at, take-add, length-take-le}
 use Rattle.std.proofs.Math.Logic.{⊎_elim}
@@ -8,18 +8,25 @@ use Rattle.std.proofs.Math.ListN.{length, length-append}
 use Rattle.std.proofs.Math.Seq.{take_at, take_all}
 use Rattle.std.proofs.lemmas.List.{take-append-le, drop-append-le}
 use borrow.Author.Tests.{le-leb, lt-leb, leb-true}
-use Rattle.base.specs.PickLaws.{pick_true, pick_false, both_hold, either_way, never}
-use Rattle.channel_image.specs.declared.Found as channel
+use Rattle.base.specs.PickLaws.{pick_true, pick_false, both_hold, either_way}
+use Rattle.channel.specs.declared.Channel.{Channel}
+use Rattle.channel_image.specs.FoundLaws.{some_picked, none_picked}
 use Rattle.channel_image.specs.Allowed.{channel_good}
 use Rattle.channel_image.specs.Places.{at, channel_length, received_place}
 use Rattle.channel_image.specs.Read as first
 use Rattle.channel_image.specs.Read.{channel_from, receiver_from}
+use Rattle.channel_image.specs.Written as first-written
 use Rattle.channel_image.proofs.ReadLaws as first-laws
-use Rattle.seat_image.specs.declared.Found.{Found}
+use Rattle.seat.specs.declared.Seat.{Seat}
+use Rattle.seat.specs.declared.Tallies.{Tallies}
 use Rattle.seat_image.specs.Read.{has_tallies, length_of, channel_part, tally_part, queued_only, tallies_in, new_record}
-use Rattle.seat_image.specs.Read.{tallies_from, tallies_good, seat_from, record_good, none_found, found}
+use Rattle.seat_image.specs.Read.{tallies_from, tallies_good, tallies_told, seat_from, record_good, found}
 use Rattle.seat_image.specs.WordLaws.{tally_length}
 use Rattle.seat_image.specs.Written.{record_length, tally_bytes}
+
+-- a part that is lent to its end
+pub lent_to_end : (at : ℕ) (l : List ℕ) → take (length l - at) (drop at l) ≡ drop at l
+lent_to_end at l = take_all (length l - at) (drop at l) (omega (arith, length-drop at l))
 
 module _ (version : ℕ) (l : List ℕ) (still : ℕ) where
   pub has_own : has_tallies version ≡ true → tallies_in version l still ≡ tally_part l
@@ -31,7 +38,7 @@ module _ (version : ℕ) (l : List ℕ) (still : ℕ) where
   has_none none = pick_false _ _ _ none
 
 module _ (version : ℕ) (l : List ℕ) where
-  pub found_short : length l < length_of version → found version l ≡ none_found
+  pub found_short : length l < length_of version → found version l ≡ None
   unfolding found
   found_short short =
       pick_false _ _ _ (ap (λ (b : Bool). b && record_good (new_record version l)) (lt-leb (length_of version) (length l) short))
@@ -80,53 +87,57 @@ module _ (version : ℕ) (l : List ℕ) (long : length_of version ≤ length l) 
   room : leb (length_of version) (length l) ≡ true
   room = le-leb (length_of version) (length l) long
 
-  none_good : record_good (new_record version l) ≡ false → found version l ≡ none_found
+  none_good : record_good (new_record version l) ≡ false → found version l ≡ None
   unfolding found
   none_good bad = pick_false _ _ _ (ap₂ ◌&&◌ room bad)
 
-  pub found_good : record_good (new_record version l) ≡ true → found version l ≡ record { seat = seat_from (new_record version l); good = true }
+  pub found_good : record_good (new_record version l) ≡ true → found version l ≡ Some (seat_from (new_record version l))
   unfolding found
   found_good good = pick_true _ _ _ (ap₂ ◌&&◌ room good)
 
   -- ---- after the channel's reader
 
-  module _ (r : channel.Found) (given : r ≡ first.found l) where
-    pub no_channel : r.good ≡ false → found version l ≡ none_found
-    unfolding first.found
-    no_channel none =
-        ⊎_elim
-        (λ (h : channel_good (channel_part l) ≡ true).
-        let good : r.good ≡ true
-        = ap (λ (f : channel.Found). f.good) (given ∙ pick_true _ _ _ (ap₂ ◌&&◌ (le-leb channel_length (length l) front_fits) h)) in
-        absurd (never (sym none ∙ good)))
-        (λ (h : channel_good (channel_part l) ≡ false). none_good (new_good ∙ rw h))
-        (either_way (channel_good (channel_part l)))
+  pub no_channel : first.found l ≡ None → found version l ≡ None
+  unfolding first.found
+  no_channel none =
+      let fails = none_picked (first-written.has_room l && channel_good (channel_part l)) (channel_from (channel_part l)) none in
+      let bad : channel_good (channel_part l) ≡ false
+      = sym (ap (λ (b : Bool). b && channel_good (channel_part l)) (le-leb channel_length (length l) front_fits)) ∙ fails in
+      none_good (new_good ∙ rw bad)
 
-    module _ (said : r.good ≡ true) where
-      well : first-laws.Well l
-      well = first-laws.found_well l (sym (ap (λ (f : channel.Found). f.good) given) ∙ said)
+  module _ (c : Channel) (given : first.found l ≡ Some c) where
+    well : first-laws.Well l c
+    well = first-laws.found_well l c given
 
-      same : r.channel ≡ channel_from (channel_part l)
-      same = ap (λ (f : channel.Found). f.channel) given ∙ well.channel
+    same : c ≡ channel_from (channel_part l)
+    same = sym well.channel
 
-      count : r.channel.receiver.queue.count ≡ at (channel_part l) received_place
-      unfolding channel_from receiver_from
-      count = ap (λ (c : _). c.receiver.queue.count) same
+    count : c.receiver.queue.count ≡ at (channel_part l) received_place
+    unfolding channel_from receiver_from
+    count = ap (λ (d : Channel). d.receiver.queue.count) same
 
-      pub tallies_bad : tallies_good (tallies_in version l r.channel.receiver.queue.count) r.channel.receiver.queue.count ≡ false
-          → found version l ≡ none_found
-      tallies_bad bad = none_good (new_good ∙ ap₂ ◌&&◌ well.good (ap (λ (n : ℕ). tallies_good (tallies_in version l n) n) (sym count) ∙ bad))
+    good_as : (b : Bool) → tallies_good (tallies_in version l c.receiver.queue.count) c.receiver.queue.count ≡ b → record_good (new_record version l) ≡ b
+    good_as b is = new_good ∙ ap₂ ◌&&◌ well.good (ap (λ (n : ℕ). tallies_good (tallies_in version l n) n) (sym count) ∙ is)
 
-      pub tallies_well : tallies_good (tallies_in version l r.channel.receiver.queue.count) r.channel.receiver.queue.count ≡ true
-          → found version l
-          ≡ record {
-            seat = record { tallies = tallies_from (tallies_in version l r.channel.receiver.queue.count); channel = r.channel };
-            good = true;
-          }
-      tallies_well fine =
-          found_good (new_good ∙ ap₂ ◌&&◌ well.good (ap (λ (n : ℕ). tallies_good (tallies_in version l n) n) (sym count) ∙ fine))
-          ∙ (λ i. record { seat = new_seat i; good = true })
-          ∙ (λ i. record { seat = record { tallies = tallies_from (tallies_in version l (sym count i)); channel = sym same i }; good = true })
+    pub tallies_bad : tallies_good (tallies_in version l c.receiver.queue.count) c.receiver.queue.count ≡ false → found version l ≡ None
+    tallies_bad bad = none_good (good_as false bad)
+
+    pub no_tallies : tallies_told (tallies_in version l c.receiver.queue.count) c.receiver.queue.count ≡ None → found version l ≡ None
+    unfolding tallies_told
+    no_tallies none = tallies_bad (none_picked (tallies_good (tallies_in version l c.receiver.queue.count) c.receiver.queue.count) _ none)
+
+    pub tallies_well : tallies_good (tallies_in version l c.receiver.queue.count) c.receiver.queue.count ≡ true
+        → found version l ≡ Some (record { tallies = tallies_from (tallies_in version l c.receiver.queue.count); channel = c })
+    tallies_well fine =
+        found_good (good_as true fine) ∙ ap Some new_seat
+        ∙ (λ i. Some (record { tallies = tallies_from (tallies_in version l (sym count i)); channel = sym same i }))
+
+    pub with_tallies : (t : Tallies) → tallies_told (tallies_in version l c.receiver.queue.count) c.receiver.queue.count ≡ Some t
+        → found version l ≡ Some (record { tallies = t; channel = c })
+    unfolding tallies_told
+    with_tallies t told =
+        let some = some_picked (tallies_good (tallies_in version l c.receiver.queue.count) c.receiver.queue.count) _ t told in
+        tallies_well some.0 ∙ (λ i. Some (record { tallies = some.1 i; channel = c }))
 
 -- ---- a record, and what stands behind it
 
@@ -157,20 +168,16 @@ module _ (version : ℕ) (l rest : List ℕ) (long : length_of version ≤ lengt
       let more : length_of version ≤ length (l ++ rest) = omega (arith, length-append l rest, long) in
       rw (front_same, tallies_same, le-leb (length_of version) (length (l ++ rest)) more, le-leb (length_of version) (length l) long)
 
--- ---- what was found well
+-- ---- what was found
 
-pub record Well (version : ℕ) (l : List ℕ) : Type 0 where
+pub record Well (version : ℕ) (l : List ℕ) (s : Seat) : Type 0 where
   pub long : length_of version ≤ length l
   pub good : record_good (new_record version l) ≡ true
-  pub seat : (found version l).seat ≡ seat_from (new_record version l)
+  pub seat : s ≡ seat_from (new_record version l)
 
-pub found_well : (version : ℕ) (l : List ℕ) → (found version l).good ≡ true → Well version l
+pub found_well : (version : ℕ) (l : List ℕ) (s : Seat) → found version l ≡ Some s → Well version l s
 unfolding found
-found_well version l good =
-    let test = leb (length_of version) (length l) && record_good (new_record version l) in
-    ⊎_elim
-    (λ (holds : test ≡ true).
-    let two = both_hold (leb (length_of version) (length l)) (record_good (new_record version l)) holds in
-    record { long = leb-true _ _ two.0; good = two.1; seat = ap (λ (r : Found). r.seat) (pick_true test _ _ holds) })
-    (λ (fails : test ≡ false). absurd (never (sym (ap (λ (r : Found). r.good) (pick_false test _ _ fails)) ∙ good)))
-    (either_way test)
+found_well version l s said =
+    let some = some_picked (leb (length_of version) (length l) && record_good (new_record version l)) (seat_from (new_record version l)) s said in
+    let two = both_hold (leb (length_of version) (length l)) (record_good (new_record version l)) some.0 in
+    record { long = leb-true _ _ two.0; good = two.1; seat = sym some.1 }

@@ -1,5 +1,6 @@
 -- A number and its four bytes, and the five numbers of a record.
-use Rattle.std.specs.Prelude.{ℕ, ◌+◌, ◌*◌, ◌/◌, ◌%◌, ◌<◌, List, [], ◌∷◌, ◌++◌, ◌≡◌, refl, length}
+use Rattle.std.specs.Prelude.{ℕ, ◌+◌, ◌*◌, ◌/◌, ◌%◌, ◌^◌, ◌<◌, List, [], ◌∷◌, ◌++◌, ◌≡◌, refl, length}
+use Rattle.std.specs.Int.{w32, to_le_bytes, from_le_bytes}
 use Rattle.std.proofs.Math.Path.{ap}
 use Rattle.std.proofs.Common.{sym, ◌∙◌, arith}
 use Rattle.base.specs.ListLaws.{written_out}
@@ -25,6 +26,14 @@ word_written_lem a b c d la lb lc =
     let e2 : n / 65536 % 256 ≡ c = rw q2 (omega arith) in
     let e3 : n / 16777216 ≡ d = omega arith in
     λ i. e0 i ∷ e1 i ∷ e2 i ∷ e3 i ∷ []
+
+-- as the library writes a number below 2 ^ 32, and reads one
+pub le_word : (n : ℕ) → n < 2 ^ 32 → to_le_bytes w32 n ≡ word_bytes n
+unfolding word_bytes
+le_word n small = let last : n / 16777216 % 256 ≡ n / 16777216 = omega (arith, small) in λ i. n % 256 ∷ n / 256 % 256 ∷ n / 65536 % 256 ∷ last i ∷ []
+
+pub word_le : (a b c d : ℕ) → from_le_bytes w32 (a ∷ b ∷ c ∷ d ∷ []) ≡ a + 256 * b + 65536 * c + 16777216 * d
+word_le a b c d = omega arith
 
 pub tally_length : (t : Tallies) (still : ℕ) → length (tally_bytes t still) ≡ 20
 unfolding tally_bytes word_bytes

@@ -6,7 +6,6 @@ mod tallies;
 mod writing;
 
 pub use reading::{get, length};
-use seat::Seat;
 pub use writing::put;
 
 // "eight seat records of one fixed length"
@@ -15,12 +14,8 @@ pub const LENGTH: usize = channel_image::LENGTH + TALLIES;
 // "five 32-bit tallies"
 pub(crate) const TALLIES: usize = 20;
 
-// What a record says. Where it says no seat, `seat` is one at power-up.
-#[derive(Clone, Copy)]
-pub struct Found {
-    pub seat: Seat,
-    pub good: bool,
-}
+// From this version on a record has tallies.
+pub(crate) const WITH_TALLIES: u16 = 2;
 
 // Where the tallies stand, from the place of the first.
 pub(crate) const ARRIVED: usize = 0;

@@ -1,75 +1,46 @@
 // The reader of a record, of any version.
 ghost use Rattle.std.specs.Prelude.{◌≡◌, ◌≤◌, length};
-ghost use Rattle.seat_image.specs.Read.{length_of, tally_part, tallies_in, none_found, found};
+ghost use Rattle.seat_image.specs.Read.{length_of, tallies_in, tallies_told, found};
 
-use crate::{Found, tallies};
+use crate::tallies;
 use seat::{Seat, Tallies};
 
 // How long a record of a version is.
 pub fn length(version: u16) -> usize
     ensures { result ≡ length_of version }
 {
-    if version < 2 {
-        return channel_image::LENGTH;
+    if version < crate::WITH_TALLIES {
+        channel_image::LENGTH
+    } else {
+        crate::LENGTH
     }
-    crate::LENGTH
-}
-
-fn tally_block(part: &[u8]) -> [u8; 20]
-    requires { 86 ≤ length part.now }
-    ensures { result ≡ tally_part part.now }
-{
-    let mut b = [0u8; crate::TALLIES];
-    b.copy_from_slice(&part[channel_image::LENGTH..crate::LENGTH]);
-    b
 }
 
 // A version without tallies reads with arrived equal to what is queued.
-fn tallies_of(part: &[u8], version: u16, queued: u8) -> [u8; 20]
+fn tallies_of(part: &[u8], version: u16, queued: u8) -> Option<Tallies>
     requires { length_of version ≤ length part.now }
-    ensures { result ≡ tallies_in version part.now queued }
+    ensures { result ≡ tallies_told (tallies_in version part.now queued) queued }
 {
-    if version < 2 {
-        let t = Tallies {
-            arrived: queued as u32,
+    if version < crate::WITH_TALLIES {
+        return Some(Tallies {
+            arrived: u32::from(queued),
             read: 0,
             lost: 0,
             dropped: 0,
-        };
-        return tallies::tally_bytes(t, queued);
+        });
     }
-    tally_block(part)
-}
-
-fn none_found() -> Found
-    ensures { result ≡ none_found }
-{
-    Found {
-        seat: Seat::power_up(),
-        good: false,
-    }
+    let block = part[channel_image::LENGTH..].first_chunk::<{ crate::TALLIES }>()?;
+    tallies::tallies_told(block, queued)
 }
 
 // Reads the record of a version that a lent part begins with.
-pub fn get(part: &[u8], version: u16) -> Found
+pub fn get(part: &[u8], version: u16) -> Option<Seat>
     ensures { result ≡ found version part.now }
 {
     if part.len() < length(version) {
-        return none_found();
+        return None;
     }
-    let said = channel_image::get(part);
-    if !said.good {
-        return none_found();
-    }
-    let channel = said.channel;
-    let queued = channel.receiver.queue.count;
-    let block = tallies_of(part, version, queued);
-    if tallies::tallies_good(block, queued) {
-        let tallies = tallies::tallies_from(block);
-        return Found {
-            seat: Seat { tallies, channel },
-            good: true,
-        };
-    }
-    none_found()
+    let channel = channel_image::get(part)?;
+    let tallies = tallies_of(part, version, channel.receiver.queue.count)?;
+    Some(Seat { tallies, channel })
 }

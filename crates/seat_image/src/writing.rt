@@ -4,7 +4,6 @@ ghost use Rattle.std.proofs.lemmas.List.Edits.{sets};
 ghost use Rattle.seat.specs.Seats.{queued};
 ghost use Rattle.seat_image.specs.Written.{tally_bytes, Put};
 
-use crate::tallies;
 use seat::Seat;
 
 fn put_tallies(out: &mut [u8], seat: Seat)
@@ -12,8 +11,15 @@ fn put_tallies(out: &mut [u8], seat: Seat)
     ensures { out.new ≡ sets out.old 66 (tally_bytes seat.tallies (queued seat)) }
 {
     let t = seat.tallies;
-    let block = tallies::tally_bytes(t, seat.channel.receiver.queue.count);
-    out[channel_image::LENGTH..channel_image::LENGTH + block.len()].copy_from_slice(&block);
+    let queued = u32::from(seat.channel.receiver.queue.count);
+    let words = [
+        t.arrived.to_le_bytes(),
+        t.read.to_le_bytes(),
+        t.lost.to_le_bytes(),
+        t.dropped.to_le_bytes(),
+        queued.to_le_bytes(),
+    ];
+    out[channel_image::LENGTH..crate::LENGTH].copy_from_slice(words.as_flattened());
 }
 
 // Puts the record of a seat at the start of a lent part, and says whether there was room for it.
@@ -23,8 +29,7 @@ pub fn put(seat: Seat, out: &mut [u8]) -> bool
     if out.len() < crate::LENGTH {
         return false;
     }
-    let channel = seat.channel;
-    channel_image::put(channel, &mut *out);
+    channel_image::put(seat.channel, &mut *out);
     put_tallies(&mut *out, seat);
     true
 }

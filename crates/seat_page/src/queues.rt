@@ -1,5 +1,5 @@
 // The queues of a seat, and its shift register: a piece for each character, the oldest first.
-ghost use Rattle.std.specs.Prelude.{◌≡◌, ◌++◌, map, take};
+ghost use Rattle.std.specs.Prelude.{◌≡◌, ◌++◌, map};
 ghost use Rattle.text.specs.Line.{decimal};
 ghost use Rattle.page.specs.Pieces.{piece};
 ghost use Rattle.page.specs.Pages.{joined_all};
@@ -26,18 +26,12 @@ fn character(marks: bool, ch: Character) -> Piece
     letter
 }
 
-fn tell_characters(page: Page, marks: bool, slots: [Character; 16], count: u8) -> Page
-    ensures { result ≡ joined_all page (map (character_words marks) (take count slots)) }
+fn tell_characters(page: Page, marks: bool, characters: &[Character]) -> Page
+    ensures { result ≡ joined_all page (map (character_words marks) characters.now) }
 {
-    let n = count as usize;
     let mut told = page;
-    let mut i: usize = 0;
-    while i < 16 {
-        if n <= i {
-            return told;
-        }
-        told = told.join(character(marks, slots[i]));
-        i = i + 1;
+    for ch in characters {
+        told = told.join(character(marks, *ch));
     }
     told
 }
@@ -45,9 +39,9 @@ fn tell_characters(page: Page, marks: bool, slots: [Character; 16], count: u8) -
 fn tell_queue(page: Page, words: &[u8], marks: bool, q: Queue) -> Page
     ensures { result ≡ joined_all page (queue_pieces words.now marks q) }
 {
-    let slots = q.slots;
+    let count = (q.count as usize).min(q.slots.len());
     let told = page.join(number(words, q.count as u32));
-    tell_characters(told, marks, slots, q.count)
+    tell_characters(told, marks, &q.slots[..count])
 }
 
 fn shift(t: Transmitter) -> Piece

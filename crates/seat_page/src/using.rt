@@ -10,19 +10,19 @@ use transmitter::Transmitter;
 fn any_setting(s: Settings) -> bool
     ensures { result ≡ some_setting s }
 {
-    !(s.ier == 0)
-        | !(s.fcr == 0)
-        | !(s.lcr == 0)
-        | !(s.mcr == 0)
-        | !(s.scratch == 0)
-        | !(s.dll == 0)
-        | !(s.dlm == 0)
+    (s.ier != 0)
+        | (s.fcr != 0)
+        | (s.lcr != 0)
+        | (s.mcr != 0)
+        | (s.scratch != 0)
+        | (s.dll != 0)
+        | (s.dlm != 0)
 }
 
 fn any_modem(m: Modem) -> bool
     ensures { result ≡ some_modem m }
 {
-    !(m.levels == 0) | !(m.changes == 0)
+    (m.levels != 0) | (m.changes != 0)
 }
 
 fn any_to_send(t: Transmitter) -> bool
@@ -34,7 +34,7 @@ fn any_to_send(t: Transmitter) -> bool
 fn any_arrived(t: Tallies) -> bool
     ensures { result ≡ some_arrived t }
 {
-    !(t.arrived == 0)
+    t.arrived != 0
 }
 
 pub fn is_in_use(held: Seat) -> bool

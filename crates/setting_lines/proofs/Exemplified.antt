@@ -1,4 +1,5 @@
 -- The examples: each line's answer, computed as the code comes to it.
+use Rattle.std.specs.Prelude.{Result, Err}
 use Prim.Native.Nat.{ℕ, ◌≤◌}
 use Prim.Native.String.{String}
 use mathlib.Core.Bool.{Bool, true, false, ◌&&◌}
@@ -14,13 +15,15 @@ use Rattle.base.specs.Pick.{pick}
 use Rattle.base.specs.PickLaws.{pick_true, pick_false, either_way, both_hold, not_both}
 use Rattle.base.specs.Bits.{bit, digit}
 use Rattle.base.specs.Answers.{refusal_of, value_of}
-use Rattle.base.specs.declared.Answer.TheVariants.{Divisor, Refused}
+use Rattle.base.specs.declared.Answer.TheVariants.{Divisor}
+use Rattle.base.specs.declared.Refusal.{Refusal}
+use Rattle.base.specs.declared.Refusal.TheVariants.{NoSetting}
 use Rattle.rates.specs.Rates.{everywhere, rates_of, first, second, third, divisors_of, look, divisor_of, rate_of}
 use Rattle.text.specs.Quoted.{quoted}
 use Rattle.text.specs.Line.{decimal, digits_within}
 use Rattle.setting_lines.specs.Fields.{rate_text, stop_text, shape_text, lcr_of, line_of}
 use Rattle.setting_lines.specs.Reading.{setting_by, Reads}
-use Rattle.setting_lines.specs.Writing.{Left, left, written_by, Writes}
+use Rattle.setting_lines.specs.Writing.{Left, left, length_in, written_by, Writes}
 use Rattle.setting_lines.specs.Guess.{letter_by, shape_by, line_by, good, behind_rate, code_by, bits_by, lcr_guess, halved, rate_guess, guess_at, guessed}
 use Rattle.setting_lines.specs.SettingRefusals.{Lined, line_with}
 use Rattle.setting_lines.specs.ThereAndBack.{Answered}
@@ -29,7 +32,6 @@ use Rattle.setting_lines.specs.ShapeLaws.{shape_for, shape_sized, lcr_again, lcr
 use Rattle.setting_lines.proofs.LineLaws.{read_one, line_short}
 use Rattle.setting_lines.proofs.RateLaws.{listed_rated}
 use Rattle.setting_lines.specs.declared.Setting.{Setting}
-use Rattle.setting_lines.specs.declared.Written.{Written}
 use Rattle.setting_lines.specs.CaseLaws.{write_case}
 use Rattle.setting_lines.proofs.Refusing.{11-told, line_told}
 use Rattle.setting_lines.proofs.Ends.{read_as, read_none, written_as, written_none}
@@ -55,8 +57,8 @@ same_self (c ∷ l) = ap₂ ◌&&◌ (eq-eqb c c refl) (same_self l)
 abbrev own : List ℕ → List ℕ
 own line = line_by (guessed line).rate (guessed line).lcr
 
-abbrev answer_of : List ℕ → ℕ → Setting
-answer_of line clock = pick (same line (own line)) (setting_by (divisor_of (guessed line).rate clock) (guessed line).lcr) (setting_by (Refused 11) 0)
+abbrev answer_of : List ℕ → ℕ → Result Setting Refusal
+answer_of line clock = pick (same line (own line)) (setting_by (divisor_of (guessed line).rate clock) (guessed line).lcr) (Err NoSetting)
 
 answers : (line : List ℕ) (clock : ℕ) → Reads line clock (answer_of line clock)
 answers line clock =
@@ -68,11 +70,11 @@ answers line clock =
     (λ e. not_both (ap (same line) (sym e) ∙ same_self line) h) (pick_false _ _ _ h))
     (either_way (same line (own line)))
 
-answers_written : (clock divisor lcr : ℕ) (d : List ℕ) → (d' : List ℕ) × (w : Written) × Writes clock divisor lcr d d' w
+answers_written : (clock divisor lcr : ℕ) (d : List ℕ) → (d' : List ℕ) × (w : Result ℕ Refusal) × Writes clock divisor lcr d d' w
 answers_written clock divisor lcr d =
     ⊎_elim
     (λ (sure : good lcr ≡ true).
-    let l = written_by (rate_of divisor clock) (line_by (rate_of divisor clock).rate lcr) d in
+    let l = written_by (rate_of divisor clock) (λ rate. line_by rate lcr) d in
     (l.buffer, l.written, written_as clock divisor lcr d l.buffer l.written sure refl))
     (λ (bad : good lcr ≡ false). (d, _, written_none clock divisor lcr d d _ bad refl))
     (either_way (good lcr))
@@ -96,7 +98,7 @@ wrote clock divisor lcr rate text sure listed is d d' w room writes =
     record { rate = rate; shape = shape_for lcr; sized = shape_sized lcr; is = lcr_again lcr sure; listed = listed } in
     let few : length (line_with n) ≤ 13 = line_short rate (shape_for lcr) (listed_rated rate clock divisor listed) (shape_sized lcr) in
     let told = line_told clock divisor lcr d (left w d') (write_case clock divisor lcr d d' w writes) n (omega arith) in
-    ap (λ (x : Left). take x.written.length x.buffer) told
+    ap (λ (x : Left). take (length_in x.written) x.buffer) told
     ∙ take_at (line_with n) (drop (length (line_with n)) d) (length (line_with n)) refl
     ∙ is
 

@@ -1,5 +1,5 @@
 -- One line is that of one setting, it is short, and it has no other characters than its fields give it.
-use Rattle.std.specs.Prelude.{ℕ, ◌≤◌, ◌<◌, true, false, ◌&&◌, List, [], ◌∷◌, ◌++◌, ◌≡◌, refl, leb, length, get_or}
+use Rattle.std.specs.Prelude.{ℕ, ◌≤◌, ◌<◌, true, false, ◌&&◌, List, [], ◌∷◌, ◌++◌, ◌≡◌, refl, leb, length, get_or, Result, Ok, Err}
 use Rattle.std.proofs.Common.{inl, inr, ap, ap₂, sym, ◌∙◌, arith, length-append, leb-true, le-leb}
 use Rattle.std.proofs.Math.ListN.{get_or-append}
 use Rattle.base.specs.Pick.{pick}
@@ -7,17 +7,17 @@ use Rattle.base.specs.PickLaws.{both_hold, not_both}
 use Rattle.base.specs.EveryLaws.{holds}
 use Rattle.text.specs.Line.{numeral, decimal}
 use Rattle.text.proofs.FormLaws.{Digits, decimal_digits, decimal_leads}
+use Rattle.base.specs.declared.Refusal.{Refusal}
 use Rattle.rates.specs.Rates.{divisor_of, rate_of}
 use Rattle.setting_lines.specs.Fields.{Shape, Sized, Rated, rate_text, stop_text, shape_text, line_of, lcr_of}
 use Rattle.setting_lines.specs.Reading.{setting_by, NoLine, Reads}
-use Rattle.setting_lines.specs.Writing.{left, written_by, Writes}
+use Rattle.setting_lines.specs.Writing.{left, put_into, written_by, Writes}
 use Rattle.setting_lines.specs.NoLines.{of_line, all_of_line}
 use Rattle.setting_lines.specs.Guess.{guessed, line_by}
 use Rattle.setting_lines.proofs.RateLaws.{text_half, text_whole, text_short}
 use Rattle.setting_lines.specs.ShapeLaws.{at_shape, line_by_lem}
 use Rattle.setting_lines.proofs.GuessLaws.{guess_right}
 use Rattle.setting_lines.specs.declared.Setting.{Setting}
-use Rattle.setting_lines.specs.declared.Written.{Written}
 use Rattle.setting_lines.specs.declared.guesses.Guess.{Guess}
 
 -- ---- one setting
@@ -34,7 +34,7 @@ module _ (rate other : ℕ) (s t : Shape) (rated : Rated rate) (sized : Sized s)
   one_lcr = ap (λ (g : Guess). g.lcr) one_guess
 
 -- so a line is read in one way
-pub read_one : (line : List ℕ) (clock : ℕ) (r q : Setting) → Reads line clock r → Reads line clock q → r ≡ q
+pub read_one : (line : List ℕ) (clock : ℕ) (r q : Result Setting Refusal) → Reads line clock r → Reads line clock q → r ≡ q
 read_one line clock r q (inl a) (inl b) =
     let same = sym a.is ∙ b.is in
     a.told
@@ -48,13 +48,17 @@ read_one line clock r q (inr a) (inl b) = absurd (a.other b.rate b.shape b.rated
 read_one line clock r q (inr a) (inr b) = a.told ∙ sym b.told
 
 -- and a divisor and a byte are written in one way
-pub write_one : (clock divisor lcr : ℕ) (d d' d'' : List ℕ) (r q : Written) → Writes clock divisor lcr d d' r → Writes clock divisor lcr d d'' q
+pub write_one : (clock divisor lcr : ℕ) (d d' d'' : List ℕ) (r q : Result ℕ Refusal) → Writes clock divisor lcr d d' r → Writes clock divisor lcr d d'' q
     → left r d' ≡ left q d''
 write_one clock divisor lcr d d' d'' r q (inl a) (inl b) =
-    let rate = (rate_of divisor clock).rate in
-    let same : line_of rate a.shape ≡ line_of rate b.shape =
-    sym (line_by_lem a.shape a.sized rate) ∙ ap (line_by rate) (sym a.is ∙ b.is) ∙ line_by_lem b.shape b.sized rate in
-    a.told ∙ ap (λ (line : List ℕ). written_by (rate_of divisor clock) line d) same ∙ sym b.told
+    a.told ∙ same_line (rate_of divisor clock) ∙ sym b.told
+  where
+    same : (rate : ℕ) → line_of rate a.shape ≡ line_of rate b.shape
+    same rate = sym (line_by_lem a.shape a.sized rate) ∙ ap (line_by rate) (sym a.is ∙ b.is) ∙ line_by_lem b.shape b.sized rate
+
+    same_line : (f : Result ℕ Refusal) → written_by f (λ rate. line_of rate a.shape) d ≡ written_by f (λ rate. line_of rate b.shape) d
+    same_line (Ok rate) = ap (put_into d) (same rate)
+    same_line (Err r) = refl
 write_one clock divisor lcr d d' d'' r q (inl a) (inr b) = absurd (b.other a.shape a.sized a.is)
 write_one clock divisor lcr d d' d'' r q (inr a) (inl b) = absurd (a.other b.shape b.sized b.is)
 write_one clock divisor lcr d d' d'' r q (inr a) (inr b) = a.told ∙ sym b.told

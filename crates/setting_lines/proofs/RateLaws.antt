@@ -1,12 +1,13 @@
 -- Rates as a line may have them: every listed one, and none that has more than five characters.
-use Rattle.std.specs.Prelude.{ℕ, zero, suc, ◌*◌, ◌/◌, ◌%◌, ◌≤◌, Bool, true, false, ◌&&◌, ◌||◌, ◌≡◌, refl, eqb, leb, length}
+use Rattle.std.specs.Prelude.{ℕ, zero, suc, ◌*◌, ◌/◌, ◌%◌, ◌≤◌, Bool, true, false, ◌&&◌, ◌||◌, ◌≡◌, refl, eqb, leb, length, Ok, Err}
 use mathlib.Core.List.Memᴰ
 use mathlib.Core.List.{List, [], ◌∷◌, Memᴰ}
-use Rattle.std.proofs.Common.{inl, inr, ⊎_elim, ◌∙◌, eqb-true, eq-eqb, ne_eqb, leb-true}
+use Rattle.std.proofs.Common.{inl, inr, ⊎_elim, sym, ◌∙◌, eqb-true, eq-eqb, ne_eqb, leb-true}
 use Rattle.std.proofs.Math.Path.{ap}
 use native.Mathlib.Omega.{arith}
 use Rattle.base.specs.PickLaws.{pick_true, pick_false, either_way, both_hold}
 use Rattle.base.specs.declared.Answer.TheVariants.{Divisor}
+use Rattle.base.specs.declared.Refusal.TheVariants.{NotListed}
 use Rattle.text.specs.Quoted.{quoted}
 use Rattle.text.specs.Line.{decimal}
 use Rattle.text.specs.DecimalLaws.{decimal_length, front_length}
@@ -76,6 +77,12 @@ pub listed_rated : (rate clock divisor : ℕ) → divisor_of rate clock ≡ Divi
 listed_rated rate clock divisor listed =
     rated rate (member_test could rate (rates_of clock) (all_could clock) (accepted_only rate clock divisor listed).1)
 
-pub found_small : (divisor clock : ℕ) → (rate_of divisor clock).rate ≤ 999990
-found_small divisor clock =
-    ⊎_elim (λ has. rw has.1 (rated_small has.0 (listed_rated has.0 clock divisor has.2))) (λ no. rw no.0 (omega arith)) (either divisor clock)
+pub found_small : (divisor clock rate : ℕ) → rate_of divisor clock ≡ Ok rate → rate ≤ 999990
+found_small divisor clock rate is =
+    ⊎_elim
+    (λ has.
+    let found : Ok has.0 ≡ Ok rate = sym has.1 ∙ is in
+    let same : has.0 ≡ rate = cc in
+    omega (arith, rated_small has.0 (listed_rated has.0 clock divisor has.2)))
+    (λ no. let other : Err NotListed ≡ Ok rate = sym no.0 ∙ is in absurd (cc))
+    (either divisor clock)

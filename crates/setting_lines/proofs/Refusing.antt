@@ -1,4 +1,5 @@
 -- Each refusal exactly in its own case, and what of the buffer stays.
+use Rattle.std.specs.Prelude.{Result}
 use Prim.Native.Nat.{ℕ, ◌≤◌, ◌<◌}
 use mathlib.Core.Bool.{true}
 use mathlib.Core.List.{List}
@@ -10,11 +11,14 @@ use lib.Seq.{drop_at}
 use Rattle.base.specs.Pick.{pick}
 use Rattle.base.specs.declared.Answer.{Answer}
 use Rattle.base.specs.declared.Answer.TheVariants.{Done, Refused}
+use Rattle.base.specs.declared.Refusal.{Refusal}
+use Rattle.base.specs.Refusals.{number_of}
+use Rattle.rates.specs.Answering.{answer_in}
 use Rattle.rates.proofs.RatesLaws.{accepted_only, distinct_answered}
 use Rattle.text.specs.Line.{decimal, digits_within}
 use Rattle.setting_lines.specs.Fields.{N, rate_text, stop_text, shape_text, line_of, lcr_of}
-use Rattle.setting_lines.specs.Reading.{NoLine}
-use Rattle.setting_lines.specs.Writing.{Left, left, left_by, NoShape}
+use Rattle.setting_lines.specs.Reading.{divisor_in, lcr_in, NoLine}
+use Rattle.setting_lines.specs.Writing.{Left, left, length_in, left_by, NoShape}
 use Rattle.setting_lines.specs.ThereAndBack.{begun_by}
 use Rattle.setting_lines.specs.Guess.{line_by}
 use Rattle.setting_lines.specs.SettingRefusals.{RateMissing, ReadRefusals, Lined, line_with, DivisorMissing, WriteRefusals, Nothing, Stays, Longest}
@@ -30,31 +34,35 @@ two_refusals a n m p q differ = absurd (differ (cc))
 
 -- ---- reading
 
-module _ (line : List ℕ) (clock : ℕ) (r : Setting) where
-  answered : {a : Setting} → r ≡ a → r.answer ≡ a.answer
-  answered is = ap (λ (x : Setting). x.answer) is
+module _ (line : List ℕ) (clock : ℕ) (r : Result Setting Refusal) where
+  answered : {a : Result Setting Refusal} → r ≡ a → answer_in r ≡ answer_in a
+  answered is = ap answer_in is
 
-  11-given : ReadCase line clock r → NoLine line → r.answer ≡ Refused 11
+  11-given : ReadCase line clock r → NoLine line → answer_in r ≡ Refused 11
+  unfolding number_of
   11-given (no_line other is) none = answered is
   11-given (unlisted u is) none = absurd (none u.rate u.shape u.rated u.sized u.is)
   11-given (meant divisor m is) none = absurd (none m.rate m.shape m.rated m.sized m.is)
 
-  11-only : ReadCase line clock r → r.answer ≡ Refused 11 → NoLine line
+  11-only : ReadCase line clock r → answer_in r ≡ Refused 11 → NoLine line
+  unfolding number_of
   11-only (no_line other is) told = other
-  11-only (unlisted u is) told = two_refusals r.answer 11 10 told (answered is) (λ e. omega arith)
-  11-only (meant divisor m is) told = not_done r.answer 11 (answered is) told
+  11-only (unlisted u is) told = two_refusals (answer_in r) 11 10 told (answered is) (λ e. omega arith)
+  11-only (meant divisor m is) told = not_done (answer_in r) 11 (answered is) told
 
-  10-given : ReadCase line clock r → RateMissing line clock → r.answer ≡ Refused 10
+  10-given : ReadCase line clock r → RateMissing line clock → answer_in r ≡ Refused 10
+  unfolding number_of
   10-given (no_line other is) v = absurd (other v.rate v.shape v.rated v.sized v.is)
   10-given (unlisted u is) v = answered is
   10-given (meant divisor m is) v =
       let same = one_rate m.rate v.rate m.shape v.shape m.rated m.sized v.rated v.sized (sym m.is ∙ v.is) in
       absurd (v.missing (rw (← same) (accepted_only m.rate clock divisor m.listed)))
 
-  10-only : ReadCase line clock r → r.answer ≡ Refused 10 → RateMissing line clock
-  10-only (no_line other is) told = two_refusals r.answer 10 11 told (answered is) (λ e. omega arith)
+  10-only : ReadCase line clock r → answer_in r ≡ Refused 10 → RateMissing line clock
+  unfolding number_of
+  10-only (no_line other is) told = two_refusals (answer_in r) 10 11 told (answered is) (λ e. omega arith)
   10-only (unlisted u is) told = u
-  10-only (meant divisor m is) told = not_done r.answer 10 (answered is) told
+  10-only (meant divisor m is) told = not_done (answer_in r) 10 (answered is) told
 
 pub read_refusals : ReadRefusals
 read_refusals =
@@ -68,32 +76,36 @@ read_refusals =
 -- ---- writing
 
 module _ (clock divisor lcr : ℕ) (d : List ℕ) (l : Left) where
-  given_as : {m : Left} → l ≡ m → l.written.answer ≡ m.written.answer
-  given_as is = ap (λ (x : Left). x.written.answer) is
+  given_as : {m : Left} → l ≡ m → (answer_in l.written) ≡ answer_in m.written
+  given_as is = ap (λ (x : Left). answer_in x.written) is
 
-  pub 11-told : WriteCase clock divisor lcr d l → NoShape lcr → l.written.answer ≡ Refused 11
+  pub 11-told : WriteCase clock divisor lcr d l → NoShape lcr → (answer_in l.written) ≡ Refused 11
+  unfolding number_of
   11-told (no_shape other is) none = given_as is
   11-told (unrated u is) none = absurd (none u.shape u.sized u.is)
   11-told (short n less is) none = absurd (none n.shape n.sized n.is)
   11-told (lined n fits is) none = absurd (none n.shape n.sized n.is)
 
-  11-alone : WriteCase clock divisor lcr d l → l.written.answer ≡ Refused 11 → NoShape lcr
+  11-alone : WriteCase clock divisor lcr d l → (answer_in l.written) ≡ Refused 11 → NoShape lcr
+  unfolding number_of
   11-alone (no_shape other is) told = other
-  11-alone (unrated u is) told = two_refusals l.written.answer 11 10 told (given_as is) (λ e. omega arith)
-  11-alone (short n less is) told = two_refusals l.written.answer 11 12 told (given_as is) (λ e. omega arith)
-  11-alone (lined n fits is) told = not_done l.written.answer 11 (given_as is) told
+  11-alone (unrated u is) told = two_refusals (answer_in l.written) 11 10 told (given_as is) (λ e. omega arith)
+  11-alone (short n less is) told = two_refusals (answer_in l.written) 11 12 told (given_as is) (λ e. omega arith)
+  11-alone (lined n fits is) told = not_done (answer_in l.written) 11 (given_as is) told
 
-  10-told : WriteCase clock divisor lcr d l → DivisorMissing clock divisor lcr → l.written.answer ≡ Refused 10
+  10-told : WriteCase clock divisor lcr d l → DivisorMissing clock divisor lcr → (answer_in l.written) ≡ Refused 10
+  unfolding number_of
   10-told (no_shape other is) v = absurd (other v.shape v.sized v.is)
   10-told (unrated u is) v = given_as is
   10-told (short n less is) v = absurd (v.missing n.rate n.listed)
   10-told (lined n fits is) v = absurd (v.missing n.rate n.listed)
 
-  10-alone : WriteCase clock divisor lcr d l → l.written.answer ≡ Refused 10 → DivisorMissing clock divisor lcr
-  10-alone (no_shape other is) told = two_refusals l.written.answer 10 11 told (given_as is) (λ e. omega arith)
+  10-alone : WriteCase clock divisor lcr d l → (answer_in l.written) ≡ Refused 10 → DivisorMissing clock divisor lcr
+  unfolding number_of
+  10-alone (no_shape other is) told = two_refusals (answer_in l.written) 10 11 told (given_as is) (λ e. omega arith)
   10-alone (unrated u is) told = u
-  10-alone (short n less is) told = two_refusals l.written.answer 10 12 told (given_as is) (λ e. omega arith)
-  10-alone (lined n fits is) told = not_done l.written.answer 10 (given_as is) told
+  10-alone (short n less is) told = two_refusals (answer_in l.written) 10 12 told (given_as is) (λ e. omega arith)
+  10-alone (lined n fits is) told = not_done (answer_in l.written) 10 (given_as is) told
 
   -- a divisor and a byte have one line
   one_line : (n m : Lined clock divisor lcr) → line_with n ≡ line_with m
@@ -103,17 +115,19 @@ module _ (clock divisor lcr : ℕ) (d : List ℕ) (l : Left) where
       ∙ ap (line_by m.rate) (sym n.is ∙ m.is)
       ∙ line_by_lem m.shape m.sized m.rate
 
-  12-told : WriteCase clock divisor lcr d l → (m : Lined clock divisor lcr) → length d < length (line_with m) → l.written.answer ≡ Refused 12
+  12-told : WriteCase clock divisor lcr d l → (m : Lined clock divisor lcr) → length d < length (line_with m) → (answer_in l.written) ≡ Refused 12
+  unfolding number_of
   12-told (no_shape other is) m full = absurd (other m.shape m.sized m.is)
   12-told (unrated u is) m full = absurd (u.missing m.rate m.listed)
   12-told (short n less is) m full = given_as is
   12-told (lined n fits is) m full = absurd (omega (arith, ap length (one_line n m)))
 
-  12-alone : WriteCase clock divisor lcr d l → l.written.answer ≡ Refused 12 → (n : Lined clock divisor lcr) × (length d < length (line_with n))
-  12-alone (no_shape other is) told = two_refusals l.written.answer 12 11 told (given_as is) (λ e. omega arith)
-  12-alone (unrated u is) told = two_refusals l.written.answer 12 10 told (given_as is) (λ e. omega arith)
+  12-alone : WriteCase clock divisor lcr d l → (answer_in l.written) ≡ Refused 12 → (n : Lined clock divisor lcr) × (length d < length (line_with n))
+  unfolding number_of
+  12-alone (no_shape other is) told = two_refusals (answer_in l.written) 12 11 told (given_as is) (λ e. omega arith)
+  12-alone (unrated u is) told = two_refusals (answer_in l.written) 12 10 told (given_as is) (λ e. omega arith)
   12-alone (short n less is) told = (n, less)
-  12-alone (lined n fits is) told = not_done l.written.answer 12 (given_as is) told
+  12-alone (lined n fits is) told = not_done (answer_in l.written) 12 (given_as is) told
 
   pub line_told : WriteCase clock divisor lcr d l → (m : Lined clock divisor lcr) → length (line_with m) ≤ length d
       → l ≡ begun_by d (line_with m)
@@ -123,19 +137,21 @@ module _ (clock divisor lcr : ℕ) (d : List ℕ) (l : Left) where
   line_told (lined n fits is) m room =
       is ∙ ap (begun_by d) (one_line n m)
 
-  kept : {k : ℕ} → l ≡ left_by d k → l.buffer ≡ d
+  kept : {k : Refusal} → l ≡ left_by d k → l.buffer ≡ d
   kept is = ap (λ (x : Left). x.buffer) is
 
-  refused_kept : WriteCase clock divisor lcr d l → (l.written.answer ≡ Done → ⊥) → l.buffer ≡ d
+  refused_kept : WriteCase clock divisor lcr d l → ((answer_in l.written) ≡ Done → ⊥) → l.buffer ≡ d
+  unfolding number_of
   refused_kept (no_shape other is) refused = kept is
   refused_kept (unrated u is) refused = kept is
   refused_kept (short n less is) refused = kept is
   refused_kept (lined n fits is) refused = absurd (refused (given_as is))
 
-  behind_kept : WriteCase clock divisor lcr d l → l.written.answer ≡ Done → drop l.written.length l.buffer ≡ drop l.written.length d
-  behind_kept (no_shape other is) done = not_done l.written.answer 11 done (given_as is)
-  behind_kept (unrated u is) done = not_done l.written.answer 10 done (given_as is)
-  behind_kept (short n less is) done = not_done l.written.answer 12 done (given_as is)
+  behind_kept : WriteCase clock divisor lcr d l → (answer_in l.written) ≡ Done → drop (length_in l.written) l.buffer ≡ drop (length_in l.written) d
+  unfolding number_of
+  behind_kept (no_shape other is) done = not_done (answer_in l.written) 11 done (given_as is)
+  behind_kept (unrated u is) done = not_done (answer_in l.written) 10 done (given_as is)
+  behind_kept (short n less is) done = not_done (answer_in l.written) 12 done (given_as is)
   behind_kept (lined n fits is) done = rw is (drop_at (line_with n) (drop (length (line_with n)) d) (length (line_with n)) refl)
 
 pub write_refusals : WriteRefusals
@@ -152,18 +168,18 @@ write_refusals =
 
 -- ---- beside a refusal
 
-module _ (line : List ℕ) (clock : ℕ) (r : Setting) where
-  no_numbers_lem : ReadCase line clock r → (r.answer ≡ Done → ⊥) → (r.divisor ≡ 0) × (r.lcr ≡ 0)
+module _ (line : List ℕ) (clock : ℕ) (r : Result Setting Refusal) where
+  no_numbers_lem : ReadCase line clock r → (answer_in r ≡ Done → ⊥) → (divisor_in r ≡ 0) × (lcr_in r ≡ 0)
   no_numbers_lem (no_line other is) refused = rw is (refl, refl)
   no_numbers_lem (unlisted u is) refused = rw is (refl, refl)
-  no_numbers_lem (meant divisor m is) refused = absurd (refused (ap (λ (x : Setting). x.answer) is))
+  no_numbers_lem (meant divisor m is) refused = absurd (refused (ap answer_in is))
 
 module _ (clock divisor lcr : ℕ) (d : List ℕ) (l : Left) where
-  no_length : WriteCase clock divisor lcr d l → (l.written.answer ≡ Done → ⊥) → l.written.length ≡ 0
-  no_length (no_shape other is) refused = ap (λ (x : Left). x.written.length) is
-  no_length (unrated u is) refused = ap (λ (x : Left). x.written.length) is
-  no_length (short n less is) refused = ap (λ (x : Left). x.written.length) is
-  no_length (lined n fits is) refused = absurd (refused (ap (λ (x : Left). x.written.answer) is))
+  no_length : WriteCase clock divisor lcr d l → ((answer_in l.written) ≡ Done → ⊥) → length_in l.written ≡ 0
+  no_length (no_shape other is) refused = ap (λ (x : Left). length_in x.written) is
+  no_length (unrated u is) refused = ap (λ (x : Left). length_in x.written) is
+  no_length (short n less is) refused = ap (λ (x : Left). length_in x.written) is
+  no_length (lined n fits is) refused = absurd (refused (ap (λ (x : Left). answer_in x.written) is))
 
 pub nothing : Nothing
 nothing =

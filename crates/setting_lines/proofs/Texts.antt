@@ -1,7 +1,7 @@
 -- The texts of a line: how long they are, and how the code's stores put them.
-use Prim.Native.Nat.{ℕ, suc, ◌+◌, ◌/◌, ◌%◌, ◌≤◌}
+use Prim.Native.Nat.{ℕ, ◌+◌, ◌/◌, ◌%◌, ◌≤◌}
 use mathlib.Core.Bool.{Bool, true, false}
-use mathlib.Core.List.{List, [], ◌∷◌}
+use mathlib.Core.List.{List}
 use mathlib.Core.Path.{◌≡◌}
 use native.Mathlib.Nat.{zero-add}
 use native.Mathlib.Omega.{arith}
@@ -40,24 +40,6 @@ unfolding line_by
 line_length rate lcr = length-append (rate_text rate) (shape_by lcr)
 
 -- ---- stores
-
--- three and five in a row, as code that counts up from `at` leaves them
-pub three : (l : List ℕ) (at a b c : ℕ) → set (set (set l at a) (at + 1) b) (at + 2) c ≡ sets l at (a ∷ b ∷ c ∷ [])
-three l at a b c =
-    let p1 : at + 1 ≡ suc at = omega arith in
-    let p2 : at + 2 ≡ suc (suc at) = omega arith in
-    rw (p1, p2)
-
-pub five : (l : List ℕ) (at a b c d e : ℕ) (rest : List ℕ)
-    → sets (set (set (set (set (set l at a) (at + 1) b) (at + 2) c) (at + 3) d) (at + 4) e) (at + 5) rest
-    ≡ sets l at (a ∷ b ∷ c ∷ d ∷ e ∷ rest)
-five l at a b c d e rest =
-    let p1 : at + 1 ≡ suc at = omega arith in
-    let p2 : at + 2 ≡ suc (suc at) = omega arith in
-    let p3 : at + 3 ≡ suc (suc (suc at)) = omega arith in
-    let p4 : at + 4 ≡ suc (suc (suc (suc at))) = omega arith in
-    let p5 : at + 5 ≡ suc (suc (suc (suc (suc at)))) = omega arith in
-    rw (p1, p2, p3, p4, p5)
 
 -- the digits before the last, and the last, are the rate
 pub rate_whole : (rate : ℕ) → (rate ≡ 1345 → ⊥) → rate_text rate ≡ decimal (rate / 10)

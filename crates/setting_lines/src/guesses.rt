@@ -1,5 +1,5 @@
 // A guess at the setting of a line: right wherever the line is one of a setting, and some setting elsewhere.
-ghost use Rattle.std.specs.Prelude.{◌≡◌, ◌+◌, ◌-◌, ◌≤◌, length};
+ghost use Rattle.std.specs.Prelude.{◌≡◌, ◌+◌, ◌≤◌, length};
 ghost use Rattle.text.proofs.FormLaws.{denoted};
 ghost use Rattle.setting_lines.specs.Guess.{behind_rate, halved, code_by, lcr_guess, rate_guess, guess_at, guessed};
 
@@ -18,23 +18,10 @@ const LONGEST_RATE: usize = 5;
 fn behind_rate(line: &[u8]) -> usize
     ensures { result ≡ behind_rate line.now }
 {
-    if line.len() == 0 {
-        return 6;
+    match line.last() {
+        Some(c) if *c == b'5' => 8,
+        _ => 6,
     }
-    if line[line.len() - 1] == b'5' {
-        return 8;
-    }
-    6
-}
-
-// How far a character stands behind another; 0 where it stands before it.
-fn above(c: u8, first: u8) -> u8
-    ensures { result ≡ c - first }
-{
-    if c < first {
-        return 0;
-    }
-    c - first
 }
 
 // What the characters before the shape denote, taken as digits.
@@ -43,8 +30,8 @@ fn number(front: &[u8]) -> u32
     ensures { result ≡ denoted 0 front.now }
 {
     let mut n: u32 = 0;
-    for i in 0..front.len() {
-        n = 10 * n + above(front[i], b'0') as u32;
+    for c in front {
+        n = 10 * n + u32::from(c.saturating_sub(b'0'));
     }
     n
 }
@@ -52,10 +39,7 @@ fn number(front: &[u8]) -> u32
 fn is_halved(front: &[u8]) -> bool
     ensures { result ≡ halved front.now }
 {
-    if front.len() == LONGEST_RATE {
-        return front[3] == b'.';
-    }
-    false
+    front.len() == LONGEST_RATE && front[3] == b'.'
 }
 
 fn rate(front: &[u8]) -> u32
@@ -65,14 +49,10 @@ fn rate(front: &[u8]) -> u32
     if is_halved(front) {
         return 1345;
     }
-    let n = number(front);
-    if 99999 < n {
-        return 10;
+    match number(front) {
+        n @ 1..=99999 => 10 * n,
+        _ => 10,
     }
-    if n == 0 {
-        return 10;
-    }
-    10 * n
 }
 
 // LCR bits 5-3 of a letter; 000 of one that is none.
@@ -91,14 +71,14 @@ fn code(c: u8) -> u8
 fn lcr(parity: u8, bits: u8, longer: bool) -> u8
     ensures { result ≡ lcr_guess parity bits longer }
 {
-    above(bits, b'5') % 4 + 4 * base::pick_byte(longer, 1, 0) + 8 * code(parity)
+    bits.saturating_sub(b'5') % 4 + 4 * u8::from(longer) + 8 * code(parity)
 }
 
 fn guess_at(line: &[u8], front: usize, behind: usize) -> Guess
     requires { (front ≤ 5) × (front + 6 ≤ length line.now) }
     ensures { result ≡ guess_at line.now front behind }
 {
-    let longer = (behind == 8) | (line[front + 5] == b'2');
+    let longer = behind == 8 || line[front + 5] == b'2';
     Guess {
         rate: rate(&line[..front]),
         lcr: lcr(line[front + 1], line[front + 3], longer),

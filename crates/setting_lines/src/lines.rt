@@ -1,4 +1,4 @@
-// The line of a rate and an LCR byte, put at the start of an array that holds any.
+// The line of a rate and an LCR byte.
 ghost use Rattle.std.specs.Prelude.{◌≡◌, ◌+◌, ◌≤◌, length};
 ghost use Rattle.std.proofs.lemmas.List.Edits.{sets};
 ghost use Rattle.setting_lines.specs.Fields.{rate_text, stop_text};
@@ -29,59 +29,55 @@ fn letter(code: u8) -> u8
     }
 }
 
-fn put_rate(line: &mut [u8; 20], rate: u32) -> usize
+// Puts a text behind `at`, and answers the place after it.
+fn put_text(room: &mut [u8; 20], at: usize, text: &[u8]) -> usize
+    requires { at + length text.now ≤ 20 }
+    ensures { (result ≡ at + length text.now) × (room.new ≡ sets room.old at text.now) }
+{
+    let end = at + text.len();
+    room[at..end].copy_from_slice(text);
+    end
+}
+
+fn put_rate(room: &mut [u8; 20], rate: u32) -> usize
     requires { rate ≤ 999990 }
-    ensures { (result ≡ length (rate_text rate)) × (line.new ≡ sets line.old 0 (rate_text rate)) }
+    ensures { (result ≡ length (rate_text rate)) × (room.new ≡ sets room.old 0 (rate_text rate)) }
 {
     if rate == 1345 {
-        line[0] = b'1';
-        line[1] = b'3';
-        line[2] = b'4';
-        line[3] = b'.';
-        line[4] = b'5';
-        return 5;
+        return put_text(&mut *room, 0, b"134.5");
     }
     let n = rate / 10;
-    let last = text::put_front(&mut *line, n as u64);
-    line[last] = b'0' + (n % 10) as u8;
+    let last = text::put_front(&mut *room, u64::from(n));
+    room[last] = b'0' + (n % 10) as u8;
     last + 1
 }
 
-fn put_stop(line: &mut [u8; 20], at: usize, bits: u8, longer: bool) -> usize
-    requires { at ≤ 10 }
-    ensures { (result ≡ at + length (stop_text bits longer)) × (line.new ≡ sets line.old at (stop_text bits longer)) }
+fn stop(bits: u8, longer: bool) -> &'static [u8]
+    ensures { result.now ≡ stop_text bits longer }
 {
-    if longer {
-        if bits == 5 {
-            line[at] = b'1';
-            line[at + 1] = b'.';
-            line[at + 2] = b'5';
-            return at + 3;
-        }
-        line[at] = b'2';
-        return at + 1;
+    match (longer, bits) {
+        (false, _) => b"1",
+        (true, 5) => b"1.5",
+        (true, _) => b"2",
     }
-    line[at] = b'1';
-    at + 1
 }
 
-fn put_shape(line: &mut [u8; 20], at: usize, lcr: u8) -> usize
+fn put_shape(room: &mut [u8; 20], at: usize, lcr: u8) -> usize
     requires { at ≤ 5 }
-    ensures { (result ≡ at + length (shape_by lcr)) × (line.new ≡ sets line.old at (shape_by lcr)) }
+    ensures { (result ≡ at + length (shape_by lcr)) × (room.new ≡ sets room.old at (shape_by lcr)) }
 {
     let bits = 5 + lcr % 4;
-    line[at] = b',';
-    line[at + 1] = letter(lcr / 8 % 8);
-    line[at + 2] = b',';
-    line[at + 3] = b'0' + bits;
-    line[at + 4] = b',';
-    put_stop(&mut *line, at + 5, bits, bit(LCR_STOP, lcr))
+    let fields = [b',', letter(lcr / 8 % 8), b',', b'0' + bits, b','];
+    let behind = put_text(&mut *room, at, &fields);
+    put_text(&mut *room, behind, stop(bits, bit(LCR_STOP, lcr)))
 }
 
-pub(crate) fn put_line(line: &mut [u8; 20], rate: u32, lcr: u8) -> usize
+// Makes the line at the start of an array that holds any.
+pub(crate) fn put_line(room: &mut [u8; 20], rate: u32, lcr: u8) -> &[u8]
     requires { rate ≤ 999990 }
-    ensures { (result ≡ length (line_by rate lcr)) × (line.new ≡ sets line.old 0 (line_by rate lcr)) }
+    ensures { result.now ≡ line_by rate lcr }
 {
-    let at = put_rate(&mut *line, rate);
-    put_shape(&mut *line, at, lcr)
+    let at = put_rate(&mut *room, rate);
+    let end = put_shape(&mut *room, at, lcr);
+    &room[..end]
 }

@@ -1,5 +1,5 @@
+pub mod Cuts
 pub mod Fits
-pub mod Kept
+pub mod Zeros
 pub mod Slips
 pub mod Stores
-pub mod Walks

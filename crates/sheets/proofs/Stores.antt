@@ -3,22 +3,14 @@ use Prim.Native.Nat.{ℕ, ◌+◌, ◌%◌, ◌^◌, ◌≤◌, ◌<◌}
 use mathlib.Core.List.{List, ◌++◌}
 use mathlib.Core.Path.{◌≡◌, sym, ◌∙◌}
 use native.Mathlib.Omega.{arith}
-use native.Mathlib.Numerals.{add-one}
 use native.Mathlib.Nat.{zero-add}
-use lib.ListN.{length, set, take, get_or, length-append}
-use lib.Seq.{sets, sets-eq, take-suc, take-append_seam, length-take-le}
+use lib.ListN.{length, set, take, length-append}
+use lib.Seq.{sets, sets-eq, take-append_seam}
 use Rattle.text.specs.Line.{numeral, decimal}
 use Rattle.text.specs.Front.{front}
 use Rattle.base.specs.StoreLaws.{sets_append}
 use Rattle.text.specs.DecimalLaws.{decimal_length, decimal_front, front_length}
 use Rattle.sheets.specs.Texts.{longest, AtStart}
-
--- a text stored byte by byte
-pub one_stored : (text l : List ℕ) (at i : ℕ) → i < length text
-    → set (sets l at (take i text)) (at + i) (get_or text i 0) ≡ sets l at (take (i + 1) text)
-one_stored text l at i h =
-    let size : length (take i text) ≡ i = length-take-le i text (omega arith) in
-    rw (add-one i, take-suc text i 0 h, sets_append (take i text), size)
 
 -- a text behind another, from a place on
 stored_behind : (p q d d1 d2 : List ℕ) (at a : ℕ) → a ≡ at + length p → d1 ≡ sets d at p → d2 ≡ sets d1 a q → d2 ≡ sets d at (p ++ q)

@@ -1,6 +1,6 @@
 -- The length of an answer.
-use Rattle.std.specs.Prelude.{ℕ, ◌≤◌, true, false, List, ◌≡◌, length}
-use Rattle.std.proofs.Common.{⊎_elim, ap, ◌∙◌, arith}
+use Rattle.std.specs.Prelude.{ℕ, ◌≤◌, true, false, List, ◌≡◌, length, Option, Some, None}
+use Rattle.std.proofs.Common.{⊎_elim, ap, sym, ◌∙◌, arith}
 use Rattle.std.proofs.Math.Seq.{length-sets}
 use Rattle.base.specs.PickLaws.{either_way}
 use Rattle.sheets.specs.Texts.{longest, AtStart}
@@ -18,9 +18,14 @@ text_fits text d d' r p = (p.short, ap length p.bytes ∙ length-sets d 0 text)
 pub line_fits : (line : List ℕ) (clock : ℕ) (d d' : List ℕ) (r : ℕ) → LineReply line clock d d' r → Fits d d' r
 line_fits line clock d d' r p = text_fits _ d d' r p.told
 
-pub numbers_fit : (s : Numbers) (d d' : List ℕ) (r : ℕ) → NumbersReply s d d' r → Fits d d' r
+-- where there is one
+pub numbers_fit : (s : Numbers) (d d' : List ℕ) (r : Option ℕ) → NumbersReply s d d' r → ((n : ℕ) → r ≡ Some n → n ≤ longest) × (length d' ≡ length d)
 numbers_fit s d d' r p =
     ⊎_elim
-    (λ (yes : four s ≡ true). text_fits _ d d' r (p.answer yes).told)
-    (λ (no : four s ≡ false). (omega (arith, (p.none no).1), ap length (p.none no).0))
+    (λ (yes : four s ≡ true).
+    let a = p.answer yes in
+    let fits = text_fits _ d d' a.0 a.2.told in
+    (λ n is. let same : Some n ≡ Some a.0 = sym is ∙ a.1 in let one : n ≡ a.0 = cc in omega (arith, fits.0), fits.1))
+    (λ (no : four s ≡ false).
+    let none = p.none no in (λ n is. let other : Some n ≡ None = sym is ∙ none.1 in absurd (cc), ap length none.0))
     (either_way (four s))

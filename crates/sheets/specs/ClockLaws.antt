@@ -1,5 +1,5 @@
 -- A word is a clock exactly if it is digits, one or more; and then it is the number that they denote.
-use Rattle.std.specs.Prelude.{ℕ, ◌≤◌, ◌<◌, true, false, not, ◌&&◌, List, [], ◌∷◌, ◌⊎◌, ◌≡◌, refl, eqb, leb, length}
+use Rattle.std.specs.Prelude.{ℕ, ◌≤◌, ◌<◌, true, false, not, ◌&&◌, List, [], ◌∷◌, ◌⊎◌, ◌≡◌, refl, eqb, leb, length, Some, None}
 use Rattle.std.proofs.Common.{inl, inr, ⊎_elim, sym, ◌∙◌, arith}
 use Rattle.std.proofs.Math.Path.{ap}
 use Rattle.std.proofs.Math.Dec.{ltb}
@@ -13,15 +13,14 @@ use Rattle.text.specs.Hex.{digit as worth}
 use Rattle.sheets.specs.Numbers.{base, no_numbers, with_digit, with_blank, numbers_after, numbers_behind, unread, clock_in, clock_of}
 use Rattle.sheets.specs.FourLaws.{valued, AllDigits, Word, first_read}
 use Rattle.sheets.specs.SpelledLaws.{decimal_word, decimal_valued}
-use Rattle.sheets.specs.declared.Clock.TheVariants.{Number, NoNumber}
 use Rattle.sheets.specs.declared.Numbers.{Numbers}
 
-pub clock_read : (word : List ℕ) → Word 10 word → clock_of word ≡ Number (up_to 255 (valued 10 0 word))
+pub clock_read : (word : List ℕ) → Word 10 word → clock_of word ≡ Some (up_to 255 (valued 10 0 word))
 unfolding clock_in pick
-clock_read word w = ap clock_in (first_read word w) ∙ ap Number (up_to_less 255 (valued 10 0 word) 65535 (omega arith))
+clock_read word w = ap clock_in (first_read word w) ∙ ap Some (up_to_less 255 (valued 10 0 word) 65535 (omega arith))
 
-pub clock_decimal : (clock : ℕ) → clock_of (decimal clock) ≡ Number (up_to 255 clock)
-clock_decimal clock = clock_read (decimal clock) (decimal_word clock) ∙ ap (λ (n : ℕ). Number (up_to 255 n)) (decimal_valued clock)
+pub clock_decimal : (clock : ℕ) → clock_of (decimal clock) ≡ Some (up_to 255 clock)
+clock_decimal clock = clock_read (decimal clock) (decimal_word clock) ∙ ap (λ (n : ℕ). Some (up_to 255 n)) (decimal_valued clock)
 
 -- ---- and no other word
 
@@ -66,10 +65,10 @@ begun_some : (text : List ℕ) → (numbers_behind no_numbers text).begun ≡ tr
 begun_some [] begun = absurd (never begun)
 begun_some (c ∷ text) begun = omega arith
 
-no_number : (n : ℕ) → NoNumber ≡ Number n → ⊥
+no_number : (n : ℕ) → None ≡ Some n → ⊥
 no_number n e = let z : ◌≡◌ {A = ℕ} 0 1 = cc in omega arith
 
-pub clock_word : (word : List ℕ) (n : ℕ) → clock_of word ≡ Number n → Word 10 word
+pub clock_word : (word : List ℕ) (n : ℕ) → clock_of word ≡ Some n → Word 10 word
 unfolding clock_in
 clock_word word n is =
     let s : Numbers = numbers_behind no_numbers word in

@@ -1,5 +1,5 @@
 -- What is kept of a line is its beginning, and that is enough to answer it.
-use Rattle.std.specs.Prelude.{ℕ, suc, ◌+◌, ◌-◌, ◌≤◌, ◌<◌, true, false, List, [], ◌∷◌, ◌++◌, ◌≡◌, refl, eqb, ltb, leb, length, take, set}
+use Rattle.std.specs.Prelude.{ℕ, suc, ◌+◌, ◌-◌, ◌≤◌, ◌<◌, true, false, List, [], ◌∷◌, ◌++◌, ◌≡◌, refl, eqb, ltb, leb, length, take, set, Result}
 use Rattle.std.proofs.Common.{append_assoc, append-nil, inl, inr, ⊎_elim, sym, ap, subst, ◌∙◌, add-one, take_all, take-suc-set, length-take-le, ltb-true, ltb-false, lt-ltb, le-ltb, leb-true, leb-false, eqb-true}
 use native.Mathlib.Omega.{arith}
 use Rattle.std.proofs.Math.ListN.{length-set}
@@ -8,6 +8,7 @@ use Rattle.base.specs.PickLaws.{pick_true, pick_false, either_way}
 use Rattle.setting_lines.specs.Reading.{NoLine, Reads}
 use Rattle.setting_lines.proofs.LineLaws.{none_longer}
 use Rattle.setting_lines.specs.declared.Setting.{Setting}
+use Rattle.base.specs.declared.Refusal.{Refusal}
 use Rattle.sheets.specs.Replies.{LineReply}
 use Rattle.sheets.specs.Kept.{most, no_bytes, kept, line_after, line_behind}
 use Rattle.sheets.specs.declared.Line.{Line}
@@ -92,15 +93,15 @@ module _ (text : List ℕ) (long : most < length text) where
   none_kept : NoLine (take most text)
   none_kept = none_longer (take most text) (omega (arith, length-take-le most text (omega arith)))
 
-  pub long_as_kept : (clock : ℕ) (r : Setting) → Reads (take most text) clock r → Reads text clock r
+  pub long_as_kept : (clock : ℕ) (r : Result Setting Refusal) → Reads (take most text) clock r → Reads text clock r
   long_as_kept clock r (inl a) = absurd (none_kept a.rate a.shape a.rated a.sized a.is)
   long_as_kept clock r (inr o) = inr (record { other = none_longer text (omega arith); told = o.told })
 
-  pub kept_as_long : (clock : ℕ) (r : Setting) → Reads text clock r → Reads (take most text) clock r
+  pub kept_as_long : (clock : ℕ) (r : Result Setting Refusal) → Reads text clock r → Reads (take most text) clock r
   kept_as_long clock r (inl a) = absurd (none_longer text (omega arith) a.rate a.shape a.rated a.sized a.is)
   kept_as_long clock r (inr o) = inr (record { other = none_kept; told = o.told })
 
-module _ (text : List ℕ) (clock : ℕ) (r : Setting) where
+module _ (text : List ℕ) (clock : ℕ) (r : Result Setting Refusal) where
   -- what is kept of a line is read as the whole of it
   pub whole_read : Reads (kept (line_behind no_bytes text)) clock r → Reads text clock r
   whole_read p =

@@ -4,14 +4,12 @@
 --     small; the others have decimal ones.
 --  3. A number too large for its type is taken for the largest that there is: 65535 for the divisor, 255 for clock and LCR byte. None of them is
 --     listed, and no settings line gives that byte. A room for more than 13 bytes, which no line has, is taken for one of 13.
-use Rattle.std.specs.Prelude.{ℕ, ◌+◌, ◌-◌, ◌*◌, Bool, true, false, not, ◌&&◌, List, [], ◌∷◌, ltb, leb, eqb, get_or, set, replicate}
+use Rattle.std.specs.Prelude.{ℕ, ◌+◌, ◌*◌, Bool, true, false, not, ◌&&◌, List, [], ◌∷◌, ltb, leb, eqb, get_or, set, replicate, Option, Some, None}
 use Rattle.base.specs.Pick.{pick}
 use Rattle.text.specs.Hex.{digit as worth}
 use Rattle.text.specs.Line.{space}
 use Rattle.sheets.specs.Limits.{up_to}
 use Rattle.sheets.specs.declared.Numbers.{Numbers}
-use Rattle.sheets.specs.declared.Clock.{Clock}
-use Rattle.sheets.specs.declared.Clock.TheVariants.{Number, NoNumber}
 
 -- ---- digits
 
@@ -74,8 +72,8 @@ abbrev pub room : ℕ → ℕ
 room n = up_to 13 n
 
 -- a word is a clock where it is one number, read as the first of four
-unfoldable pub clock_in : Numbers → Clock
-clock_in s = pick (eqb s.place 0 && s.begun) (Number (byte (number 0 s))) NoNumber
+unfoldable pub clock_in : Numbers → Option ℕ
+clock_in s = pick (eqb s.place 0 && s.begun) (Some (byte (number 0 s))) None
 
-abbrev pub clock_of : List ℕ → Clock
+abbrev pub clock_of : List ℕ → Option ℕ
 clock_of word = clock_in (numbers_behind no_numbers word)

@@ -2,18 +2,20 @@
 ghost use Rattle.std.specs.Prelude.{◌≡◌, [], ◌∷◌, ◌++◌, ◌+◌, ◌≤◌, length};
 ghost use Rattle.std.proofs.lemmas.List.Edits.{sets};
 ghost use Rattle.text.specs.Line.{newline, decimal};
+ghost use Rattle.base.specs.Refusals.{number_of};
+ghost use Rattle.setting_lines.specs.Writing.{length_in};
 ghost use Rattle.sheets.specs.Texts.{no_refusal, figures, setting_text, written_text, AtStart};
 
+use base::Refusal;
 use setting_lines::Setting;
 
 fn put_text(out: &mut [u8; 20], at: usize, bytes: &[u8]) -> usize
     requires { at + length bytes.now ≤ 20 }
     ensures { (result ≡ at + length bytes.now) × (out.new ≡ sets out.old at bytes.now) }
 {
-    for i in 0..bytes.len() {
-        out[at + i] = bytes[i];
-    }
-    at + bytes.len()
+    let end = at + bytes.len();
+    out[at..end].copy_from_slice(bytes);
+    end
 }
 
 fn put_number(out: &mut [u8; 20], at: usize, n: u16) -> usize
@@ -21,38 +23,36 @@ fn put_number(out: &mut [u8; 20], at: usize, n: u16) -> usize
     ensures { (result ≡ at + length (decimal n)) × (out.new ≡ sets out.old at (decimal n)) × (result ≤ at + 5) }
 {
     let mut own = [0u8; 20];
-    let last = text::put_front(&mut own, n as u64);
+    let last = text::put_front(&mut own, u64::from(n));
     own[last] = b'0' + (n % 10) as u8;
-    put_text(&mut *out, at, &own[..last + 1])
+    put_text(&mut *out, at, &own[..=last])
 }
 
-fn put_figures(out: &mut [u8; 20], divisor: u16, lcr: u8) -> usize
-    ensures { AtStart (no_refusal ++ figures divisor lcr) out.old out.new result }
+fn put_figures(out: &mut [u8; 20], setting: Setting) -> usize
+    ensures { AtStart (no_refusal ++ figures setting.divisor setting.lcr) out.old out.new result }
 {
-    let byte = lcr as u32;
+    let byte = u32::from(setting.lcr);
     let end = [b' ', text::capital(byte / 16), text::capital(byte), b'\n'];
     let from = put_text(&mut *out, 0, b"0 ");
-    let at = put_number(&mut *out, from, divisor);
+    let at = put_number(&mut *out, from, setting.divisor);
     put_text(&mut *out, at, &end)
 }
 
-fn put_refusal(out: &mut [u8; 20], refusal: u8, end: &[u8]) -> usize
+fn put_refusal(out: &mut [u8; 20], refusal: Refusal, end: &[u8]) -> usize
     requires { length end.now ≤ 5 }
-    ensures { AtStart (decimal refusal ++ end.now) out.old out.new result }
+    ensures { AtStart (decimal (number_of refusal) ++ end.now) out.old out.new result }
 {
-    let at = put_number(&mut *out, 0, refusal as u16);
+    let at = put_number(&mut *out, 0, u16::from(refusal.number()));
     put_text(&mut *out, at, end)
 }
 
-pub(crate) fn put_setting(out: &mut [u8; 20], setting: Setting) -> usize
+pub(crate) fn put_setting(out: &mut [u8; 20], setting: Result<Setting, Refusal>) -> usize
     ensures { AtStart (setting_text setting) out.old out.new result }
 {
-    let answer = setting.answer;
-    let refusal = answer.refusal();
-    if refusal == 0 {
-        return put_figures(&mut *out, setting.divisor, setting.lcr);
+    match setting {
+        Ok(setting) => put_figures(&mut *out, setting),
+        Err(refusal) => put_refusal(&mut *out, refusal, b" - -\n"),
     }
-    put_refusal(&mut *out, refusal, b" - -\n")
 }
 
 fn put_line(out: &mut [u8; 20], line: &[u8]) -> usize
@@ -64,12 +64,16 @@ fn put_line(out: &mut [u8; 20], line: &[u8]) -> usize
     put_text(&mut *out, at, b"\n")
 }
 
-pub(crate) fn put_written(out: &mut [u8; 20], refusal: u8, line: &[u8]) -> usize
-    requires { length line.now ≤ 13 }
-    ensures { AtStart (written_text refusal line.now) out.old out.new result }
+pub(crate) fn put_written(
+    out: &mut [u8; 20],
+    written: Result<usize, Refusal>,
+    buffer: &[u8],
+) -> usize
+    requires { (length_in written ≤ 13) × (length_in written ≤ length buffer.now) }
+    ensures { AtStart (written_text written buffer.now) out.old out.new result }
 {
-    if refusal == 0 {
-        return put_line(&mut *out, line);
+    match written {
+        Ok(length) => put_line(&mut *out, &buffer[..length]),
+        Err(refusal) => put_refusal(&mut *out, refusal, b" -\n"),
     }
-    put_refusal(&mut *out, refusal, b" -\n")
 }

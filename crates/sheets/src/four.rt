@@ -1,11 +1,10 @@
 // The four numbers that a settings line is written from, read character by character.
-ghost use Rattle.std.specs.Prelude.{◌≡◌, ◌+◌, ◌*◌, ◌≤◌};
+ghost use Rattle.std.specs.Prelude.{◌≡◌, ◌<◌, ◌≤◌};
 ghost use Rattle.sheets.specs.Limits.{up_to};
-ghost use Rattle.sheets.specs.Numbers.{no_numbers, spoilt, with_blank, numbers_after, unread, four};
+ghost use Rattle.sheets.specs.Numbers.{no_numbers, spoilt, with_digit, with_blank, numbers_after, unread, four};
 ghost use Rattle.sheets.specs.Numbers.{base as Numbers·base};
 ghost use Rattle.sheets.specs.Replies.{NumbersReply};
 
-use crate::limits::up_to;
 use crate::{Numbers, answers};
 
 // Places of the numbers, from 0.
@@ -28,17 +27,10 @@ fn base(place: u8) -> u8
     10
 }
 
-fn with_digit(base: u8, n: u16, digit: u8) -> u16
-    requires { (base ≤ 16) × (digit ≤ 16) }
-    ensures { result ≡ up_to 65535 (base * n + digit) }
-{
-    up_to(65535, base as usize * n as usize + digit as usize) as u16
-}
-
 pub(crate) fn byte(n: u16) -> u8
     ensures { result ≡ up_to 255 n }
 {
-    up_to(255, n as usize) as u8
+    u8::try_from(n).unwrap_or(u8::MAX)
 }
 
 impl Numbers {
@@ -60,18 +52,33 @@ impl Numbers {
         self
     }
 
+    // One more digit of the number that is being read.
+    fn with_digit(mut self, digit: u8) -> Numbers
+        requires { self.place < 4 }
+        ensures { result ≡ with_digit self digit }
+    {
+        let at = usize::from(self.place);
+        let base = u16::from(base(self.place));
+        let number = base
+            .saturating_mul(self.values[at])
+            .saturating_add(u16::from(digit));
+        self.values[at] = number;
+        self.begun = true;
+        self
+    }
+
     fn with_blank(mut self) -> Numbers
         ensures { result ≡ with_blank self }
     {
         if self.begun & (self.place < ROOM) {
-            self.place = self.place + 1;
+            self.place += 1;
             self.begun = false;
             return self;
         }
         self.spoilt()
     }
 
-    pub fn after(mut self, c: u8) -> Numbers
+    pub fn after(self, c: u8) -> Numbers
         ensures { result ≡ numbers_after self c }
     {
         if SPOILT <= self.place {
@@ -80,15 +87,10 @@ impl Numbers {
         if c == b' ' {
             return self.with_blank();
         }
-        let base = base(self.place);
-        let digit = text::digit(c);
-        if base <= digit {
-            return self.spoilt();
+        match text::digit(c) {
+            Some(digit) if digit < base(self.place) => self.with_digit(digit),
+            _ => self.spoilt(),
         }
-        let at = self.place as usize;
-        self.values[at] = with_digit(base, self.values[at], digit);
-        self.begun = true;
-        self
     }
 
     pub fn is_unread(self) -> bool
@@ -103,20 +105,18 @@ impl Numbers {
         (self.place == ROOM) & self.begun
     }
 
-    // Puts the answer at the start of the array, and answers its length; of what is not four numbers, nothing and 0.
-    pub fn reply(self, out: &mut [u8; 20]) -> usize
+    // Puts the answer at the start of the array, and answers its length; of what is not four numbers, nothing.
+    pub fn reply(self, out: &mut [u8; 20]) -> Option<usize>
         ensures { NumbersReply self out.old out.new result }
     {
         if !self.are_four() {
-            return 0;
+            return None;
         }
         let values = self.values;
-        let room = up_to(LONGEST_LINE, values[3] as usize);
+        let room = usize::from(values[3]).min(LONGEST_LINE);
         let clock = byte(values[0]);
         let mut buffer = [0u8; 13];
         let written = setting_lines::write(values[1], byte(values[2]), clock, &mut buffer[..room]);
-        let answer = written.answer;
-        let length = written.length;
-        answers::put_written(out, answer.refusal(), &buffer[..length])
+        Some(answers::put_written(out, written, &buffer))
     }
 }

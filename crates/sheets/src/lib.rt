@@ -4,7 +4,6 @@
 
 mod answers;
 mod four;
-mod limits;
 mod lines;
 mod words;
 
@@ -24,11 +23,4 @@ pub struct Numbers {
     pub(crate) values: [u16; 4],
     pub(crate) place: u8,
     pub(crate) begun: bool,
-}
-
-// What a word says of the clock.
-#[derive(Clone, Copy)]
-pub enum Clock {
-    Number(u8),
-    NoNumber,
 }

@@ -3,7 +3,6 @@ ghost use Rattle.std.specs.Prelude.{◌≡◌, eqb};
 ghost use Rattle.sheets.specs.Kept.{no_bytes, line_after, kept};
 ghost use Rattle.sheets.specs.Replies.{LineReply};
 
-use crate::limits::up_to;
 use crate::{Line, answers};
 
 const KEPT: usize = 14;
@@ -21,11 +20,9 @@ impl Line {
     pub fn after(mut self, c: u8) -> Line
         ensures { result ≡ line_after self c }
     {
-        let at = self.count;
-        if at < KEPT {
-            self.bytes[at] = c;
-            self.count = at + 1;
-            return self;
+        if self.count < KEPT {
+            self.bytes[self.count] = c;
+            self.count += 1;
         }
         self
     }
@@ -41,7 +38,7 @@ impl Line {
         ensures { LineReply (kept self) clock out.old out.new result }
     {
         let bytes = self.bytes;
-        let count = up_to(KEPT, self.count);
+        let count = self.count.min(KEPT);
         let setting = setting_lines::read(&bytes[..count], clock);
         answers::put_setting(out, setting)
     }

@@ -1,72 +1,53 @@
 // The two kinds of sheets: settings lines at a clock, or lines of four numbers.
-ghost use Rattle.std.specs.Prelude.{◌≡◌, ◌≤◌, length};
+ghost use Rattle.std.specs.Prelude.{◌≡◌, ◌≤◌, length, IfSome};
 
 use sheets::{Line, Numbers};
 
-// The line that is being read: by its numbers in a sheet of numbers, by its bytes in the other.
+// The line that is being read: by its bytes in a sheet of settings lines, by its numbers in the other.
 #[derive(Clone, Copy)]
-pub(crate) struct Sheet {
-    numbered: bool,
-    clock: u8,
-    line: Line,
-    numbers: Numbers,
+pub(crate) enum Sheet {
+    Lines(u8, Line),
+    Numbers(Numbers),
 }
 
 impl Sheet {
     pub(crate) fn of_lines(clock: u8) -> Sheet {
-        Sheet {
-            numbered: false,
-            clock,
-            line: Line::start(),
-            numbers: Numbers::start(),
-        }
+        Sheet::Lines(clock, Line::start())
     }
 
     pub(crate) fn of_numbers() -> Sheet {
-        Sheet {
-            numbered: true,
-            clock: 0,
-            line: Line::start(),
-            numbers: Numbers::start(),
-        }
+        Sheet::Numbers(Numbers::start())
     }
 
     // At the start of the next line.
-    pub(crate) fn next(mut self) -> Sheet {
-        self.line = Line::start();
-        self.numbers = Numbers::start();
-        self
+    pub(crate) fn next(self) -> Sheet {
+        match self {
+            Sheet::Lines(clock, _) => Sheet::of_lines(clock),
+            Sheet::Numbers(_) => Sheet::of_numbers(),
+        }
     }
 
-    pub(crate) fn after(mut self, c: u8) -> Sheet {
-        let line = self.line;
-        let numbers = self.numbers;
-        if self.numbered {
-            self.numbers = numbers.after(c);
-            return self;
+    pub(crate) fn after(self, c: u8) -> Sheet {
+        match self {
+            Sheet::Lines(clock, line) => Sheet::Lines(clock, line.after(c)),
+            Sheet::Numbers(numbers) => Sheet::Numbers(numbers.after(c)),
         }
-        self.line = line.after(c);
-        self
     }
 
     pub(crate) fn is_empty(self) -> bool {
-        let line = self.line;
-        let numbers = self.numbers;
-        if self.numbered {
-            return numbers.is_unread();
+        match self {
+            Sheet::Lines(_, line) => line.is_empty(),
+            Sheet::Numbers(numbers) => numbers.is_unread(),
         }
-        line.is_empty()
     }
 
-    // The length of the answer; 0 where there is none.
-    pub(crate) fn reply(self, out: &mut [u8; 20]) -> usize
-        ensures { (result ≤ 16) × (length out.new ≡ length out.old) }
+    // The length of the answer, where there is one.
+    pub(crate) fn reply(self, out: &mut [u8; 20]) -> Option<usize>
+        ensures { IfSome result (λ n. n ≤ 16) × (length out.new ≡ length out.old) }
     {
-        let line = self.line;
-        let numbers = self.numbers;
-        if self.numbered {
-            return numbers.reply(out);
+        match self {
+            Sheet::Lines(clock, line) => Some(line.reply(clock, out)),
+            Sheet::Numbers(numbers) => numbers.reply(out),
         }
-        line.reply(self.clock, out)
     }
 }

@@ -1,13 +1,13 @@
 // The settings program: lines of a control sheet from standard input, their answers to standard output.
 #![tactic(auto)]
 
+mod buffers;
 mod input;
 mod kinds;
 mod told;
 mod words;
 
 use kinds::Sheet;
-use sheets::Clock;
 use std::env::Env;
 use std::io::{ErrorKind, Input, Result};
 use std::process::ExitCode;
@@ -17,8 +17,8 @@ const NO_READER: u8 = 141;
 
 fn run_settings(rt: &(impl Env + Input + Print + Eprint)) -> Result<()> {
     match words::clock(rt) {
-        Clock::Number(clock) => input::run(rt, Sheet::of_lines(clock)),
-        Clock::NoNumber => {
+        Some(clock) => input::run(rt, Sheet::of_lines(clock)),
+        None => {
             told::usage(rt);
             Ok(())
         }

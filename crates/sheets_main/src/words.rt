@@ -1,24 +1,14 @@
 // The program's words.
-ghost use Rattle.std.specs.Prelude.{◌≡◌, ◌≤◌, length};
+ghost use Rattle.std.specs.Prelude.{◌≤◌, length};
 
-use sheets::Clock;
+use crate::buffers::{LongWord, room};
 use std::env::{Env, FillError};
-
-// No word is longer.
-fn long_word() -> [u8; 131072]
-    ensures { 131072 ≡ length result }
-{
-    [0u8; 131072]
-}
 
 // How many there are, the program's name among them.
 pub(crate) fn count(rt: &impl Env) -> usize {
-    for i in 0..usize::MAX {
-        if let Err(FillError::NotPresent) = rt.arg(i, &mut []) {
-            return i;
-        }
-    }
-    usize::MAX
+    (0..usize::MAX)
+        .find(|i| matches!(rt.arg(*i, &mut []), Err(FillError::NotPresent)))
+        .unwrap_or(usize::MAX)
 }
 
 // Puts the word at the start of a buffer. Its length; 0 where there is none, or where it is longer than the buffer.
@@ -35,8 +25,8 @@ pub(crate) fn is_word(rt: &impl Env, name: &[u8]) -> bool {
     &word[..length] == name
 }
 
-pub(crate) fn clock(rt: &impl Env) -> Clock {
-    let mut word = long_word();
+pub(crate) fn clock(rt: &impl Env) -> Option<u8> {
+    let mut word: LongWord = room();
     let length = read(rt, 2, &mut word);
     sheets::read_clock(&word[..length])
 }

@@ -1,5 +1,5 @@
 -- What is seen of a bench is what the software would read there, and no reading disturbs it.
-use Rattle.std.specs.Prelude.{ℕ, ◌<◌, Bool, true, false, ◌&&◌, ◌||◌, ◌≡◌, ltb, eqb, replicate}
+use Rattle.std.specs.Prelude.{ℕ, ◌<◌, true, false, ◌&&◌, ◌||◌, ◌≡◌, ltb, eqb, replicate}
 use Rattle.base.specs.Bits.{bit, bits}
 use Rattle.base.specs.ListLaws.{listed}
 use Rattle.base.specs.declared.Answer.{Answer}

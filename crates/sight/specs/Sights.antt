@@ -1,5 +1,5 @@
 -- What the timeline shows of a bench.
-use Rattle.std.specs.Prelude.{ℕ, List, get_or}
+use Rattle.std.specs.Prelude.{ℕ, get_or}
 use Rattle.base.specs.ListLaws.{listed}
 use Rattle.channel.specs.Status.{lsr}
 use Rattle.controller.specs.Turns.{requests, output_of}

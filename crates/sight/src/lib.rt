@@ -43,14 +43,7 @@ fn seen(seat: Seat) -> Look
 fn all_seen(s: [Seat; SEATS]) -> [Look; SEATS]
     ensures { result ≡ listed 8 (λ n. look_of (get_or s n no_seat)) }
 {
-    let mut all = [Look { lsr: 0, queued: 0 }; SEATS];
-    let mut n: usize = 0;
-    while n < SEATS {
-        let one = s[n];
-        all[n] = seen(one);
-        n = n + 1;
-    }
-    all
+    s.map(seen)
 }
 
 impl Sight {

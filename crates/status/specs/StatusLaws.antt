@@ -8,7 +8,7 @@ use Rattle.base.specs.PickLaws.{pick_le}
 use Rattle.base.specs.Bits.{bit}
 use Rattle.base.proofs.BitLaws.{bit_bits}
 use Rattle.registers.specs.declared.Settings.{Settings}
-use Rattle.registers.specs.Modem.{msr_of, some_change}
+use Rattle.registers.specs.Modem.{msr_of}
 use Rattle.registers.proofs.ModemLaws.{modem_changed}
 use Rattle.receiver.specs.declared.Receiver.{Receiver}
 use Rattle.receiver.specs.Receiver.{shown_marks, troubled}

@@ -42,16 +42,10 @@ fn cause(settings: Settings, receiver: Receiver, transmitter: Transmitter, chang
         flag: transmitter.flag,
         change: registers::any_change(changes),
     };
-    let mut k: usize = 0;
-    while k < CAUSES.len() {
-        let row = CAUSES[k];
-        let Row(code, bit, when) = row;
-        let enabled = base::bit(bit, settings.ier);
-        let stands = standing.holds(when);
-        if enabled & stands {
+    for Row(code, bit, when) in CAUSES {
+        if base::bit(bit, settings.ier) & standing.holds(when) {
             return code;
         }
-        k = k + 1;
     }
     IIR_NONE
 }
@@ -63,13 +57,15 @@ pub fn iir(settings: Settings, receiver: Receiver, transmitter: Transmitter, cha
     named + base::pick_byte(settings.is_fifo(), IIR_FIFO, 0)
 }
 
+#[tactic(auto, unfolding(crate::specs::Status::line_of))]
 pub fn line(settings: Settings, receiver: Receiver, transmitter: Transmitter, changes: u8) -> bool
     ensures { result ≡ line_of settings receiver transmitter changes }
 {
     let named = cause(settings, receiver, transmitter, changes);
-    !(named == IIR_NONE) & base::bit(Settings::MCR_OUT2, settings.mcr)
+    (named != IIR_NONE) & base::bit(Settings::MCR_OUT2, settings.mcr)
 }
 
+#[tactic(auto, unfolding(crate::specs::Status::lsr_of))]
 pub fn lsr(fifo: bool, receiver: Receiver, transmitter: Transmitter) -> u8
     ensures { result ≡ lsr_of fifo receiver transmitter }
 {

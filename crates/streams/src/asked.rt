@@ -1,7 +1,7 @@
 // From a row to a record, and a record spoiled.
-use crate::Record;
 use crate::columns::Row;
-use std::num::wrapping_add_u8;
+use crate::sets::{Field, Spoil};
+use base::Whole;
 
 // A row of this kind or above is for any seat; what is above it is the record's kind.
 const ANY_SEAT: u8 = 16;
@@ -11,47 +11,37 @@ const LAST_OF_SEAT: u8 = 4;
 
 const SEATS: u8 = 8;
 
-// "If the row's kind is 16 or more, f % 8; else if it is 4 or less, the state's seat; else f."
-fn seat_of(kind: u8, seat: u8, f: u8) -> u8 {
-    if kind >= ANY_SEAT {
-        return f % SEATS;
-    }
-    if kind <= LAST_OF_SEAT {
-        return seat;
-    }
-    f
-}
-
-// "(the row's value + value step * h) % 256"
-fn value_of(value: u8, step: u8, h: u8) -> u8 {
-    ((value as u32 + step as u32 * h as u32) % 256) as u8
-}
-
-// "Three draws, all always": what they gave.
-pub(crate) fn asked(row: Row, seat: u8, f: u8, g: u8, h: u8) -> Record {
-    Record {
-        kind: row.kind % ANY_SEAT,
-        seat: seat_of(row.kind, seat, f),
-        number: wrapping_add_u8(row.number, g),
-        value: value_of(row.value, row.step, h),
-    }
-}
-
-impl Record {
-    const KIND: u8 = 0;
-
-    const SEAT: u8 = 1;
-
-    const NUMBER: u8 = 2;
-
-    // "Byte `which` of the record (0 kind, 1 seat, 2 number, 3 value) is replaced."
-    pub(crate) fn spoiled(mut self, which: u8, byte: u8) -> Record {
-        match which {
-            Record::KIND => self.kind = byte,
-            Record::SEAT => self.seat = byte,
-            Record::NUMBER => self.number = byte,
-            _ => self.value = byte,
+impl Row {
+    // "If the row's kind is 16 or more, f % 8; else if it is 4 or less, the state's seat; else f."
+    fn seat_of(self, seat: u8, f: u8) -> u8 {
+        match self.kind {
+            ANY_SEAT.. => f % SEATS,
+            ..=LAST_OF_SEAT => seat,
+            _ => f,
         }
-        self
+    }
+
+    // "Three draws, all always": what they gave.
+    pub(crate) fn asked(self, seat: u8, f: u8, g: u8, h: u8) -> Whole {
+        Whole {
+            kind: self.kind % ANY_SEAT,
+            seat: self.seat_of(seat, f),
+            number: self.number.wrapping_add(g),
+            value: self.value.wrapping_add(self.step.wrapping_mul(h)),
+        }
+    }
+}
+
+impl Spoil {
+    // "Byte `which` of the record is replaced by (base of spoil j + k) % 256."
+    pub(crate) fn apply(self, record: &mut Whole, k: u8) {
+        let Spoil(which, base, _) = self;
+        let byte = base.wrapping_add(k);
+        match which {
+            Field::Kind => record.kind = byte,
+            Field::Seat => record.seat = byte,
+            Field::Number => record.number = byte,
+            Field::Value => record.value = byte,
+        }
     }
 }

@@ -17,11 +17,7 @@ pub fn add(digest: u32, v: u32) -> u32
 pub fn outcome_mark(answer: Answer, output: bool) -> u32
     ensures { result ≡ refusal_of answer * 8192 + value_of answer * 2 + digit output }
 {
-    let mark = answer.refusal() as u32 * 8192 + answer.value() as u32 * 2;
-    if output {
-        return mark + 1;
-    }
-    mark
+    answer.refusal() as u32 * 8192 + answer.value() as u32 * 2 + output as u32
 }
 
 // "refusal * 4096 + answer"

@@ -5,7 +5,7 @@ ghost use Rattle.std.specs.Prelude.{◌≡◌, ◌+◌, ◌*◌, ◌/◌, ◌%�
 pub fn advance(x: u32) -> u32
     ensures { result ≡ (x * 1664525 + 1013904223) % 4294967296 }
 {
-    ((x as u64 * 1664525 + 1013904223) % 4294967296) as u32
+    x.wrapping_mul(1664525).wrapping_add(1013904223)
 }
 
 // "(x / 65536) % n", with n one above most: so n is never 0, and the tables have their columns of this kind as "most".

@@ -15,16 +15,8 @@ ghost use Rattle.std.specs.Prelude.{◌≡◌};
 
 pub use digest::{add, letter_mark, outcome_mark, place_mark};
 pub use draws::{advance, pick};
-pub use rows::script_rows;
+pub use rows::{Rows, script_rows};
 pub use sets::SETS;
-
-#[derive(Clone, Copy)]
-pub struct Record {
-    pub kind: u8,
-    pub seat: u8,
-    pub number: u8,
-    pub value: u8,
-}
 
 #[derive(Clone, Copy)]
 pub struct Stream {
@@ -35,12 +27,6 @@ pub struct Stream {
     pub row: u16,
     pub stop: u16,
     pub left: u8,
-}
-
-#[derive(Clone, Copy)]
-pub struct Made {
-    pub stream: Stream,
-    pub record: Record,
 }
 
 impl Stream {

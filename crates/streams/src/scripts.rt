@@ -20,10 +20,9 @@ pub(crate) struct Span {
 
 // The remainder is there so that it need not be shown that the table has the script.
 pub(crate) fn span_of(script: u8) -> Span {
-    let rows = FIRST_ROWS;
     let at = script as usize % SCRIPTS;
     Span {
-        row: rows[at],
-        stop: rows[at + 1],
+        row: FIRST_ROWS[at],
+        stop: FIRST_ROWS[at + 1],
     }
 }

@@ -6,7 +6,7 @@ use Rattle.std.proofs.lemmas.Bool.{lt-leb}
 use Rattle.base.specs.PickLaws.{pick_true, pick_false, either_way}
 use Rattle.base.specs.Answers.{refusal_of}
 use Rattle.base.specs.declared.Answer.{Answer}
-use Rattle.text.specs.Line.{decimal, line, longest, Put, Puts}
+use Rattle.text.specs.Line.{decimal, line, Put, Puts}
 use Rattle.text.specs.Front.{front, line_after, rest}
 use Rattle.text.specs.DecimalLaws.{decimal_length, decimal_front, front_length}
 

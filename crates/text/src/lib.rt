@@ -5,6 +5,6 @@ mod hex;
 mod lines;
 mod numbers;
 
-pub use hex::{NO_DIGIT, digit};
+pub use hex::digit;
 pub use lines::put_after;
 pub use numbers::{capital, put_front};

@@ -1,35 +1,27 @@
 // What of a line stands behind the digits before its number's last; and the line.
 ghost use Rattle.std.specs.Prelude.{◌≡◌, ◌+◌, ◌≤◌, ◌<◌, leb, length};
 ghost use Rattle.std.proofs.lemmas.List.Edits.{sets};
-ghost use Rattle.text.specs.Line.{decimal, ending, output_digit, Put};
+ghost use Rattle.text.specs.Line.{decimal, ending, Put};
 ghost use Rattle.text.specs.Front.{line_after, rest};
 
-use crate::numbers::{capital, digit_count, put_byte, put_bytes, wide};
+use crate::numbers::{capital, digit_count, put_byte, put_bytes};
 use base::Answer;
 
 // No more bytes follow the digits before the last: the last, 3 of a refusal, and 8 more.
 const REST: usize = 12;
-
-fn output_digit(output: bool) -> u8
-    ensures { result ≡ output_digit output }
-{
-    if output { b'1' } else { b'0' }
-}
 
 // Puts what follows the refusal number.
 fn put_ending(out: &mut [u8], at: usize, value: u16, output: bool) -> usize
     requires { at + 7 ≤ length out.old }
     ensures { (result ≡ at + 7) × (out.new ≡ sets out.old at (ending value output)) }
 {
-    let digits = value as u32;
-    out[at] = b' ';
-    out[at + 1] = capital(digits / 256);
-    out[at + 2] = capital(digits / 16);
-    out[at + 3] = capital(digits);
-    out[at + 4] = b' ';
-    out[at + 5] = output_digit(output);
-    out[at + 6] = b'\n';
-    at + 7
+    let digits = u32::from(value);
+    let high = capital(digits / 256);
+    let middle = capital(digits / 16);
+    let low = capital(digits);
+    let shown = b'0' + u8::from(output);
+    let ending = [b' ', high, middle, low, b' ', shown, b'\n'];
+    put_bytes(&mut *out, at, &ending)
 }
 
 fn write_after(
@@ -62,7 +54,7 @@ fn holds(room: usize, digits: usize, refusal: u8) -> bool
     if REST <= room - digits {
         return true;
     }
-    digit_count(wide(refusal)) + 9 <= room - digits
+    digit_count(u64::from(refusal)) + 9 <= room - digits
 }
 
 // Puts a line whose number has the digits `front` before the last of n at `at`, and answers the place after it. Where it does

@@ -37,12 +37,6 @@ fn put_decimal(out: &mut [u8], at: usize, n: u64) -> usize
     end + 1
 }
 
-pub(crate) fn wide(x: u8) -> u64
-    ensures { result ≡ x }
-{
-    x as u64
-}
-
 // A byte in decimal. Nearly all that are put have one digit, for which nothing is called.
 pub(crate) fn put_byte(out: &mut [u8], at: usize, n: u8) -> usize
     requires { at + length (decimal n) ≤ length out.old }
@@ -52,7 +46,7 @@ pub(crate) fn put_byte(out: &mut [u8], at: usize, n: u8) -> usize
         out[at] = b'0' + n;
         return at + 1;
     }
-    put_decimal(&mut *out, at, wide(n))
+    put_decimal(&mut *out, at, u64::from(n))
 }
 
 // The digits of n before its last, at the start of `text`; and how many they are.
@@ -69,10 +63,7 @@ pub(crate) fn put_bytes(out: &mut [u8], at: usize, bytes: &[u8]) -> usize
     requires { at + length bytes.now ≤ length out.old }
     ensures { (result ≡ at + length bytes.now) × (out.new ≡ sets out.old at bytes.now) }
 {
-    let mut i: usize = 0;
-    while i < bytes.len() {
-        out[at + i] = bytes[i];
-        i += 1;
-    }
-    at + bytes.len()
+    let end = at + bytes.len();
+    out[at..end].copy_from_slice(bytes);
+    end
 }

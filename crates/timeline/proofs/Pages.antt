@@ -1,5 +1,5 @@
 -- Head, first and steps of a timeline stand on a page whole.
-use Prim.Native.Nat.{ℕ, zero, suc, ◌+◌, ◌*◌, ◌-◌, ◌^◌, ◌≤◌, ◌<◌}
+use Prim.Native.Nat.{ℕ, zero, suc, ◌+◌, ◌*◌, ◌^◌, ◌≤◌, ◌<◌}
 use mathlib.Core.Bool.{Bool, true, false}
 use mathlib.Core.List.{List, [], ◌∷◌, ◌++◌}
 use mathlib.Core.Path.{◌≡◌, refl, ◌∙◌}
@@ -9,10 +9,10 @@ use lib.Seq.{take_all}
 use Rattle.text.specs.Line.{decimal}
 use Rattle.text.specs.DecimalLaws.{length_small, decimal_length}
 use Rattle.text.specs.Quoted.{quoted}
-use Rattle.page.specs.Pages.{page_most, no_page, put, shown}
+use Rattle.page.specs.Pages.{page_most, no_page, shown}
 use Rattle.page.specs.PageLaws.{shown_put}
 use Rattle.sight.specs.Sights.{look_at}
-use Rattle.timeline.specs.Variables.{Variable, each, down_from, output_variable, of_number, of_seat, line_variables, scope_count, scope_variables, variables}
+use Rattle.timeline.specs.Variables.{Variable, each, down_from, of_number, of_seat, line_variables, scope_count, scope_variables, variables}
 use Rattle.timeline.specs.Dump.{declaration, declarations, scope, scoped, line_head, head_words, seat_head, head_end, change, told, time, first_words, step_words}
 use Rattle.timeline.specs.Told.{Stands, NothingCut}
 use Rattle.sight.specs.declared.Sight.{Sight}

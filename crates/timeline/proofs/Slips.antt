@@ -5,8 +5,7 @@ use Rattle.base.specs.Pick.{pick}
 use Rattle.base.specs.Bits.{digit}
 use Rattle.text.specs.Line.{digits_within, decimal}
 use Rattle.text.specs.Quoted.{quoted}
-use Rattle.timeline.specs.Variables.{each}
-use Rattle.timeline.specs.Dump.{value_line, change, told}
+use Rattle.timeline.specs.Dump.{value_line, change}
 use Rattle.timeline.specs.Meaning.{name_in, value_in, key, value_behind, viewed, shown_behind}
 
 -- `ShownLast`: where a variable changes, its new value is told

@@ -1,6 +1,6 @@
 -- Who watches a variable sees every change of it, and nothing of the others.
 use Prim.Native.Nat.{ℕ, suc}
-use mathlib.Core.Bool.{Bool, true, false, not, ◌&&◌, ◌||◌}
+use mathlib.Core.Bool.{Bool, true, false, not, ◌||◌}
 use mathlib.Core.List.{List, [], ◌∷◌, ◌++◌, append-nil, Memᴰ}
 use mathlib.Core.Logic.{◌⊎◌, inl, inr, ⊎_elim}
 use mathlib.Core.Path.{◌≡◌, refl, sym, ap, subst, ◌∙◌}
@@ -12,7 +12,7 @@ use Rattle.base.specs.Bits.{digit}
 use Rattle.timeline.specs.Variables.{Variable, variables}
 use Rattle.timeline.specs.Dump.{value_line, change, told, time, first_words, step_words}
 use Rattle.timeline.specs.Meaning.{Viewer, key, shown_behind}
-use Rattle.timeline.specs.Told.{steps, last_sight, dump, all_of, other_than, all_apart, ShownLast, NothingChanged}
+use Rattle.timeline.specs.Told.{steps, last_sight, all_of, other_than, all_apart, ShownLast, NothingChanged}
 use Rattle.sight.specs.declared.Sight.{Sight}
 use Rattle.timeline.proofs.Reading.{unended, Reads, read_none, read_on_lem, read_same, read_own, read_other, read_time}
 use Rattle.timeline.proofs.Names.{plain, names_plain, names_apart}

@@ -42,9 +42,7 @@ fn declare_number(page: Page, letter: &[u8], n: u8, width: u8, word: &[u8]) -> P
     ensures { result ≡ put page (bit_declarations letter.now word.now n width) }
 {
     let mut declared = page;
-    let mut k = width;
-    while 0 < k {
-        k = k - 1;
+    for k in (0..width).rev() {
         declared = declare_bit(declared, letter, n, k, word);
     }
     declared
@@ -71,10 +69,8 @@ fn line_heads(page: Page) -> Page
     ensures { result ≡ put page (each 8 line_head) }
 {
     let mut heads = page;
-    let mut n: u8 = 0;
-    while n < LINES {
+    for n in 0..LINES {
         heads = line_head(heads, n);
-        n = n + 1;
     }
     heads
 }

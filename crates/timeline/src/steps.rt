@@ -5,59 +5,62 @@ ghost use Rattle.page.specs.Pages.{no_page, put};
 ghost use Rattle.timeline.specs.Variables.{each, scope_count, line_variables, seat_variables, scope_variables, variables};
 ghost use Rattle.timeline.specs.Dump.{told, time, first_words, step_words};
 
-use crate::{LINES, SCOPES, values};
+use crate::values::Change;
+use crate::{LINES, SCOPES};
 use page::{Page, Piece};
 use sight::Sight;
 
-fn line(all: bool, n: u8, before: Sight, now: Sight) -> Piece
-    ensures { result ≡ piece (told all before now (line_variables n)) }
-{
-    let none = Piece::empty();
-    let level = values::of_set(none, all, before.levels, now.levels, b"l", n);
-    let request = values::of_set(level, all, before.requests, now.requests, b"r", n);
-    let service = values::of_set(request, all, before.service, now.service, b"s", n);
-    values::of_set(service, all, before.mask, now.mask, b"m", n)
-}
-
-fn seat(all: bool, used: u8, n: u8, before: Sight, now: Sight) -> Piece
-    ensures { result ≡ piece (told all before now (seat_variables used n)) }
-{
-    let none = Piece::empty();
-    if base::bit(n, used) {
-        let was = before.look_at(n);
-        let is = now.look_at(n);
-        let lsr = values::of_number(none, all, 8, was.lsr, is.lsr, b"L", n);
-        return values::of_number(lsr, all, 5, was.queued, is.queued, b"q", n);
+impl Change<Sight> {
+    fn line(self, n: u8) -> Piece
+        ensures { result ≡ piece (told self.all self.was self.is (line_variables n)) }
+    {
+        let was = self.was;
+        let is = self.is;
+        let none = Piece::empty();
+        let level = self.of(was.levels, is.levels).of_line(none, b"l", n);
+        let request = self.of(was.requests, is.requests).of_line(level, b"r", n);
+        let service = self.of(was.service, is.service).of_line(request, b"s", n);
+        self.of(was.mask, is.mask).of_line(service, b"m", n)
     }
-    none
-}
 
-fn scope(all: bool, used: u8, k: u8, before: Sight, now: Sight) -> Piece
-    ensures { result ≡ piece (told all before now (scope_variables used k)) }
-{
-    if k < LINES {
-        return line(all, k, before, now);
+    fn seat(self, used: u8, n: u8) -> Piece
+        ensures { result ≡ piece (told self.all self.was self.is (seat_variables used n)) }
+    {
+        let none = Piece::empty();
+        if base::bit(n, used) {
+            let was = self.was.look_at(n);
+            let is = self.is.look_at(n);
+            let lsr = self.of(was.lsr, is.lsr).of_number(none, 8, b"L", n);
+            return self.of(was.queued, is.queued).of_number(lsr, 5, b"q", n);
+        }
+        none
     }
-    seat(all, used, k - LINES, before, now)
-}
 
-fn scopes(page: Page, all: bool, used: u8, before: Sight, now: Sight) -> Page
-    ensures { result ≡ put page (told all before now (each scope_count (scope_variables used))) }
-{
-    let mut told = page;
-    let mut k: u8 = 0;
-    while k < SCOPES {
-        told = told.add(scope(all, used, k, before, now));
-        k = k + 1;
+    fn scope(self, used: u8, k: u8) -> Piece
+        ensures { result ≡ piece (told self.all self.was self.is (scope_variables used k)) }
+    {
+        if k < LINES {
+            return self.line(k);
+        }
+        self.seat(used, k - LINES)
     }
-    told
-}
 
-fn tell(page: Page, all: bool, used: u8, before: Sight, now: Sight) -> Page
-    ensures { result ≡ put page (told all before now (variables used)) }
-{
-    let output = values::of_output(all, before.output, now.output);
-    scopes(page.add(output), all, used, before, now)
+    fn scopes(self, page: Page, used: u8) -> Page
+        ensures { result ≡ put page (told self.all self.was self.is (each scope_count (scope_variables used))) }
+    {
+        let mut told = page;
+        for k in 0..SCOPES {
+            told = told.add(self.scope(used, k));
+        }
+        told
+    }
+
+    fn tell(self, page: Page, used: u8) -> Page
+        ensures { result ≡ put page (told self.all self.was self.is (variables used)) }
+    {
+        let output = self.of(self.was.output, self.is.output);
+        self.scopes(page.add(output.output()), used)
+    }
 }
 
 fn at(n: u64) -> Page
@@ -71,14 +74,24 @@ fn at(n: u64) -> Page
 pub fn first(used: u8, now: Sight) -> Page
     ensures { result ≡ put no_page (first_words used now) }
 {
-    tell(at(0), true, used, now, now)
+    let whole = Change {
+        all: true,
+        was: now,
+        is: now,
+    };
+    whole.tell(at(0), used)
 }
 
 // The variables that record n has changed; the first record is number 1.
 pub fn step(used: u8, n: u64, before: Sight, now: Sight) -> Page
     ensures { result ≡ put no_page (step_words used n before now) }
 {
-    tell(at(n), false, used, before, now)
+    let change = Change {
+        all: false,
+        was: before,
+        is: now,
+    };
+    change.tell(at(n), used)
 }
 
 // The time behind the last step, so that this one is seen.

@@ -9,80 +9,91 @@ ghost use Rattle.timeline.specs.Dump.{change, bit_changes};
 
 use page::Piece;
 
-fn as_digit(b: bool) -> u8
-    ensures { result ≡ digit b }
-{
-    base::pick_byte(b, 1, 0)
-}
-
-fn is_due(all: bool, was: bool, is: bool) -> bool
-    ensures { result ≡ (all || not (eqb (digit was) (digit is))) }
-{
-    let before = as_digit(was);
-    let after = as_digit(is);
-    all | !(before == after)
+// What a step goes from and to. It is told where it is another, or where all is told.
+#[derive(Clone, Copy)]
+pub(crate) struct Change<T> {
+    pub(crate) all: bool,
+    pub(crate) was: T,
+    pub(crate) is: T,
 }
 
 fn value(front: Piece, is: bool) -> Piece
     ensures { result ≡ with front (decimal (digit is)) }
 {
-    front.decimal(as_digit(is) as u64)
+    front.decimal(is as u64)
 }
 
-pub(crate) fn of_output(all: bool, was: bool, is: bool) -> Piece
-    ensures { result ≡ piece (change all was is (quoted "o")) }
-{
-    let none = Piece::empty();
-    if is_due(all, was, is) {
-        return value(none, is).text(b"o\n");
+impl<T: Copy> Change<T> {
+    // What another thing goes from and to in the same step.
+    pub(crate) fn of<U>(self, was: U, is: U) -> Change<U>
+        ensures { result ≡ record { all = self.all; was = was; is = is } }
+    {
+        Change {
+            all: self.all,
+            was,
+            is,
+        }
     }
-    none
 }
 
-// Whether line n is in a set.
-pub(crate) fn of_set(front: Piece, all: bool, was: u8, is: u8, letter: &[u8], n: u8) -> Piece
-    ensures { result ≡ with front (change all (bit n was) (bit n is) (numbered letter.now n)) }
-{
-    let before = base::bit(n, was);
-    let after = base::bit(n, is);
-    if is_due(all, before, after) {
-        return value(front, after)
-            .text(letter)
-            .decimal(n as u64)
-            .text(b"\n");
+impl Change<bool> {
+    fn is_due(self) -> bool
+        ensures { result ≡ (self.all || not (eqb (digit self.was) (digit self.is))) }
+    {
+        self.all | (self.was != self.is)
     }
-    front
+
+    pub(crate) fn output(self) -> Piece
+        ensures { result ≡ piece (change self.all self.was self.is (quoted "o")) }
+    {
+        let none = Piece::empty();
+        if self.is_due() {
+            return value(none, self.is).text(b"o\n");
+        }
+        none
+    }
 }
 
-fn of_bit(front: Piece, all: bool, was: u8, is: u8, letter: &[u8], n: u8, k: u8) -> Piece
-    ensures { result ≡ with front (change all (bit k was) (bit k is) (bit_name letter.now n k)) }
-{
-    let before = base::bit(k, was);
-    let after = base::bit(k, is);
-    if is_due(all, before, after) {
-        let name = value(front, after).text(letter).decimal(n as u64);
-        return name.decimal(k as u64).text(b"\n");
+impl Change<u8> {
+    fn bit(self, k: u8) -> Change<bool>
+        ensures { result ≡ record { all = self.all; was = bit k self.was; is = bit k self.is } }
+    {
+        self.of(base::bit(k, self.was), base::bit(k, self.is))
     }
-    front
-}
 
-// A number of a seat, the highest bit first.
-pub(crate) fn of_number(
-    front: Piece,
-    all: bool,
-    width: u8,
-    was: u8,
-    is: u8,
-    letter: &[u8],
-    n: u8,
-) -> Piece
-    ensures { result ≡ with front (bit_changes all letter.now n width was is) }
-{
-    let mut said = front;
-    let mut k = width;
-    while 0 < k {
-        k = k - 1;
-        said = of_bit(said, all, was, is, letter, n, k);
+    // Whether line n is in a set.
+    pub(crate) fn of_line(self, front: Piece, letter: &[u8], n: u8) -> Piece
+        ensures { result ≡ with front (change self.all (bit n self.was) (bit n self.is) (numbered letter.now n)) }
+    {
+        let line = self.bit(n);
+        if line.is_due() {
+            return value(front, line.is)
+                .text(letter)
+                .decimal(n as u64)
+                .text(b"\n");
+        }
+        front
     }
-    said
+
+    fn of_bit(self, front: Piece, letter: &[u8], n: u8, k: u8) -> Piece
+        ensures { result ≡ with front (change self.all (bit k self.was) (bit k self.is) (bit_name letter.now n k)) }
+    {
+        let bit = self.bit(k);
+        if bit.is_due() {
+            let name = value(front, bit.is).text(letter).decimal(n as u64);
+            return name.decimal(k as u64).text(b"\n");
+        }
+        front
+    }
+
+    // A number of a seat, the highest bit first.
+    pub(crate) fn of_number(self, front: Piece, width: u8, letter: &[u8], n: u8) -> Piece
+        ensures { result ≡ with front (bit_changes self.all letter.now n width self.was self.is) }
+    {
+        let mut said = front;
+        for k in (0..width).rev() {
+            said = self.of_bit(said, letter, n, k);
+        }
+        said
+    }
 }

@@ -3,7 +3,7 @@
 #![tactic(auto)]
 
 ghost use Rattle.std.specs.Prelude.{◌≡◌};
-ghost use Rattle.transmitter.specs.Transmitter.{still, none_waiting, all_sent, flag_set_if, flag_cleared, written, emptied, next, shifted, enabled, loaded, iir_seen, ier_sent, fcr_sent};
+ghost use Rattle.transmitter.specs.Transmitter.{still, none_waiting, all_sent, flag_set_if, written, emptied, next, shifted, iir_seen, ier_sent, fcr_sent};
 
 use queue::{Character, Queue};
 
@@ -28,63 +28,56 @@ impl Transmitter {
         }
     }
 
+    #[tactic(auto, unfolding(crate::specs::Transmitter::none_waiting))]
     pub fn is_empty(self) -> bool
         ensures { result ≡ none_waiting self }
     {
         self.queue.count == 0
     }
 
+    #[tactic(auto, unfolding(crate::specs::Transmitter::all_sent))]
     pub fn is_idle(self) -> bool
         ensures { result ≡ all_sent self }
     {
-        let empty = self.is_empty();
-        empty & !self.busy
+        self.is_empty() & !self.busy
     }
 
+    #[tactic(auto, unfolding(crate::specs::Transmitter::flag_set_if, base::specs::Pick::pick))]
     fn set_flag_if(mut self, test: bool) -> Transmitter
         ensures { result ≡ flag_set_if test self }
     {
-        if test {
-            self.flag = true;
-            return self;
-        }
-        self
-    }
-
-    fn clear_flag(mut self) -> Transmitter
-        ensures { result ≡ flag_cleared self }
-    {
-        self.flag = false;
+        self.flag |= test;
         self
     }
 
     // The IIR is read, and named the flag or did not.
-    pub fn iir_read(self, named: bool) -> Transmitter
+    #[tactic(auto, unfolding(base::specs::Pick::pick))]
+    pub fn iir_read(mut self, named: bool) -> Transmitter
         ensures { result ≡ iir_seen named self }
     {
         if named {
-            return self.clear_flag();
+            self.flag = false;
         }
         self
     }
 
+    #[tactic(auto, unfolding(crate::specs::Transmitter::written))]
     pub fn write(mut self, fifo: bool, byte: u8) -> Transmitter
         ensures { result ≡ written fifo self byte }
     {
-        let waiting = self.queue;
-        let put = waiting.accept(
+        let put = self.queue.accept(
             fifo,
             Character {
                 data: byte,
                 marks: 0,
             },
         );
-        let more = put.queue;
-        self.queue = more;
+        self.queue = put.queue;
         self.flag = false;
         self
     }
 
+    #[tactic(auto, unfolding(crate::specs::Transmitter::emptied))]
     fn clear(mut self) -> Transmitter
         ensures { result ≡ emptied self }
     {
@@ -94,39 +87,29 @@ impl Transmitter {
     }
 
     // The FCR is written, and empties the queue or does not.
+    #[tactic(auto, unfolding(base::specs::Pick::pick))]
     pub fn fcr_written(self, asked: bool) -> Transmitter
         ensures { result ≡ fcr_sent asked self }
     {
-        if asked {
-            return self.clear();
-        }
-        self
+        if asked { self.clear() } else { self }
     }
 
-    fn load(mut self) -> Transmitter
-        ensures { result ≡ loaded self }
-    {
-        let waiting = self.queue;
-        let taken = waiting.take();
-        let rest = taken.queue;
-        self.queue = rest;
-        self.busy = true;
-        self.shift = taken.character.data;
-        self
-    }
-
-    fn next(self) -> Transmitter
+    #[tactic(auto, unfolding(crate::specs::Transmitter::next, crate::specs::Transmitter::none_waiting, base::specs::Pick::pick))]
+    fn next(mut self) -> Transmitter
         ensures { result ≡ next self }
     {
-        let none = self.is_empty();
-        if none {
+        if self.is_empty() {
             return self;
         }
-        let moved = self.load();
-        let last = moved.is_empty();
-        moved.set_flag_if(last)
+        let taken = self.queue.take();
+        self.queue = taken.queue;
+        self.busy = true;
+        self.shift = taken.character.data;
+        let last = self.is_empty();
+        self.set_flag_if(last)
     }
 
+    #[tactic(auto, unfolding(crate::specs::Transmitter::shifted))]
     pub fn shift(mut self) -> Transmitter
         ensures { result ≡ shifted self }
     {
@@ -136,12 +119,10 @@ impl Transmitter {
     }
 
     // The IER is written, and turns its bit 1 on or does not.
+    #[tactic(auto, unfolding(crate::specs::Transmitter::enabled, crate::specs::Transmitter::flag_set_if, base::specs::Pick::pick))]
     pub fn ier_written(self, rise: bool) -> Transmitter
         ensures { result ≡ ier_sent rise self }
     {
-        if rise {
-            return self.set_flag_if(self.is_empty());
-        }
-        self
+        self.set_flag_if(rise & self.is_empty())
     }
 }

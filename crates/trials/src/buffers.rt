@@ -1,41 +1,105 @@
-// A bench kept in a buffer, and what the digest takes of both.
-use crate::lent::{Lent, ROOM};
+// A buffer with the image of a bench at some place in it.
+ghost use Rattle.std.specs.Prelude.{◌≤◌};
+
+use crate::digest::Digest;
+use crate::lent::Lent;
 use bench::Bench;
+use image::Restored;
+
+pub(crate) const ROOM: usize = 760;
 
 // "A fresh buffer has 760 bytes, each 165."
 const FRESH: u8 = 165;
 
-pub(crate) fn fresh() -> [u8; ROOM] {
-    [FRESH; ROOM]
-}
+pub(crate) const RECORD: usize = 86;
+
+// "The first 66 bytes of its record."
+const OLD_RECORD: usize = 66;
+
+const FRONT: u16 = 16;
+
+const VERSION: u16 = 3;
+
+pub(crate) const SEATS: u8 = 8;
 
 #[derive(Clone, Copy)]
-pub(crate) struct Kept {
-    pub buffer: [u8; ROOM],
-    pub sum: u32,
-}
-
-// "b[4 * j] + 256 * b[4 * j + 1] + 65536 * b[4 * j + 2] + 16777216 * b[4 * j + 3]"
-fn word(a: u8, b: u8, c: u8, d: u8) -> u32 {
-    a as u32 + 256 * b as u32 + 65536 * c as u32 + 16777216 * d as u32
-}
-
-// "Takes its bytes by fours": those of a buffer whose length is a multiple of four.
-fn add_buffer(digest: u32, buffer: &[u8]) -> u32 {
-    let mut sum = digest;
-    for j in 0..buffer.len() / 4 {
-        let at = 4 * j;
-        let fours = word(buffer[at], buffer[at + 1], buffer[at + 2], buffer[at + 3]);
-        sum = streams::add(sum, fours);
-    }
-    sum
+pub(crate) struct Buffer {
+    pub bytes: [u8; ROOM],
+    pub at: u8,
+    // Whether the image is of version 1.
+    pub old: bool,
 }
 
 // The bench is saved into a fresh buffer as far as that is lent; the number is added, and the whole buffer.
-pub(crate) fn keep(digest: u32, bench: Bench, lent: Lent) -> Kept {
-    let mut buffer = fresh();
+pub(crate) fn save(digest: &mut Digest, bench: Bench, lent: Lent) -> [u8; ROOM] {
+    let mut buffer = [FRESH; ROOM];
     let number = lent.save(bench, &mut buffer);
-    let told = streams::add(digest, number as u32);
-    let sum = add_buffer(told, &buffer);
-    Kept { buffer, sum }
+    digest.add(number as u32);
+    digest.add_buffer(&buffer);
+    buffer
+}
+
+impl Buffer {
+    // "keep(bench, p)"
+    pub(crate) fn keep(digest: &mut Digest, bench: Bench, at: u8) -> Buffer {
+        Buffer {
+            bytes: save(digest, bench, Lent::whole(at)),
+            at,
+            old: false,
+        }
+    }
+
+    // "Restored at place p, with length 760."
+    pub(crate) fn restore(&self, over: Bench) -> Restored {
+        Lent::whole(self.at).restore(over, &self.bytes)
+    }
+
+    // Where seat n's record begins in the image: "r is 66", or "r is 86".
+    pub(crate) fn record_at(&self, n: u8) -> u16
+        ensures { result ≤ 21946 }
+    {
+        let size: u16 = if self.old { 66 } else { 86 };
+        FRONT + size * n as u16
+    }
+
+    // "Positions count from the image's beginning": so many bytes from this one on. The buffer has every position that is asked for; the zeros are there so
+    // that this need not be shown.
+    pub(crate) fn part<const N: usize>(&self, position: u16) -> [u8; N] {
+        let at = self.at as usize + position as usize;
+        let mut part = [0; N];
+        for (to, byte) in part.iter_mut().zip(self.bytes.iter().skip(at)) {
+            *to = *byte;
+        }
+        part
+    }
+
+    pub(crate) fn put(&mut self, position: u16, part: &[u8]) {
+        let at = self.at as usize + position as usize;
+        for (to, byte) in self.bytes.iter_mut().skip(at).zip(part) {
+            *to = *byte;
+        }
+    }
+
+    // The record of seat n.
+    pub(crate) fn record(&self, n: u8) -> [u8; RECORD] {
+        self.part(self.record_at(n))
+    }
+
+    // "In a fresh buffer at the same place p: bytes 0 to 15 of the image as they are, but byte 3 is 1; then for each seat n the first 66 bytes of its
+    // record."
+    pub(crate) fn older(&self) -> Buffer {
+        let mut old = Buffer {
+            bytes: [FRESH; ROOM],
+            at: self.at,
+            old: true,
+        };
+        let front: [u8; FRONT as usize] = self.part(0);
+        old.put(0, &front);
+        old.put(VERSION, &[1]);
+        for n in 0..SEATS {
+            let record: [u8; OLD_RECORD] = self.part(self.record_at(n));
+            old.put(old.record_at(n), &record);
+        }
+        old
+    }
 }

@@ -1,96 +1,70 @@
 // A trial of saved benches: a stream that stops after every hundredth event.
-use crate::damages::Damaged;
-use crate::lent::{Lent, ROOM};
+use crate::buffers::{self, Buffer};
+use crate::digest::Digest;
+use crate::lent::Lent;
+use crate::picks::Picker;
 use crate::runs::{ASKED_LINES, Run};
-use crate::{buffers, list, older, spots};
 use bench::Bench;
-use image::Restored;
-use streams::{advance, pick};
 
 const BETWEEN_STOPS: u64 = 100;
 
-// The stream with its bench, the other bench, and the picker's x.
+// The stream with its bench, the other bench, and the picker.
 #[derive(Clone, Copy)]
-struct Trial {
-    run: Run,
-    other: Bench,
-    x: u32,
+pub(crate) struct SavedRun {
+    pub run: Run,
+    pub other: Bench,
+    pub picker: Picker,
 }
 
-// "If k is odd, bench becomes other."
-fn over(odd: bool, bench: Bench, other: Bench) -> Bench {
-    if odd {
-        return other;
-    }
-    bench
-}
-
-// "The image of this stop is restored at place p, with length 760."
-fn back(over: Bench, buffer: [u8; ROOM], at: u8) -> Restored {
-    Lent::whole(at).restore(over, &buffer)
-}
-
-impl Trial {
-    // "The picks are made in exactly this order": s, q, p, n, and those of the damages. The bench goes on, and comes back; the stream's own
-    // state stays.
-    fn stop(self, rows: &[u64], odd: bool) -> Trial {
-        let run = self.run;
-        let stream = run.stream;
-        let bench = run.bench;
-        let s = advance(self.x);
-        let q = spots::spot(s);
-        let p = advance(q.x);
-        let n = advance(p);
-        let at = pick(p, 56);
-        let refused = buffers::keep(run.sum, bench, Lent::no_room(pick(s, 3), q.at, at));
-        let kept = buffers::keep(refused.sum, bench, Lent::whole(at));
-        let saved = run.with_bench(bench, kept.sum);
-        let on = saved.on(rows, 1 + pick(n, 63) as u64, 0);
-        let gone_on = on.bench;
-        let other = self.other;
-        let buffer = kept.buffer;
-        let back = back(over(odd, gone_on, other), buffer, at);
-        let restored = back.bench;
-        let answer = back.answer;
-        let old = older::made_of(buffer, at);
-        let told = streams::add(on.sum, answer.refusal() as u32);
-        let damaged = Damaged {
-            x: n,
-            other: restored,
-            sum: older::add_read(told, old, at, other),
-        };
-        let after = damaged.after_all(buffer, old, at, stream, rows);
-        let left = after.other;
-        Trial {
-            run: run.with_bench(restored, after.sum),
-            other: left,
-            x: after.x,
-        }
+impl SavedRun {
+    // "ahead(bench, n) takes a copy of the stream's state": the bench behind so many events. "The stream's own state stays."
+    pub(crate) fn ahead(&mut self, rows: &streams::Rows, bench: Bench, count: u64) -> Bench {
+        let mut copy = self.run;
+        copy.bench = bench;
+        copy.on(rows, count, 0);
+        self.run.digest = copy.digest;
+        copy.bench
     }
 
-    // So many events of the stream, with what is seen of every line.
-    fn on(self, rows: &[u64], count: u64) -> Trial {
-        let run = self.run;
-        let other = self.other;
-        Trial {
-            run: run.on(rows, count, ASKED_LINES),
-            other,
-            x: self.x,
-        }
+    // "It is restored at place p, with length 760, over a copy of other; add(the number), which is 0. Then keep(that copy, p)."
+    fn read_older(&mut self, old: &Buffer) {
+        let read = old.restore(self.other);
+        self.run.digest.add(read.answer.refusal() as u32);
+        Buffer::keep(&mut self.run.digest, read.bench, old.at);
+    }
+
+    // "The picks are made in exactly this order": s, q, p, n, and those of the damages.
+    fn stop(&mut self, rows: &streams::Rows, odd: bool) {
+        let s = self.picker.pick(3);
+        let q = self.picker.spot();
+        let p = self.picker.pick(56);
+        let n = 1 + self.picker.pick(63);
+        buffers::save(&mut self.run.digest, self.run.bench, Lent::no_room(s, q, p));
+        let image = Buffer::keep(&mut self.run.digest, self.run.bench, p);
+        let gone_on = self.ahead(rows, self.run.bench, n as u64);
+        // "If k is odd, bench becomes other."
+        let over = if odd { self.other } else { gone_on };
+        let back = image.restore(over);
+        self.run.bench = back.bench;
+        self.run.digest.add(back.answer.refusal() as u32);
+        let old = image.older();
+        self.read_older(&old);
+        self.other = self.run.bench;
+        self.damage_all(rows, &image, &old);
     }
 }
 
-pub(crate) fn digests(seed: u32, count: u64, set: u8, bench: Bench) -> [u32; 3] {
+pub(crate) fn digests(seed: u32, count: u64, set: u8, bench: Bench) -> [Digest; 3] {
     let rows = streams::script_rows();
-    let mut trial = Trial {
+    let mut saved = SavedRun {
         run: Run::start(seed, set, bench),
         other: bench,
-        x: list::LAST_SEED - seed,
+        picker: Picker::start(seed),
     };
     for k in 0..count / BETWEEN_STOPS {
-        trial = trial.on(&rows, BETWEEN_STOPS).stop(&rows, k % 2 == 1);
+        saved.run.on(&rows, BETWEEN_STOPS, ASKED_LINES);
+        saved.stop(&rows, k % 2 == 1);
     }
-    trial = trial.on(&rows, count % BETWEEN_STOPS);
-    let run = trial.run;
-    run.sums()
+    saved.run.on(&rows, count % BETWEEN_STOPS, ASKED_LINES);
+    saved.run.digests()
 }

@@ -1,10 +1,7 @@
 // How much of a buffer is lent to a call, and which place in it is named.
-ghost use Rattle.std.specs.Prelude.{◌≤◌};
-
+use crate::buffers::ROOM;
 use bench::Bench;
 use image::Restored;
-
-pub(crate) const ROOM: usize = 760;
 
 // A byte less than an image has, and the number of places that have room for one.
 const TOO_FEW: usize = 703;
@@ -18,22 +15,17 @@ const NEAR_END: usize = 752;
 
 #[derive(Clone, Copy)]
 pub(crate) struct Lent {
-    pub length: usize,
-    pub at: usize,
-}
-
-fn lesser(a: usize, b: usize) -> usize
-    ensures { result ≤ b }
-{
-    if a < b { a } else { b }
+    length: usize,
+    at: usize,
 }
 
 impl Lent {
+    fn new(length: usize, at: usize) -> Lent {
+        Lent { length, at }
+    }
+
     pub(crate) fn whole(at: u8) -> Lent {
-        Lent {
-            length: ROOM,
-            at: at as usize,
-        }
+        Lent::new(ROOM, at as usize)
     }
 
     // "No room", by s, with q and p
@@ -41,22 +33,10 @@ impl Lent {
         let spot = q as usize;
         let place = p as usize;
         match s {
-            0 => Lent {
-                length: spot,
-                at: 0,
-            },
-            1 => Lent {
-                length: ROOM,
-                at: PLACES + spot,
-            },
-            2 => Lent {
-                length: ROOM,
-                at: FAR + spot,
-            },
-            _ => Lent {
-                length: place + TOO_FEW,
-                at: place,
-            },
+            0 => Lent::new(spot, 0),
+            1 => Lent::new(ROOM, PLACES + spot),
+            2 => Lent::new(ROOM, FAR + spot),
+            _ => Lent::new(place + TOO_FEW, place),
         }
     }
 
@@ -65,35 +45,22 @@ impl Lent {
         let spot = m as usize;
         let place = p as usize;
         match h {
-            0 => Lent {
-                length: place + spot,
-                at: place,
-            },
-            1 => Lent {
-                length: ROOM,
-                at: place + spot,
-            },
-            2 => Lent {
-                length: ROOM,
-                at: FAR + spot,
-            },
-            3 => Lent {
-                length: ROOM,
-                at: NEAR_END + spot % 16,
-            },
+            0 => Lent::new(place + spot, place),
+            1 => Lent::new(ROOM, place + spot),
+            2 => Lent::new(ROOM, FAR + spot),
+            3 => Lent::new(ROOM, NEAR_END + spot % 16),
             _ => Lent::whole(p),
         }
     }
 
     // "Only the first L bytes of the buffer are lent." It has so many; the lesser is taken so that this need not be shown.
     pub(crate) fn save(self, bench: Bench, buffer: &mut [u8]) -> u8 {
-        let end = lesser(self.length, buffer.len());
-        let answer = image::save(bench, &mut buffer[..end], self.at);
-        answer.refusal()
+        let end = self.length.min(buffer.len());
+        image::save(bench, &mut buffer[..end], self.at).refusal()
     }
 
     pub(crate) fn restore(self, bench: Bench, buffer: &[u8]) -> Restored {
-        let end = lesser(self.length, buffer.len());
+        let end = self.length.min(buffer.len());
         image::restore(bench, &buffer[..end], self.at)
     }
 }

@@ -1,59 +1,62 @@
 // The trials that are run each time: the streams, behind them the saved benches, and then the pairs.
+use crate::starts::Start;
+use crate::starts::Start::{NearTheLargest, PowerUp};
+use Kind::{Images, Pairs, Stream};
 
-// x is "0 to 4294967295", and "4294967295 - seed" is where the picks of saved benches begin.
-pub(crate) const LAST_SEED: u32 = 4294967295;
+#[derive(Clone, Copy)]
+pub(crate) enum Kind {
+    Stream,
+    Images,
+    Pairs,
+}
 
-pub(crate) const STREAM: u64 = 0;
+// Which kind it is, then "seed, count, set, start".
+#[derive(Clone, Copy)]
+pub(crate) struct Trial(pub Kind, pub u32, pub u64, pub u8, pub Start);
 
-pub(crate) const IMAGES: u64 = 1;
-
-pub(crate) const PAIRS: u64 = 2;
-
-pub(crate) const TRIALS: usize = 43;
-
-// Which kind it is, then "seed, count, set, start". The first four are short, so that a fault in every event shows at once.
-pub(crate) const LIST: [[u64; 5]; TRIALS] = [
-    [STREAM, 1, 1000, 0, 0],
-    [STREAM, 2, 1000, 0, 0],
-    [STREAM, 3, 1000, 0, 0],
-    [STREAM, 4, 1000, 0, 0],
-    [STREAM, 5, 200000, 0, 0],
-    [STREAM, 6, 200000, 0, 0],
-    [STREAM, 7, 200000, 0, 0],
-    [STREAM, 8, 200000, 0, 0],
-    [STREAM, 9, 200000, 0, 0],
-    [STREAM, 10, 200000, 0, 0],
-    [STREAM, 11, 200000, 0, 0],
-    [STREAM, 12, 200000, 0, 0],
-    [STREAM, 13, 200000, 0, 0],
-    [STREAM, 14, 200000, 0, 0],
-    [STREAM, 15, 200000, 0, 0],
-    [STREAM, 4294967295, 200000, 0, 0],
-    [STREAM, 16, 1000, 1, 0],
-    [STREAM, 17, 200000, 1, 0],
-    [STREAM, 18, 200000, 1, 0],
-    [STREAM, 19, 200000, 1, 0],
-    [STREAM, 20, 1000, 0, 1],
-    [STREAM, 21, 200000, 0, 1],
-    [STREAM, 22, 200000, 1, 1],
-    [IMAGES, 101, 20000, 0, 0],
-    [IMAGES, 102, 20000, 0, 0],
-    [IMAGES, 103, 20000, 0, 0],
-    [IMAGES, 104, 20000, 0, 0],
-    [IMAGES, 105, 20000, 0, 0],
-    [IMAGES, 106, 20000, 0, 0],
-    [IMAGES, 107, 20000, 0, 0],
-    [IMAGES, 108, 20000, 0, 0],
-    [IMAGES, 109, 20000, 1, 0],
-    [IMAGES, 112, 20000, 1, 0],
-    [IMAGES, 113, 20000, 0, 1],
-    [IMAGES, 114, 20000, 1, 1],
-    [PAIRS, 201, 20000, 0, 0],
-    [PAIRS, 202, 20000, 1, 0],
-    [PAIRS, 379, 20000, 1, 1],
-    [PAIRS, 204, 20000, 1, 1],
-    [PAIRS, 205, 20000, 0, 0],
-    [PAIRS, 206, 20000, 1, 0],
-    [PAIRS, 207, 20000, 0, 1],
-    [PAIRS, 280, 20000, 0, 1],
+// The first four are short, so that a fault in every event shows at once.
+pub(crate) const LIST: [Trial; 43] = [
+    Trial(Stream, 1, 1000, 0, PowerUp),
+    Trial(Stream, 2, 1000, 0, PowerUp),
+    Trial(Stream, 3, 1000, 0, PowerUp),
+    Trial(Stream, 4, 1000, 0, PowerUp),
+    Trial(Stream, 5, 200000, 0, PowerUp),
+    Trial(Stream, 6, 200000, 0, PowerUp),
+    Trial(Stream, 7, 200000, 0, PowerUp),
+    Trial(Stream, 8, 200000, 0, PowerUp),
+    Trial(Stream, 9, 200000, 0, PowerUp),
+    Trial(Stream, 10, 200000, 0, PowerUp),
+    Trial(Stream, 11, 200000, 0, PowerUp),
+    Trial(Stream, 12, 200000, 0, PowerUp),
+    Trial(Stream, 13, 200000, 0, PowerUp),
+    Trial(Stream, 14, 200000, 0, PowerUp),
+    Trial(Stream, 15, 200000, 0, PowerUp),
+    Trial(Stream, 4294967295, 200000, 0, PowerUp),
+    Trial(Stream, 16, 1000, 1, PowerUp),
+    Trial(Stream, 17, 200000, 1, PowerUp),
+    Trial(Stream, 18, 200000, 1, PowerUp),
+    Trial(Stream, 19, 200000, 1, PowerUp),
+    Trial(Stream, 20, 1000, 0, NearTheLargest),
+    Trial(Stream, 21, 200000, 0, NearTheLargest),
+    Trial(Stream, 22, 200000, 1, NearTheLargest),
+    Trial(Images, 101, 20000, 0, PowerUp),
+    Trial(Images, 102, 20000, 0, PowerUp),
+    Trial(Images, 103, 20000, 0, PowerUp),
+    Trial(Images, 104, 20000, 0, PowerUp),
+    Trial(Images, 105, 20000, 0, PowerUp),
+    Trial(Images, 106, 20000, 0, PowerUp),
+    Trial(Images, 107, 20000, 0, PowerUp),
+    Trial(Images, 108, 20000, 0, PowerUp),
+    Trial(Images, 109, 20000, 1, PowerUp),
+    Trial(Images, 112, 20000, 1, PowerUp),
+    Trial(Images, 113, 20000, 0, NearTheLargest),
+    Trial(Images, 114, 20000, 1, NearTheLargest),
+    Trial(Pairs, 201, 20000, 0, PowerUp),
+    Trial(Pairs, 202, 20000, 1, PowerUp),
+    Trial(Pairs, 379, 20000, 1, NearTheLargest),
+    Trial(Pairs, 204, 20000, 1, NearTheLargest),
+    Trial(Pairs, 205, 20000, 0, PowerUp),
+    Trial(Pairs, 206, 20000, 1, PowerUp),
+    Trial(Pairs, 207, 20000, 0, NearTheLargest),
+    Trial(Pairs, 280, 20000, 0, NearTheLargest),
 ];

@@ -3,41 +3,28 @@
 // COUNT, and SET and START where they are not 0, that stream alone; with `images` before them, as a trial of saved benches, with `pairs` as a pair.
 #![tactic(auto)]
 
+use digest::Digest;
+use list::{Kind, Trial};
+use starts::Start;
 use std::env::Env;
 use std::io::Result;
 use streams::SETS;
-use words::Number;
 
 mod buffers;
 mod crossing;
 mod damages;
+mod digest;
 mod images;
 mod lent;
 mod list;
-mod older;
 mod pairs;
+mod picks;
 mod runs;
 mod sides;
-mod spots;
 mod starts;
 mod transfers;
 mod words;
 mod wounds;
-
-fn print_digest(rt: &impl Print, digest: u32) -> Result<()> {
-    let column = [
-        b' ',
-        text::capital(digest / 0x1000_0000),
-        text::capital(digest / 0x100_0000),
-        text::capital(digest / 0x10_0000),
-        text::capital(digest / 0x1_0000),
-        text::capital(digest / 0x1000),
-        text::capital(digest / 0x100),
-        text::capital(digest / 0x10),
-        text::capital(digest),
-    ];
-    rt.write_all(&column)
-}
 
 fn usage(rt: &impl Eprint) -> Result<()> {
     rt.eprint(
@@ -45,87 +32,57 @@ fn usage(rt: &impl Eprint) -> Result<()> {
     )
 }
 
-fn print_line(rt: &impl Print, seed: u64, count: u64, digests: [u32; 3]) -> Result<()> {
-    print!(rt; "{seed} {count}")?;
-    print_digest(rt, digests[0])?;
-    print_digest(rt, digests[1])?;
-    print_digest(rt, digests[2])?;
-    rt.write_all(b"\n")
-}
-
 // Over the bench of the start; a pair has that of the other start too.
-fn digests(kind: u64, seed: u32, count: u64, set: u8, start: u64) -> [u32; 3] {
-    let bench = starts::bench(start);
+fn digests(trial: Trial) -> [Digest; 3] {
+    let Trial(kind, seed, count, set, start) = trial;
+    let bench = start.bench();
     match kind {
-        list::IMAGES => images::digests(seed, count, set, bench),
-        list::PAIRS => pairs::digests(seed, count, set, bench, starts::other_bench(start)),
-        _ => runs::digests(seed, count, set, bench),
+        Kind::Stream => runs::digests(seed, count, set, bench),
+        Kind::Images => images::digests(seed, count, set, bench),
+        Kind::Pairs => pairs::digests(seed, count, set, bench, start.other().bench()),
     }
 }
 
-fn run(
-    rt: &(impl Print + Eprint),
-    kind: u64,
-    seed: u64,
-    count: u64,
-    set: u64,
-    start: u64,
-) -> Result<()> {
-    if seed > list::LAST_SEED as u64 {
-        return usage(rt);
-    }
-    if set >= SETS as u64 {
-        return usage(rt);
-    }
-    if start >= starts::STARTS {
-        return usage(rt);
-    }
-    print_line(
-        rt,
-        seed,
-        count,
-        digests(kind, seed as u32, count, set as u8, start),
-    )
+fn run(rt: &impl Print, trial: Trial) -> Result<()> {
+    let Trial(_, seed, count, _, _) = trial;
+    let [first, second, third] = digests(trial).map(Digest::number);
+    println!(rt; "{seed} {count} {first:08X} {second:08X} {third:08X}")
 }
 
-fn run_list(rt: &(impl Print + Eprint)) -> Result<()> {
-    for i in 0..list::TRIALS {
-        let row = list::LIST[i];
-        run(rt, row[0], row[1], row[2], row[3], row[4])?;
+fn run_list(rt: &impl Print) -> Result<()> {
+    for trial in list::LIST {
+        run(rt, trial)?;
     }
     Ok(())
 }
 
 // The numbers stand from this word on, two to four of them.
-fn run_asked(rt: &(impl Env + Print + Eprint), kind: u64, first: u8, words: usize) -> Result<()> {
+fn asked(rt: &impl Env, kind: Kind, first: u8, words: usize) -> Option<Trial> {
     let at = first as usize;
-    if (words < at + 2) | (words > at + 4) {
-        return usage(rt);
+    if words < at + 2 || words > at + 4 {
+        return None;
     }
-    let Number::Whole(seed) = words::argument(rt, at, words) else {
-        return usage(rt);
-    };
-    let Number::Whole(count) = words::argument(rt, at + 1, words) else {
-        return usage(rt);
-    };
-    let Number::Whole(set) = words::argument(rt, at + 2, words) else {
-        return usage(rt);
-    };
-    let Number::Whole(start) = words::argument(rt, at + 3, words) else {
-        return usage(rt);
-    };
-    run(rt, kind, seed, count, set, start)
+    let seed = u32::try_from(words::argument(rt, at, words)?).ok()?;
+    let count = words::argument(rt, at + 1, words)?;
+    let set = u8::try_from(words::argument(rt, at + 2, words)?).ok()?;
+    let start = Start::numbered(words::argument(rt, at + 3, words)?)?;
+    (set < SETS).then_some(Trial(kind, seed, count, set, start))
+}
+
+fn run_asked(rt: &(impl Env + Print + Eprint), kind: Kind, first: u8, words: usize) -> Result<()> {
+    match asked(rt, kind, first, words) {
+        Some(trial) => run(rt, trial),
+        None => usage(rt),
+    }
 }
 
 fn main(rt: HostRuntime) -> Result<()> {
     let words = words::count(&rt);
     if words == 1 {
         run_list(&rt)
-    } else if words::asks_for(&rt, b"images") {
-        run_asked(&rt, list::IMAGES, 2, words)
-    } else if words::asks_for(&rt, b"pairs") {
-        run_asked(&rt, list::PAIRS, 2, words)
+    } else if let Some(kind) = words::kind(&rt) {
+        run_asked(&rt, kind, 2, words)
     } else {
-        run_asked(&rt, list::STREAM, 1, words)
+        run_asked(&rt, Kind::Stream, 1, words)
     }
 }

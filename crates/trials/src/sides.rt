@@ -1,123 +1,88 @@
 // One of the two lessons of a pair: the stream of its neighbours, its bench, and the sight of the one seat.
-use crate::runs;
-use base::Answer;
+use crate::buffers::{Buffer, SEATS};
+use crate::digest::Digest;
+use base::{Answer, Whole};
 use bench::Bench;
 use records::Event;
-use streams::{Record, Stream};
-
-const SEATS: u8 = 8;
+use streams::Stream;
 
 const OTHERS: u8 = 7;
 
 #[derive(Clone, Copy)]
 pub(crate) struct Side {
-    pub beside: Stream,
-    pub bench: Bench,
-    pub sight: u32,
-}
-
-// The side after an event, the digest, and what the event was answered with.
-#[derive(Clone, Copy)]
-pub(crate) struct Given {
-    pub side: Side,
-    pub sum: u32,
-    pub answer: Answer,
-}
-
-// "If its kind is 4 or less and its seat is n, its seat becomes (n + 1 + value % 7) % 8, which is not n; if its kind is 5, its kind becomes 8." There n is
-// below 8; its remainder is taken so that this need not be shown.
-fn turned_away(mut record: Record, n: u8) -> Record {
-    if record.kind == Event::MASTER_RESET {
-        record.kind = Event::ACKNOWLEDGE;
-        return record;
-    }
-    if (record.kind < Event::MASTER_RESET) & (record.seat == n) {
-        record.seat = (n % SEATS + 1 + record.value % OTHERS) % SEATS;
-    }
-    record
+    seat: u8,
+    beside: Stream,
+    bench: Bench,
+    pub sight: Digest,
 }
 
 impl Side {
-    pub(crate) fn start(beside: Stream, bench: Bench) -> Side {
+    pub(crate) fn start(seat: u8, beside: Stream, bench: Bench) -> Side {
         Side {
+            seat,
             beside,
             bench,
-            sight: 0,
+            sight: Digest::START,
         }
     }
 
     // "Gives the record to the bench of that side and does step 1 of Digest, with that bench's output."
-    pub(crate) fn give(self, sum: u32, record: Record) -> Given {
-        let beside = self.beside;
-        let before = self.bench;
-        let outcome = before.step(record.kind, record.seat, record.number, record.value);
-        let bench = outcome.bench;
-        let answer = outcome.answer;
-        Given {
-            side: Side {
-                beside,
-                bench,
-                sight: self.sight,
-            },
-            sum: streams::add(sum, streams::outcome_mark(answer, outcome.output)),
-            answer,
-        }
+    pub(crate) fn give(&mut self, digest: &mut Digest, record: Whole) -> Answer {
+        let outcome = self.bench.step(record);
+        self.bench = outcome.bench;
+        digest.add_outcome(outcome.answer, outcome.output);
+        outcome.answer
     }
 
-    // One event of the neighbours.
-    fn next(self, sum: u32, rows: &[u64], n: u8) -> Given {
-        let stream = self.beside;
-        let bench = self.bench;
-        let made = stream.next(rows);
-        let beside = made.stream;
-        let record = made.record;
-        Side {
-            beside,
-            bench,
-            sight: self.sight,
+    // "If its kind is 4 or less and its seat is n, its seat becomes (n + 1 + value % 7) % 8, which is not n; if its kind is 5, its kind becomes 8." There n is
+    // below 8; its remainder is taken so that this need not be shown.
+    fn turned_away(&self, mut record: Whole) -> Whole {
+        if record.kind == Event::MASTER_RESET {
+            record.kind = Event::ACKNOWLEDGE;
+        } else if record.kind < Event::MASTER_RESET && record.seat == self.seat {
+            record.seat = (self.seat % SEATS + 1 + record.value % OTHERS) % SEATS;
         }
-        .give(sum, turned_away(record, n))
+        record
     }
 
     // "So many events are made", each "turned away and given": those of its own neighbours.
-    pub(crate) fn on(self, sum: u32, rows: &[u64], n: u8, count: u8) -> Given {
-        let mut given = Given {
-            side: self,
-            sum,
-            answer: Answer::Done,
-        };
+    pub(crate) fn on(&mut self, digest: &mut Digest, rows: &streams::Rows, count: u8) {
         for _ in 0..count {
-            let side = given.side;
-            given = side.next(given.sum, rows, n);
+            let record = self.beside.next(rows);
+            self.give(digest, self.turned_away(record));
         }
-        given
     }
 
     // "With line 1 where the interrupt output of seat n of that side's bench is high and 0 where it is low, and then five looks": the line stands where the
     // digest has the output.
-    fn see(self, n: u8, answer: Answer) -> Side {
-        let beside = self.beside;
-        let bench = self.bench;
-        let seat = bench.seats[bench::chair(n)];
-        let first = streams::add(self.sight, streams::outcome_mark(answer, seat.line()));
-        Side {
-            beside,
-            bench,
-            sight: runs::add_five(first, seat.five()),
-        }
+    fn see(&mut self, answer: Answer) {
+        let seat = self.bench.seats[bench::chair(self.seat)];
+        self.sight.add_outcome(answer, seat.line());
+        self.sight.add_five(seat.five());
     }
 
     // What is seen at an event of the seat's own; of a letter its figures too.
-    pub(crate) fn see_event(self, n: u8, answer: Answer) -> Side {
-        let mut seen = self.see(n, answer);
-        seen.sight = streams::add(seen.sight, streams::letter_mark(answer));
-        seen
+    pub(crate) fn see_event(&mut self, answer: Answer) {
+        self.see(answer);
+        self.sight.add(streams::letter_mark(answer));
     }
 
-    // "see(side, 0) where the number is 0, else see(side, 1)": a byte is its own value.
-    pub(crate) fn see_restore(self, n: u8, answer: Answer) -> Side {
-        let refused = answer.refusal() > 0;
-        let value = base::pick_byte(refused, 1, 0);
-        self.see(n, Answer::Byte(value))
+    // "look(byte) for the 86 bytes of seat n's record in its image, first to last."
+    pub(crate) fn save(&mut self, digest: &mut Digest, at: u8) -> Buffer {
+        let image = Buffer::keep(digest, self.bench, at);
+        for byte in image.record(self.seat) {
+            self.sight.add(byte as u32);
+        }
+        image
+    }
+
+    // "Restored at place p, with length 760", over its bench, with "add(the number)"; and "see(side, 0) where the number is 0, else see(side, 1)": a byte is
+    // its own value.
+    pub(crate) fn restore(&mut self, digest: &mut Digest, image: &Buffer) {
+        let read = image.restore(self.bench);
+        let number = read.answer.refusal();
+        self.bench = read.bench;
+        self.see(Answer::Byte((number > 0) as u8));
+        digest.add(number as u32);
     }
 }

@@ -1,68 +1,58 @@
 // The benches that a trial may start from.
-use crate::older;
-use crate::wounds::replace;
+use crate::buffers::{Buffer, ROOM, SEATS};
 use bench::Bench;
-use std::num::wrapping_sub_u32;
 
-pub(crate) const STARTS: u64 = 2;
+const ARRIVED: u16 = 66;
 
-const IMAGE: usize = 704;
-
-const SEATS: u8 = 8;
-
-const FRONT: u8 = 16;
-
-const ARRIVED: u8 = 66;
-
-const READ: u8 = 70;
-
-const LARGEST: u32 = 4294967295;
+const READ: u16 = 70;
 
 // How many characters each seat of start 1 can still receive.
 const LEFT: [u32; 8] = [0, 1, 35, 100, 400, 18, 20, 4000];
 
-// "Low byte first".
-pub(crate) fn put_word(bytes: &mut [u8], at: usize, n: u32) {
-    let place = at % 65536;
-    replace(&mut *bytes, place, (n % 256) as u8);
-    replace(&mut *bytes, place + 1, (n / 256 % 256) as u8);
-    replace(&mut *bytes, place + 2, (n / 65536 % 256) as u8);
-    replace(bytes, place + 3, (n / 16777216) as u8);
+#[derive(Clone, Copy)]
+pub(crate) enum Start {
+    PowerUp,
+    NearTheLargest,
 }
 
 // "In the record of each seat n the tallies arrived and read are both 4294967295 - D[n]."
-fn put_tallies(bytes: &mut [u8]) {
-    for n in 0..SEATS {
-        let tally = wrapping_sub_u32(LARGEST, LEFT[(n % SEATS) as usize]);
-        let place = FRONT as usize + older::record_place(false, n) as usize;
-        put_word(&mut *bytes, place + ARRIVED as usize, tally);
-        put_word(&mut *bytes, place + READ as usize, tally);
-    }
-}
-
 fn near_the_largest() -> Bench {
-    let mut bytes = [0u8; IMAGE];
-    bytes[0] = b'B';
-    bytes[1] = b'E';
-    bytes[2] = b'N';
-    bytes[3] = 2;
-    put_tallies(&mut bytes);
-    let start = Bench::power_up();
-    let restored = image::restore(start, &bytes, 0);
-    restored.bench
+    let mut image = Buffer {
+        bytes: [0; ROOM],
+        at: 0,
+        old: false,
+    };
+    image.put(0, b"BEN\x02");
+    for (n, left) in (0..SEATS).zip(LEFT) {
+        let tally = u32::MAX.wrapping_sub(left).to_le_bytes();
+        let record = image.record_at(n);
+        image.put(record + ARRIVED, &tally);
+        image.put(record + READ, &tally);
+    }
+    image.restore(Bench::power_up()).bench
 }
 
-pub(crate) fn bench(start: u64) -> Bench {
-    if start == 1 {
-        return near_the_largest();
+impl Start {
+    pub(crate) fn numbered(number: u64) -> Option<Start> {
+        match number {
+            0 => Some(Start::PowerUp),
+            1 => Some(Start::NearTheLargest),
+            _ => None,
+        }
     }
-    Bench::power_up()
-}
 
-// "That of the other start, 1 - start."
-pub(crate) fn other_bench(start: u64) -> Bench {
-    if start == 1 {
-        return Bench::power_up();
+    pub(crate) fn bench(self) -> Bench {
+        match self {
+            Start::PowerUp => Bench::power_up(),
+            Start::NearTheLargest => near_the_largest(),
+        }
     }
-    near_the_largest()
+
+    // "That of the other start, 1 - start."
+    pub(crate) fn other(self) -> Start {
+        match self {
+            Start::PowerUp => Start::NearTheLargest,
+            Start::NearTheLargest => Start::PowerUp,
+        }
+    }
 }

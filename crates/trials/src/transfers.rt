@@ -1,64 +1,43 @@
 // A wound that goes between two tallies of a seat.
-use crate::older;
-use crate::starts::put_word;
-use crate::wounds::{Picks, byte_at};
-use std::num::{wrapping_add_u32, wrapping_sub_u32};
-use streams::pick;
+use crate::buffers::Buffer;
 
-const FRONT: u8 = 16;
+const TALLIES: u16 = 66;
 
-const TALLIES: u8 = 66;
-
-const LARGEST: u32 = 4294967295;
-
-// "Four bytes of it, low byte first."
-fn word_at(copy: &[u8], at: usize) -> u32 {
-    let place = at % 65536;
-    byte_at(copy, place) as u32
-        + 256 * byte_at(copy, place + 1) as u32
-        + 65536 * byte_at(copy, place + 2) as u32
-        + 16777216 * byte_at(copy, place + 3) as u32
+// The seat, and which two of its tallies: by the letters of the page.
+#[derive(Clone, Copy)]
+pub(crate) struct Transfer {
+    pub c: u8,
+    pub y: u8,
+    pub z: u8,
 }
 
-// "N(j) is the one at position 16 + r * c + 66 + 4 * j."
-fn place_of(image: u8, old: bool, c: u8, j: u8) -> usize {
-    let record = FRONT as usize + older::record_place(old, c) as usize;
-    image as usize + record + TALLIES as usize + 4 * j as usize
+// "A number of the copy is four bytes of it, low byte first."
+fn number_at(copy: &Buffer, position: u16) -> u32 {
+    u32::from_le_bytes(copy.part(position))
 }
 
-// By a: "d", "16777216 * d", what brings arrived near its largest value, or "N(y)".
-fn amount(kind: u8, d: u8, arrived: u32, from: u32) -> u32 {
-    match kind {
-        8 => d as u32,
-        9 => 16777216 * d as u32,
-        10 => wrapping_sub_u32(LARGEST - d as u32 % 4, arrived),
-        _ => from,
+impl Transfer {
+    // "N(j) is the one at position 16 + r * c + 66 + 4 * j."
+    fn place_of(self, copy: &Buffer, j: u8) -> u16 {
+        copy.record_at(self.c) + TALLIES + 4 * j as u16
     }
-}
 
-// "Where y is 0 or z is 0, N(y) becomes (N(y) + amount) % 4294967296; else it becomes (N(y) + 4294967296 - amount) % 4294967296."
-fn changed(rises: bool, from: u32, amount: u32) -> u32 {
-    if rises {
-        return wrapping_add_u32(from, amount);
+    // The amount is made of arrived and of N(y). "Where y is 0 or z is 0, N(y) becomes (N(y) + amount) % 4294967296; else it becomes (N(y) + 4294967296 -
+    // amount) % 4294967296. In both cases N(z) becomes (N(z) + amount) % 4294967296."
+    pub(crate) fn make<F: FnOnce(u32, u32) -> u32>(self, copy: &mut Buffer, amount: F)
+        requires { F.IsAlwaysCallable amount }
+    {
+        let y_at = self.place_of(copy, self.y);
+        let z_at = self.place_of(copy, self.z);
+        let y = number_at(copy, y_at);
+        let amount = amount(number_at(copy, self.place_of(copy, 0)), y);
+        let z = number_at(copy, z_at).wrapping_add(amount);
+        let y = if self.y == 0 || self.z == 0 {
+            y.wrapping_add(amount)
+        } else {
+            y.wrapping_sub(amount)
+        };
+        copy.put(y_at, &y.to_le_bytes());
+        copy.put(z_at, &z.to_le_bytes());
     }
-    wrapping_sub_u32(from, amount)
-}
-
-// "Let z be (y + 1 + o) % 5, which is not y." In both cases N(z) rises.
-pub(crate) fn make(copy: &mut [u8], image: u8, old: bool, picks: Picks) {
-    let c = pick(picks.c, 7);
-    let y = pick(picks.y, 3) % 5;
-    let z = (y + 1 + pick(picks.o, 3) % 5) % 5;
-    let first = place_of(image, old, c, y);
-    let second = place_of(image, old, c, z);
-    let arrived = word_at(copy, place_of(image, old, c, 0));
-    let from = word_at(copy, first);
-    let amount = amount(pick(picks.a, 11), pick(picks.d, 255), arrived, from);
-    let to = wrapping_add_u32(word_at(copy, second), amount);
-    put_word(
-        &mut *copy,
-        first,
-        changed((y == 0) | (z == 0), from, amount),
-    );
-    put_word(copy, second, to);
 }

@@ -1,68 +1,46 @@
 // The words that the program is given, and the numbers among them.
-ghost use Rattle.std.specs.Prelude.{◌≤◌, length};
-
+use crate::list::Kind;
 use std::env::{Env, FillError};
+use std::str;
 
-#[derive(Clone, Copy)]
-pub(crate) enum Number {
-    Whole(u64),
-    Unread,
-}
+// No number that is read is above this one.
+const MOST: u64 = 10_000_000_000_000_000_009;
 
-// Beyond this no further digit is taken, so that what is read fits.
-const MOST: u64 = 1_000_000_000_000_000_000;
-
-fn decimal(text: &[u8]) -> Number {
-    if text.len() == 0 {
-        return Number::Unread;
+// Digits alone: `parse` takes a sign too.
+fn decimal(text: &[u8]) -> Option<u64> {
+    if !text.iter().all(|c| c.is_ascii_digit()) {
+        return None;
     }
-    let mut n: u64 = 0;
-    for i in 0..text.len() {
-        let digit = text[i];
-        if digit < b'0' {
-            return Number::Unread;
-        }
-        if b'9' < digit {
-            return Number::Unread;
-        }
-        if MOST < n {
-            return Number::Unread;
-        }
-        n = n * 10 + (digit - b'0') as u64;
-    }
-    Number::Whole(n)
+    let number = str::from_utf8(text).ok()?.parse::<u64>().ok()?;
+    (number <= MOST).then_some(number)
 }
 
 // How many there are, the program's name among them.
 pub(crate) fn count(rt: &impl Env) -> usize {
-    for i in 0..usize::MAX {
-        if let Err(FillError::NotPresent) = rt.arg(i, &mut []) {
-            return i;
-        }
+    (0..usize::MAX)
+        .find(|i| matches!(rt.arg(*i, &mut []), Err(FillError::NotPresent)))
+        .unwrap_or(usize::MAX)
+}
+
+// A word, put at the start of a buffer. There may be none, or it may be longer than the buffer.
+fn word<'a>(rt: &impl Env, i: usize, buffer: &'a mut [u8]) -> Option<&'a [u8]> {
+    let n = rt.arg(i, buffer).ok()?;
+    Some(&buffer[..n])
+}
+
+// What the first word asks for in place of a stream.
+pub(crate) fn kind(rt: &impl Env) -> Option<Kind> {
+    match word(rt, 1, &mut [0; 20])? {
+        b"images" => Some(Kind::Images),
+        b"pairs" => Some(Kind::Pairs),
+        _ => None,
     }
-    usize::MAX
-}
-
-// Puts a word at the start of a buffer. Its length; 0 where there is none, or where it is longer than the buffer.
-fn read(rt: &impl Env, i: usize, text: &mut [u8]) -> usize
-    ensures { result ≤ length text.new }
-{
-    rt.arg(i, text).unwrap_or(0)
-}
-
-// Whether the first word is this one.
-pub(crate) fn asks_for(rt: &impl Env, word: &[u8]) -> bool {
-    let mut text = [0u8; 20];
-    let n = read(rt, 1, &mut text);
-    &text[..n] == word
 }
 
 // One that is left out is 0. The words are those of the command line, the program's name among them.
-pub(crate) fn argument(rt: &impl Env, i: usize, words: usize) -> Number {
+pub(crate) fn argument(rt: &impl Env, i: usize, words: usize) -> Option<u64> {
     if words <= i {
-        return Number::Whole(0);
+        return Some(0);
     }
-    let mut text = [0u8; 20];
-    let n = read(rt, i, &mut text);
-    decimal(&text[..n])
+    decimal(word(rt, i, &mut [0; 20])?)
 }

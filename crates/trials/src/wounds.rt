@@ -1,24 +1,9 @@
 // One wound of an image, or two: a byte replaced, or a transfer between tallies.
-ghost use Rattle.std.specs.Prelude.{◌≤◌};
-
-use crate::{older, spots, transfers};
-use std::num::{wrapping_add_u8, wrapping_sub_u8};
-use streams::{advance, pick};
+use crate::buffers::Buffer;
+use crate::picks::Picker;
+use crate::transfers::Transfer;
 
 const ROWS: usize = 56;
-
-// What the picker's x was at each pick, and the spot.
-#[derive(Clone, Copy)]
-pub(crate) struct Picks {
-    pub a: u32,
-    pub b: u16,
-    pub c: u32,
-    pub d: u32,
-    pub e: u32,
-    pub f: u32,
-    pub y: u32,
-    pub o: u32,
-}
 
 // "Fifty-six rows, 0 to 55: place, low, most."
 const WOUNDS: [[u8; 3]; ROWS] = [
@@ -81,102 +66,53 @@ const WOUNDS: [[u8; 3]; ROWS] = [
 ];
 
 // "If that is 16 or more, r * c more": the same field of seat c.
-fn place_of(place: u8, c: u8, old: bool) -> usize
-    ensures { result ≤ 22185 }
-{
+fn place_of(copy: &Buffer, place: u8, c: u8) -> u16 {
+    let place = place as u16;
     if place < 16 {
-        return place as usize;
-    }
-    place as usize + older::record_place(old, c) as usize
-}
-
-// "Bit 0 is worth 1, bit 7 is worth 128."
-fn turned_over(byte: u8, c: u8) -> u8 {
-    let worths: [u8; 8] = [1, 2, 4, 8, 16, 32, 64, 128];
-    let worth = worths[(c % 8) as usize];
-    if base::bit(c, byte) {
-        return wrapping_sub_u8(byte, worth);
-    }
-    wrapping_add_u8(byte, worth)
-}
-
-// The new byte of the kinds up to 4, whose position is a spot.
-fn at_spot(a: u8, stood: u8, c: u8, d: u8) -> u8 {
-    match a {
-        0 | 1 => d,
-        2 | 3 => turned_over(stood, c),
-        _ => d % 18,
-    }
-}
-
-// The byte at a place of the copy, and another in its stead. The copy has every place that a wound has; the test is there so that this
-// need not be shown.
-pub(crate) fn replace(copy: &mut [u8], at: usize, byte: u8) {
-    if at < copy.len() {
-        copy[at] = byte;
-    }
-}
-
-pub(crate) fn byte_at(copy: &[u8], at: usize) -> u8 {
-    if at < copy.len() {
-        return copy[at];
-    }
-    0
-}
-
-// "If a is 7 or less, one byte of the copy is replaced." The image stands at this place of the copy.
-fn replace_one(copy: &mut [u8], image: u8, old: bool, picks: Picks) {
-    let seat = pick(picks.c, 7);
-    let kind = pick(picks.a, 11);
-    if kind > 4 {
-        let row = WOUNDS[pick(picks.e, 55) as usize];
-        let at = image as usize + place_of(row[0], seat, old);
-        replace(copy, at, wrapping_add_u8(row[1], pick(picks.f, row[2])));
-        return;
-    }
-    let at = image as usize + picks.b as usize;
-    let stood = byte_at(copy, at);
-    replace(copy, at, at_spot(kind, stood, seat, pick(picks.d, 255)));
-}
-
-// "Nine picks, all always and in this order."
-fn picked(x: u32) -> Picks {
-    let a = advance(x);
-    let b = spots::spot(a);
-    let c = advance(b.x);
-    let d = advance(c);
-    let e = advance(d);
-    let f = advance(e);
-    let y = advance(f);
-    Picks {
-        a,
-        b: b.at,
-        c,
-        d,
-        e,
-        f,
-        y,
-        o: advance(y),
-    }
-}
-
-// The picker's x after the picks is given back.
-fn wound(copy: &mut [u8], image: u8, old: bool, x: u32) -> u32 {
-    let picks = picked(x);
-    if pick(picks.a, 11) > 7 {
-        transfers::make(copy, image, old, picks);
+        place
     } else {
-        replace_one(copy, image, old, picks);
+        place - 16 + copy.record_at(c)
     }
-    picks.o
+}
+
+// "Nine picks, all always and in this order." "If a is 7 or less, one byte of the copy is replaced." "If a is 8 or more, the wound is a transfer."
+fn wound(copy: &mut Buffer, picker: &mut Picker) {
+    let a = picker.pick(11);
+    let b = picker.spot();
+    let c = picker.pick(7);
+    let d = picker.pick(255);
+    let e = picker.pick(55);
+    let [place, low, most] = WOUNDS[e as usize];
+    let f = picker.pick(most);
+    let y = picker.pick(3);
+    let o = picker.pick(3);
+    // "Let z be (y + 1 + o) % 5, which is not y."
+    let z = (y + 1 + o) % 5;
+    let transfer = Transfer { c, y, z };
+    match a {
+        0 | 1 => copy.put(b, &[d]),
+        2 | 3 => {
+            let [stood]: [u8; 1] = copy.part(b);
+            copy.put(b, &[stood ^ (1 << c)]);
+        }
+        4 => copy.put(b, &[d % 18]),
+        5..=7 => copy.put(place_of(copy, place, c), &[low.wrapping_add(f)]),
+        8 => transfer.make(copy, |_, _| d as u32),
+        9 => transfer.make(copy, |_, _| 16777216 * d as u32),
+        // What brings arrived to its largest value, or up to three below it.
+        10 => transfer.make(
+            copy,
+            |arrived, _| (u32::MAX - d as u32 % 4).wrapping_sub(arrived),
+        ),
+        _ => transfer.make(copy, |_, y| y),
+    }
 }
 
 // "w = pick(4). Make two wounds in the copy if w is 0, else one."
-pub(crate) fn make(copy: &mut [u8], image: u8, old: bool, x: u32) -> u32 {
-    let w = advance(x);
-    let once = wound(&mut *copy, image, old, w);
-    if pick(w, 3) > 0 {
-        return once;
+pub(crate) fn make(copy: &mut Buffer, picker: &mut Picker) {
+    let w = picker.pick(3);
+    wound(copy, picker);
+    if w == 0 {
+        wound(copy, picker);
     }
-    wound(copy, image, old, once)
 }

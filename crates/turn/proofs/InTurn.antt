@@ -1,4 +1,5 @@
 -- Demand 3, proved: one recursion over what reaches the controller.
+use Rattle.std.specs.Prelude.{Some}
 use Prim.Native.Nat.{ℕ, ◌+◌, ◌<◌, ◌≤◌, zero-le}
 use mathlib.Core.Bool.{Bool, true, false, not}
 use mathlib.Core.List.{List, [], ◌∷◌}
@@ -23,7 +24,6 @@ use Rattle.controller.specs.Steps.{step}
 use Rattle.controller.specs.declared.Controller.{Controller}
 use Rattle.controller.specs.declared.Setup.{Setup}
 use Rattle.controller.specs.declared.Signalled.{Signalled}
-use Rattle.controller.specs.declared.Turn.TheVariants.{Line}
 use Rattle.turn.specs.Runs.{after, answers}
 use Rattle.turn.specs.Waiting.{Start, word, paid, Names, Waits}
 use Rattle.turn.specs.Demand3.{waiting, its_turn, InTurn, Demand3}
@@ -44,26 +44,26 @@ module _ (t v : ℕ) (s : Setup) (up : ready s ≡ true) (lt : t < 8) (c : Contr
     (again : (d : Controller) (owed : Bool) (u : ℕ) → Kept t s d → Held owed u d.operation → Waits t owed d rest → Run s t u (answers d rest))
     (w : Names t c acknowledge ⊎ Waits t (not c.setup.automatic) (after c acknowledge) rest) where
   -- what it answers, and the controller after it
-  granted_step : (g : ℕ) → granted c ≡ Line g → step c acknowledge ≡ record { controller = grant c g; answer = Vector (vector c.setup g) }
+  granted_step : (g : ℕ) → granted c ≡ Some g → step c acknowledge ≡ record { controller = grant c g; answer = Vector (vector c.setup g) }
   granted_step g e = step_acknowledge c (subst (λ (x : Setup). ready x ≡ true) (sym k.same) up) ∙ ap (answered c) e
 
-  told : (g : ℕ) → granted c ≡ Line g → Run s t v (Vector (vector s g) ∷ answers (grant c g) rest) → Run s t v (answers c (acknowledge ∷ rest))
+  told : (g : ℕ) → granted c ≡ Some g → Run s t v (Vector (vector s g) ∷ answers (grant c g) rest) → Run s t v (answers c (acknowledge ∷ rest))
   told g e r =
       subst (λ (x : Signalled). Run s t v (x.answer ∷ answers x.controller rest)) (sym (granted_step g e))
       (subst (λ (x : Setup). Run s t v (Vector (vector x g) ∷ answers (grant c g) rest)) (sym k.same) r)
 
-  waits_on : (g : ℕ) → granted c ≡ Line g → Waits t (not c.setup.automatic) (after c acknowledge) rest → Waits t (not s.automatic) (grant c g) rest
+  waits_on : (g : ℕ) → granted c ≡ Some g → Waits t (not c.setup.automatic) (after c acknowledge) rest → Waits t (not s.automatic) (grant c g) rest
   waits_on g e z =
       subst (λ (x : Setup). Waits t (not x.automatic) (grant c g) rest) k.same
       (subst (λ (x : Signalled). Waits t (not c.setup.automatic) x.controller rest) (granted_step g e) z)
 
-  its_own : (g : ℕ) → granted c ≡ Line g → g ≡ t → Run s t v (answers c (acknowledge ∷ rest))
+  its_own : (g : ℕ) → granted c ≡ Some g → g ≡ t → Run s t v (answers c (acknowledge ∷ rest))
   its_own g e z =
       told g e
       (subst (λ (x : ℕ). Run s t v (Vector (vector s x) ∷ answers (grant c g) rest)) (sym z)
       (record { before = []; grants = its_turn (answers (grant c g) rest); rising = tt }))
 
-  another_line : (g : ℕ) → granted c ≡ Line g → g < 8 → place v g ≤ place v t → (g ≡ t → ⊥) → Run s t v (answers c (acknowledge ∷ rest))
+  another_line : (g : ℕ) → granted c ≡ Some g → g < 8 → place v g ≤ place v t → (g ≡ t → ⊥) → Run s t v (answers c (acknowledge ∷ rest))
   another_line g e small no_later ne =
       let q = granted_other t g s v c lt small ne k h in
       told g e

@@ -1,4 +1,5 @@
 -- What a write that may come does while line t waits.
+use Rattle.std.specs.Prelude.{Option}
 use Prim.Native.Nat.{ℕ, ◌/◌, ◌%◌, ◌<◌}
 use mathlib.Core.Bool.{Bool, true, false, not, ◌&&◌, ◌||◌}
 use mathlib.Core.Path.{◌≡◌, refl, sym, ap, ◌∙◌, subst}
@@ -24,7 +25,6 @@ use Rattle.controller.specs.Steps.{step}
 use Rattle.controller.specs.declared.Controller.{Controller}
 use Rattle.controller.specs.declared.Setup.{Setup}
 use Rattle.controller.specs.declared.Operation.{Operation}
-use Rattle.controller.specs.declared.Turn.{Turn}
 use Rattle.turn.specs.Waiting.{Word, mask, rotating, barred, harmless, word0, word, MayWrite, paid}
 use Rattle.turn.proofs.Keeps.{Kept, Held}
 
@@ -34,12 +34,12 @@ pub record Written (t v : ℕ) (s : Setup) (owed : Bool) (d : Controller) : Type
 
 -- ---- the rotating end: it takes the one line in service, or none, and nothing is owed any more
 
-none_served : (o : Operation) → o.special ≡ false → o.service ≡ 0 → (g : Turn) → served o ≡ g → Finds o.first (hinders o) g → rotated_turn o g ≡ o
+none_served : (o : Operation) → o.special ≡ false → o.service ≡ 0 → (g : Option ℕ) → served o ≡ g → Finds o.first (hinders o) g → rotated_turn o g ≡ o
 none_served o plain idle g q (foremost n f) =
     absurd (not_both f.passes (hinders_plain o n plain ∙ ap (λ (x : ℕ). has x n) idle ∙ has_none n))
 none_served o plain idle g q (nobody none) = refl
 
-one_served : (o : Operation) (l : ℕ) → l < 8 → o.special ≡ false → o.service ≡ only l → (g : Turn) → served o ≡ g → Finds o.first (hinders o) g
+one_served : (o : Operation) (l : ℕ) → l < 8 → o.special ≡ false → o.service ≡ only l → (g : Option ℕ) → served o ≡ g → Finds o.first (hinders o) g
     → rotated_turn o g ≡ made_last (ended o l) l
 one_served o l small plain serving g q (foremost n f) =
     let e : eqb (line l) (line n) ≡ true = sym (has_only l n) ∙ ap (λ (x : ℕ). has x n) (sym serving) ∙ sym (hinders_plain o n plain) ∙ f.passes in

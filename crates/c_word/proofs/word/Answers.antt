@@ -5,9 +5,9 @@ use borrow.Author.Rules.{rules}
 use Rattle.c_word.proofs.word.Goals as goal
 
 pub returns-in_default : goal.returns-in_default
-returns-in_default c = put_together_plain _ _ _ _ _ c.value-value.ensures c.refusal-refusal.ensures c.pick_byte-high.ensures
+returns-in_default c = put_together_plain _ _ _ _ _ c.value-value.ensures c.refusal-refusal.ensures c.from-high.ensures
     (no_letter c.args.answer c.in_default.not-Letter) (search rules) (search rules)
 
 pub returns : goal.returns
-returns c = put_together_letter _ _ _ _ _ (sym c.in-Letter.is) c.pick_byte-high.ensures
+returns c = put_together_letter _ _ _ _ _ (sym c.in-Letter.is) c.from-high.ensures
     (search rules) (search rules) (search rules)

@@ -2,7 +2,6 @@ use Rattle.controller_page.specs.ControllerPages.{controller_page, controller_pi
 use Rattle.controller_page.specs.HeadLaws.{controller_head_short}
 use Rattle.page.specs.PieceLaws.{said_all}
 use Rattle.page.specs.PageLaws.{joined_all_lem, joined_piece}
-use borrow.Author.Rules.{rules}
 use Rattle.controller_page.proofs.controller.Goals as goal
 
 pub returns : goal.returns

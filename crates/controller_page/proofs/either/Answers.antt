@@ -1,7 +1,6 @@
 use Rattle.base.specs.PickLaws.{pick_true, pick_false}
 use Rattle.page.specs.PieceLaws.{with_append, with_none}
 use Rattle.page.specs.Pieces.{with}
-use borrow.Author.Rules.{rules}
 use Rattle.controller_page.proofs.either.Goals as goal
 
 pub returns-then-test : goal.returns-then-test

@@ -1,6 +1,5 @@
 use Rattle.page.specs.PieceLaws.{with_append, with_none}
 use Rattle.controller_page.specs.ControllerPages.{output_words}
-use borrow.Author.Rules.{rules}
 use Rattle.controller_page.proofs.output.Goals as goal
 
 pub returns : goal.returns

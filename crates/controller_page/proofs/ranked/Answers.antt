@@ -1,6 +1,5 @@
 use Rattle.page.specs.PieceLaws.{with_append, with_none}
 use Rattle.page.specs.Pieces.{with}
-use borrow.Author.Rules.{rules}
 use Rattle.controller_page.proofs.ranked.Goals as goal
 
 pub returns : goal.returns

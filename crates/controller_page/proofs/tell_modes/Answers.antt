@@ -1,6 +1,5 @@
 use Rattle.controller_page.specs.ControllerPages.{mode_pieces}
 use Rattle.page.specs.PageLaws.{joined_piece}
-use borrow.Author.Rules.{rules}
 use Rattle.controller_page.proofs.tell_modes.Goals as goal
 
 pub returns : goal.returns

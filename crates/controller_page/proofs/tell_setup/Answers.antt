@@ -1,6 +1,5 @@
 use Rattle.controller_page.specs.ControllerPages.{setup_pieces}
 use Rattle.page.specs.PageLaws.{joined_piece}
-use borrow.Author.Rules.{rules}
 use Rattle.controller_page.proofs.tell_setup.Goals as goal
 
 pub returns : goal.returns

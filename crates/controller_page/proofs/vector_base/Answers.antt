@@ -1,7 +1,6 @@
 use Rattle.page.specs.PieceLaws.{with_append, with_none}
 use Rattle.page.specs.Pieces.{with}
 use Rattle.controller_page.specs.ControllerPages.{base_words}
-use borrow.Author.Rules.{rules}
 use Rattle.controller_page.proofs.vector_base.Goals as goal
 
 pub returns : goal.returns

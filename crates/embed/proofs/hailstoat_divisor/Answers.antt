@@ -8,5 +8,5 @@ use Rattle.embed.proofs.hailstoat_divisor.Goals as goal
 pub returns : goal.returns
 returns c =
     subst (λ (a : Answer). Tells c.word.result a false)
-    (c.divisor-answer.ensures ∙ ap (divisor_of _) c.as_byte.ensures ∙ sym (clock_past _ _))
+    (c.divisor.ensures ∙ ap (divisor_of _) c.as_byte.ensures ∙ sym (clock_past _ _))
     c.word.ensures

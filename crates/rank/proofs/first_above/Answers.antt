@@ -1,11 +1,14 @@
-use Rattle.base.specs.PickLaws.{pick_true, pick_false}
-use borrow.Author.Tests.{le-ltb, lt-ltb}
-use borrow.Author.Rules.{rules}
-use Rattle.rank.proofs.AboveLaws.{first_above}
+use Rattle.std.proofs.Common.{rules, tests, sym, ap, ◌∙◌}
+use Rattle.std.specs.Prelude.{ℕ, Option}
+use Rattle.std.specs.Option.{unwrap_or}
+use Rattle.rank.specs.Sets.{has}
+use Rattle.rank.specs.Rank.{place_found}
+use Rattle.rank.proofs.RankLaws.{first_up_to}
+use Rattle.rank.proofs.AboveLaws.{first_above, found_above}
 use Rattle.rank.proofs.first_above.Goals as goal
 
-pub returns-then-at-bar : goal.returns-then-at-bar
-returns-then-at-bar c = simp (first_above, ← c.first_place-bar.ensures, ← c.first_place-at.ensures, lt-ltb _ _ c.if-at-bar.true, pick_true)
-
 pub returns : goal.returns
-returns c = simp (first_above, ← c.first_place-bar.ensures, ← c.first_place-at.ensures, le-ltb _ _ c.if-at-bar.false, pick_false)
+returns c = let a = c.args in
+    found_above _ _ (first_up_to a.first (has a.s)) (first_up_to a.first (has a.others)) _ (c.unwrap_or-bar.ensures ∙ ap (λ (p : Option ℕ). unwrap_or p 8) c.first_place.ensures) _ c.first_place-2.ensures _
+    (λ x t k. search (rules, tests)) _ c.filter.ensures
+    ∙ ap place_found (sym (first_above a.first (has a.s) (has a.others)))

@@ -1,30 +1,23 @@
-use Prim.Native.Nat.{ℕ, ◌≤◌, ◌-◌}
-use mathlib.Core.Path.{◌≡◌, refl, sym, ap, ◌∙◌}
-use native.Mathlib.Omega.{arith}
-use borrow.Author.Rules.{rules}
+use Rattle.std.proofs.Common.{rules, sym, ap, ◌∙◌, ℕ, true, false}
+use Rattle.std.specs.Prelude.{◌≡◌}
+use Rattle.std.proofs.lemmas.Iterator.{first_from_Range}
+use Rattle.base.specs.Pick.{pick}
 use Rattle.rank.specs.Sets.{has}
-use Rattle.rank.specs.Rank.{line_at, find, first_place}
 use Rattle.rank.specs.SetLaws.{has_none}
-use Rattle.rank.proofs.RankLaws.{first_none}
-use Rattle.rank.specs.SearchLaws.{find_next, find_here, find_end}
+use Rattle.rank.specs.Rank.{line_at, first_place, place_found}
+use Rattle.rank.proofs.RankLaws.{first_none, found_first}
 use Rattle.rank.proofs.first_place.Goals as goal
 
 -- no line is in the empty set
 pub returns-then-s-eq0 : goal.returns-then-s-eq0
+unfolding place_found pick
 returns-then-s-eq0 c = let a = c.args in
-    sym (first_none a.first (has a.s) (λ n h. ap (λ (x : ℕ). has x n) c.if-s-eq0.true ∙ has_none n))
-
-pub loop-k-init : goal.loop-k-init
-unfolding first_place
-loop-k-init c = (omega arith, refl)
-
-pub returns-then-has : goal.returns-then-has
-returns-then-has c = let l = c.loop-k in
-    sym (l.invariant.1 ∙ find_here _ 8 l.k (omega arith) (cc))
-
-pub loop-k-preserved : goal.loop-k-preserved
-loop-k-preserved c = let l = c.loop-k in
-    (omega arith, l.invariant.1 ∙ find_next _ 8 l.k (omega arith) (cc))
+    sym (ap place_found (first_none a.first (has a.s) (λ n h. ap (λ (x : ℕ). has x n) c.if-s-eq0.true ∙ has_none n)))
 
 pub returns : goal.returns
-returns c = sym (c.loop-k.invariant.1 ∙ find_end _ 8 c.loop-k.k (omega arith))
+unfolding first_place
+returns c = let a = c.args in
+    found_first (λ k. has a.s (line_at a.first k)) _
+    (first_from_Range _ _ _ _ (λ k. has a.s (line_at a.first k) ≡ true) (λ k. has a.s (line_at a.first k) ≡ false) c.find.ensures.ran
+    (λ x q k. search rules)
+    (λ x q k. (search rules, search rules)))

@@ -1,6 +1,5 @@
 use Rattle.base.specs.PickLaws.{pick_true, pick_false}
 use Rattle.sight.specs.InUse.{with_named}
-use borrow.Author.Rules.{rules}
 use Rattle.sight.proofs.named.Goals as goal
 
 pub returns-then-kind-seat : goal.returns-then-kind-seat

@@ -1,6 +1,5 @@
 use Rattle.channel.specs.Status.{lsr}
 use Rattle.sight.specs.Sights.{look_of}
-use borrow.Author.Rules.{rules}
 use Rattle.sight.proofs.seen.Goals as goal
 
 pub returns : goal.returns

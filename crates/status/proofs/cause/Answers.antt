@@ -1,12 +1,11 @@
-use Prim.Native.Nat.{ℕ, ◌+◌, ◌-◌, ◌<◌, ◌≤◌}
+use Prim.Native.Nat.{ℕ, ◌+◌, ◌<◌, ◌≤◌}
 use mathlib.Core.Bool.{Bool, true, false, ◌&&◌}
-use mathlib.Core.List.{List, map}
+use mathlib.Core.List.{List}
 use mathlib.Core.Path.{◌≡◌, ap, sym, ◌∙◌}
 use native.Mathlib.Omega.{arith}
 use native.Mathlib.Numerals.{add-one}
 use lib.ListN.{length, get_or, drop, drop_of_length-le}
 use lib.Seq.{drop-cons}
-use borrow.Author.Rules.{rules}
 use Rattle.base.specs.PickLaws.{pick_true, pick_false}
 use Rattle.base.specs.Bits.{bit}
 use Rattle.registers.specs.declared.Settings.{Settings}
@@ -19,7 +18,7 @@ use Rattle.status.specs.declared.Row.{Row}
 use Rattle.status.specs.declared.standing.Standing.{Standing}
 use Rattle.status.specs.declared.standing.When.TheVariants.{Trouble}
 use Rattle.status.specs.Status.{cause_of, first_cause}
-use Rattle.status.specs.Table.{table, holds, asked}
+use Rattle.status.specs.Table.{table, holds}
 use Rattle.status.proofs.TableLaws.{table_followed}
 use Rattle.status.proofs.cause.Invariants.{named}
 use Rattle.status.proofs.cause.Goals as goal
@@ -57,15 +56,15 @@ module _ (s : Settings) (r : Receiver) (t : Transmitter) (changes : ℕ) (fifo t
   chosen mode e least-is f g h = rw (f, e, mode, least-is, g, h, ap first_cause (table_followed s r t changes))
 
 -- the rows that the code has must be those of `table` for this, and for `loop-again`
-pub returns-then-enabled-stands : goal.returns-then-enabled-stands
-returns-then-enabled-stands c = sym (here _ _ table c.loop-k.k _ _ c.bit-enabled.ensures c.holds-stands.ensures (omega arith) c.if-enabled-stands.true) ∙ c.loop-k.invariant
+pub returns-then-bit-holds : goal.returns-then-bit-holds
+returns-then-bit-holds c = sym (here _ _ table c.loop-code.code-index _ _ c.bit.ensures c.holds.ensures (omega arith) c.if-bit-holds.true) ∙ c.loop-code.invariant
     ∙ chosen _ _ _ _ _ _ _ _ _ _ c.is_fifo-fifo.ensures c.trouble.ensures
     c.trigger.ensures c.«data».ensures c.timed_out.ensures c.any_change.ensures
 
-pub loop-k-preserved : goal.loop-k-preserved
-loop-k-preserved c = sym (later _ _ table c.loop-k.k _ _ c.bit-enabled.ensures c.holds-stands.ensures (omega arith) c.if-enabled-stands.false) ∙ c.loop-k.invariant
+pub loop-code-preserved : goal.loop-code-preserved
+loop-code-preserved c = sym (later _ _ table c.loop-code.code-index _ _ c.bit.ensures c.holds.ensures (omega arith) c.if-bit-holds.false) ∙ c.loop-code.invariant
 
 pub returns : goal.returns
-returns c = sym (past _ _ table c.loop-k.k (omega arith)) ∙ c.loop-k.invariant
+returns c = sym (past _ _ table c.loop-code.code-index (omega arith)) ∙ c.loop-code.invariant
     ∙ chosen _ _ _ _ _ _ _ _ _ _ c.is_fifo-fifo.ensures c.trouble.ensures
     c.trigger.ensures c.«data».ensures c.timed_out.ensures c.any_change.ensures

@@ -2,7 +2,6 @@ use native.Mathlib.Omega.{arith}
 use Rattle.base.specs.PickLaws.{pick_le}
 use Rattle.status.specs.Status.{iir_of}
 use Rattle.status.specs.StatusLaws.{cause_small}
-use borrow.Author.Rules.{rules}
 use Rattle.status.proofs.iir.Goals as goal
 
 pub overflow_add-result : goal.overflow_add-result

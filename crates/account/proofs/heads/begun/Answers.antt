@@ -1,7 +1,6 @@
 use Prim.Native.Nat.{◌<◌, ◌^◌}
 use mathlib.Core.Path.{◌≡◌, sym, ap, ◌∙◌}
 use native.Mathlib.Omega.{arith}
-use lib.ListN.{length}
 use Rattle.base.specs.Answers.{refusal_of}
 use Rattle.page.specs.Pieces.{piece, said}
 use Rattle.page.specs.PieceLaws.{said_all}
@@ -10,7 +9,6 @@ use Rattle.page.specs.declared.Piece.{Piece}
 use Rattle.account.specs.Head.{head_words}
 use Rattle.account.specs.HeadLaws.{head_short}
 use Rattle.account.proofs.HeadPiece.{head_piece}
-use borrow.Author.Rules.{rules}
 use Rattle.account.proofs.heads.begun.Goals as goal
 
 pub returns : goal.returns

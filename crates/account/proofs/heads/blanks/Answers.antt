@@ -2,7 +2,6 @@ use native.Mathlib.Omega.{arith}
 use Prim.Native.Nat.{◌/◌}
 use Rattle.text.specs.DecimalLaws.{length_small, length_large, front_length}
 use Rattle.account.proofs.HeadPiece.{padded_by}
-use borrow.Author.Rules.{rules}
 use Rattle.account.proofs.heads.blanks.Goals as goal
 
 pub returns-then-n-lt10 : goal.returns-then-n-lt10

@@ -1,8 +1,15 @@
+use mir.Val.{bool_byte}
+use Rattle.std.proofs.Common.{Bool, true, false, ◌≡◌, ◌+◌, refl}
+use Rattle.base.specs.Pick.{pick}
 use Rattle.text.specs.Line.{output_digit}
 use Rattle.account.specs.Head.{figures_shown}
-use borrow.Author.Rules.{rules}
 use Rattle.account.proofs.heads.figures.Goals as goal
 
+as_output : (o : Bool) → 48 + bool_byte o ≡ output_digit o
+unfolding output_digit pick
+as_output true = refl
+as_output false = refl
+
 pub returns : goal.returns
-unfolding figures_shown output_digit
-returns c = simp (c.text.ensures, c.pick_byte.ensures, c.capital-3.ensures, c.capital-2.ensures, c.capital.ensures)
+unfolding figures_shown
+returns c = simp (c.text.ensures, c.from.ensures, as_output, c.capital-3.ensures, c.capital-2.ensures, c.capital.ensures)

@@ -1,7 +1,6 @@
 use Rattle.base.specs.PickLaws.{pick_true, pick_false}
 use borrow.Author.Tests.{le-leb, le-ltb, lt-leb, lt-ltb}
 use Rattle.account.specs.Told.{divisor_at}
-use borrow.Author.Rules.{rules}
 use Rattle.account.proofs.telling.divisor_at.Goals as goal
 
 pub returns-then-n-ge-SEATS : goal.returns-then-n-ge-SEATS

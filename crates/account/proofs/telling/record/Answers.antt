@@ -2,7 +2,6 @@ use mathlib.Core.Path.{ap}
 use Rattle.page.specs.PageLaws.{joined_piece, joined_all_lem}
 use Rattle.bench.specs.declared.Outcome.{Outcome}
 use Rattle.account.specs.Told.{told}
-use borrow.Author.Rules.{rules}
 use Rattle.account.proofs.telling.record.Goals as goal
 
 pub returns : goal.returns

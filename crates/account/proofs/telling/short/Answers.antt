@@ -1,11 +1,9 @@
 use mathlib.Core.Path.{ap}
-use lib.ListN.{length}
 use Rattle.base.specs.Pick.{pick}
 use Rattle.page.specs.Notes.{commented}
 use Rattle.page.specs.PageLaws.{joined_piece}
 use Rattle.bench.specs.declared.Outcome.{Outcome}
 use Rattle.account.specs.Told.{told}
-use borrow.Author.Rules.{rules}
 use Rattle.account.proofs.telling.short.Goals as goal
 
 pub returns : goal.returns

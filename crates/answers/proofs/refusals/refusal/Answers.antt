@@ -1,10 +1,10 @@
 use mathlib.Core.Path.{sym, ap, ◌∙◌}
 use Rattle.base.specs.Pick.{pick}
+use Rattle.text.specs.Quoted.{quoted}
 use Rattle.page.specs.Pieces.{with}
-use Rattle.names.specs.Names.{refusals_first}
-use Rattle.names.specs.Words.{refusal_words}
-use Rattle.answers.proofs.Tables.{at_number, none_by}
-use borrow.Author.Rules.{rules}
+use Rattle.names.specs.Names.{refusals_first, refusals_later, no_refusal}
+use Rattle.names.specs.Words.{later_words, refusal_words}
+use Rattle.answers.proofs.Tables.{at_number, Lacks, holds_besides, none_by}
 use Rattle.answers.proofs.refusals.refusal.Goals as goal
 
 pub returns-in-1 : goal.returns-in-1
@@ -47,6 +47,47 @@ pub returns-in-10 : goal.returns-in-10
 unfolding refusal_words pick
 returns-in-10 c = at_number refusal_words _ _ c.in-10.is c.text-in-10.ensures
 
+pub returns-in-11 : goal.returns-in-11
+unfolding refusal_words later_words pick
+returns-in-11 c = at_number refusal_words _ _ c.in-11.is c.text-in-11.ensures
+
+pub returns-in-12 : goal.returns-in-12
+unfolding refusal_words later_words pick
+returns-in-12 c = at_number refusal_words _ _ c.in-12.is c.text-in-12.ensures
+
+pub returns-in-13 : goal.returns-in-13
+unfolding refusal_words later_words pick
+returns-in-13 c = at_number refusal_words _ _ c.in-13.is c.text-in-13.ensures
+
+pub returns-in-14 : goal.returns-in-14
+unfolding refusal_words later_words pick
+returns-in-14 c = at_number refusal_words _ _ c.in-14.is c.text-in-14.ensures
+
+pub returns-in-15 : goal.returns-in-15
+unfolding refusal_words later_words pick
+returns-in-15 c = at_number refusal_words _ _ c.in-15.is c.text-in-15.ensures
+
+pub returns-in-16 : goal.returns-in-16
+unfolding refusal_words later_words pick
+returns-in-16 c = at_number refusal_words _ _ c.in-16.is c.text-in-16.ensures
+
+pub returns-in-17 : goal.returns-in-17
+unfolding refusal_words later_words pick
+returns-in-17 c = at_number refusal_words _ _ c.in-17.is c.text-in-17.ensures
+
+pub returns-in-18 : goal.returns-in-18
+unfolding refusal_words later_words pick
+returns-in-18 c = at_number refusal_words _ _ c.in-18.is c.text-in-18.ensures
+
+pub returns-in-19 : goal.returns-in-19
+unfolding refusal_words later_words pick
+returns-in-19 c = at_number refusal_words _ _ c.in-19.is c.text-in-19.ensures
+
 pub returns-in_default : goal.returns-in_default
-unfolding refusal_words
-returns-in_default c = c.later_refusal.ensures ∙ ap (with _) (sym (none_by (Unit {0}) refusals_first _ _ c.in_default.in_default-own.rest))
+unfolding refusal_words later_words
+returns-in_default c = let n : _ = c.args.number in
+    let lacks : _ = c.in_default.in_default-own.rest in
+    let first : Type 0 = Lacks (Unit {0}) n refusals_first in
+    c.text-in_default.ensures
+    ∙ ap (with _) (sym (none_by (Unit {0}) refusals_first n (later_words n) (holds_besides first n refusals_later lacks)
+    ∙ none_by first refusals_later n (quoted no_refusal) lacks))

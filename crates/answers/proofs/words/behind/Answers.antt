@@ -3,7 +3,6 @@ use borrow.Author.Tests.{eq-eqb, ne_eqb}
 use Rattle.page.specs.PieceLaws.{with_append, with_none}
 use Rattle.page.specs.Pieces.{with}
 use Rattle.answers.specs.Came.{behind_said}
-use borrow.Author.Rules.{rules}
 use Rattle.answers.proofs.words.behind.Goals as goal
 
 pub returns-then-behind-eq0 : goal.returns-then-behind-eq0

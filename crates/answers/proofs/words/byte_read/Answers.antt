@@ -1,7 +1,6 @@
 use Rattle.base.specs.PickLaws.{pick_true, pick_false}
 use borrow.Author.Tests.{eq-eqb, ne_eqb}
 use Rattle.answers.specs.Came.{byte_came}
-use borrow.Author.Rules.{rules}
 use Rattle.answers.proofs.words.byte_read.Goals as goal
 
 pub returns-then-kind-eq-READ_CONTROLLER : goal.returns-then-kind-eq-READ_CONTROLLER

@@ -1,7 +1,6 @@
 use Rattle.base.specs.PickLaws.{pick_true, pick_false}
 use Rattle.page.specs.PieceLaws.{with_append, with_none}
 use Rattle.answers.specs.Came.{figures_said}
-use borrow.Author.Rules.{rules}
 use Rattle.answers.proofs.words.figures.Goals as goal
 
 pub returns-then-empty : goal.returns-then-empty

@@ -1,7 +1,6 @@
 use Rattle.page.specs.PieceLaws.{with_append, with_none}
 use Rattle.page.specs.Pieces.{with}
 use Rattle.answers.specs.Came.{port_came}
-use borrow.Author.Rules.{rules}
 use Rattle.answers.proofs.words.port.Goals as goal
 
 pub returns : goal.returns

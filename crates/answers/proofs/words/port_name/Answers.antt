@@ -1,7 +1,6 @@
 use Rattle.base.specs.PickLaws.{pick_true, pick_false}
 use borrow.Author.Tests.{eq-eqb, ne_eqb}
 use Rattle.answers.specs.Came.{port_name}
-use borrow.Author.Rules.{rules}
 use Rattle.answers.proofs.words.port_name.Goals as goal
 
 pub returns-then-selected : goal.returns-then-selected

@@ -1,7 +1,6 @@
 use Rattle.base.specs.PickLaws.{pick_true, pick_false}
 use borrow.Author.Tests.{ne_eqb}
 use Rattle.answers.specs.Came.{register_came}
-use borrow.Author.Rules.{rules}
 use Rattle.answers.proofs.words.register.Goals as goal
 
 pub returns-in-2 : goal.returns-in-2

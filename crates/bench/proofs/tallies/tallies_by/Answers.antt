@@ -1,6 +1,5 @@
 use Rattle.base.specs.PickLaws.{pick_true, pick_false}
 use borrow.Author.Tests.{le-leb, le-ltb, lt-leb, lt-ltb}
-use borrow.Author.Rules.{rules}
 use Rattle.bench.proofs.tallies.tallies_by.Goals as goal
 
 pub returns-then-n-ge-SEATS : goal.returns-then-n-ge-SEATS

@@ -1,9 +1,9 @@
-use Rattle.std.proofs.Common.{length, ◌-◌}
-use Rattle.bench_main.proofs.Blocks.{Played}
+use Rattle.std.proofs.Common.{length, ◌≡◌, ◌+◌, ◌≤◌}
+use Rattle.std.specs.Slice.Iter.{chunks_rest, chunks_size}
 use Rattle.bench_main.proofs.telling.tell.Given as goal
 
-abbrev pub invariant-loop-at : goal.invariant-loop-at
-invariant-loop-at l = Played l.records l.out l.initial.course.number (length l.records) l.course.number l.at
-
-abbrev pub decreases-loop-at : goal.decreases-loop-at
-decreases-loop-at l = length l.records - l.at
+-- what is told of by now, and what is left, are no more than the records' bytes
+abbrev pub invariant-loop-one : goal.invariant-loop-one
+invariant-loop-one l =
+    (chunks_size l.one-iterator ≡ 4)
+    × (l.course.number + length (chunks_rest l.one-iterator) ≤ l.initial.course.number + length l.records)

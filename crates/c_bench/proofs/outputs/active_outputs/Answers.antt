@@ -1,6 +1,5 @@
 use Rattle.base.specs.PickLaws.{pick_true, pick_false}
 use Rattle.c_bench.specs.Outputs.{outputs}
-use borrow.Author.Rules.{rules}
 use Rattle.c_bench.proofs.outputs.active_outputs.Goals as goal
 
 pub returns-then-bit : goal.returns-then-bit

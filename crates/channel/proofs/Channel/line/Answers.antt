@@ -1,7 +1,6 @@
 use mathlib.Core.Path.{◌∙◌}
 use Rattle.status.specs.StatusLaws.{line_by_changes}
 use Rattle.channel.specs.Status.{msr, line}
-use borrow.Author.Rules.{rules}
 use Rattle.channel.proofs.Channel.line.Goals as goal
 
 pub returns : goal.returns

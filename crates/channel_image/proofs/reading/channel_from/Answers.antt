@@ -1,5 +1,4 @@
 use Rattle.channel_image.specs.Read.{channel_from}
-use borrow.Author.Rules.{rules}
 use Rattle.channel_image.proofs.reading.channel_from.Goals as goal
 
 pub returns : goal.returns

@@ -1,31 +1,19 @@
-use Rattle.base.specs.PickLaws.{pick_true, pick_false}
-use borrow.Author.Tests.{lt-leb, le-leb}
-use Rattle.channel_image.specs.Read.{found}
-use borrow.Author.Rules.{rules}
+use Rattle.std.proofs.Common.{sym, ◌∙◌, ap, List, ℕ, Some}
+use Rattle.channel_image.specs.Allowed.{channel_good}
+use Rattle.channel_image.specs.Read.{channel_from}
+use Rattle.channel_image.specs.FoundLaws.{found_short, found_good, found_bad}
 use Rattle.channel_image.proofs.reading.get.Goals as goal
 
-pub returns-then-part-lt-LENGTH : goal.returns-then-part-lt-LENGTH
-unfolding found
-returns-then-part-lt-LENGTH c = simp (lt-leb _ _ c.if-part-lt-LENGTH.true, pick_false) c.none_found.ensures
+pub returns-in_err-b : goal.returns-in_err-b
+returns-in_err-b c = c.from_residual.ensures ∙ sym (found_short c.args.part.now c.in_err-b.ensures.cases)
 
 pub returns-then-channel_good : goal.returns-then-channel_good
-unfolding found
-returns-then-channel_good c = simp (
-  le-leb _ _ c.if-part-lt-LENGTH.false,
-  ← c.record_of-b.ensures,
-  ← c.channel_good.ensures,
-  c.if-channel_good.true,
-  ← c.channel_from.ensures,
-  pick_true,
-)
+returns-then-channel_good c =
+    let first = c.in_ok-b.ensures.cases in
+    ap Some c.channel_from.ensures ∙ ap (λ (b : List ℕ). Some (channel_from b)) first.same
+    ∙ sym (found_good c.args.part.now first.enough (ap channel_good (sym first.same) ∙ sym c.channel_good.ensures ∙ c.if-channel_good.true))
 
-pub returns : goal.returns
-unfolding found
-returns c = simp (
-  le-leb _ _ c.if-part-lt-LENGTH.false,
-  ← c.record_of-b.ensures,
-  ← c.channel_good.ensures,
-  c.if-channel_good.false,
-  pick_false,
-)
-    c.none_found-2.ensures
+pub returns-else-channel_good : goal.returns-else-channel_good
+returns-else-channel_good c =
+    let first = c.in_ok-b.ensures.cases in
+    sym (found_bad c.args.part.now first.enough (ap channel_good (sym first.same) ∙ sym c.channel_good.ensures ∙ c.if-channel_good.false))

@@ -1,5 +1,4 @@
 use Rattle.channel_image.specs.Allowed.{count_allowed}
-use borrow.Author.Rules.{rules}
 use Rattle.channel_image.proofs.tests.count_allowed.Goals as goal
 
 pub returns : goal.returns

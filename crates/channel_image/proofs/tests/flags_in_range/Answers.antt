@@ -1,6 +1,5 @@
 use Rattle.base.specs.PickLaws.{tests}
 use Rattle.channel_image.specs.Allowed.{flags_in_range}
-use borrow.Author.Rules.{rules}
 use Rattle.channel_image.proofs.tests.flags_in_range.Goals as goal
 
 pub returns : goal.returns

@@ -1,5 +1,4 @@
 use Rattle.channel_image.specs.Allowed.{queues_within}
-use borrow.Author.Rules.{rules}
 use Rattle.channel_image.proofs.tests.queues_within.Goals as goal
 
 pub returns : goal.returns

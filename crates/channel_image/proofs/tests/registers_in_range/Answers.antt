@@ -1,5 +1,4 @@
 use Rattle.channel_image.specs.Allowed.{registers_in_range}
-use borrow.Author.Rules.{rules}
 use Rattle.channel_image.proofs.tests.registers_in_range.Goals as goal
 
 pub returns : goal.returns

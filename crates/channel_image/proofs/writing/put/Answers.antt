@@ -1,7 +1,6 @@
 use mathlib.Core.Path.{sym, ◌∙◌}
 use Rattle.base.specs.PickLaws.{pick_true, pick_false}
 use borrow.Author.Tests.{lt-leb, le-leb}
-use borrow.Author.Rules.{rules}
 use Rattle.channel_image.proofs.writing.put.Goals as goal
 
 pub returns-then-out-lt-LENGTH : goal.returns-then-out-lt-LENGTH

@@ -1,7 +1,7 @@
 use Rattle.base.specs.PickLaws.{pick_true, pick_false}
 use borrow.Author.Tests.{ne_eqb}
+use native.Mathlib.Omega.{arith}
 use Rattle.deeds.specs.Done.{seat_done}
-use borrow.Author.Rules.{rules}
 use Rattle.deeds.proofs.deed.at_seat.Goals as goal
 
 pub returns-in-0 : goal.returns-in-0
@@ -22,4 +22,4 @@ returns-in-3 c = simp (c.levels.ensures, c.in-3.is, pick_true, pick_false)
 
 pub returns-in_default : goal.returns-in_default
 unfolding seat_done
-returns-in_default c = simp (c.time.ensures, ne_eqb _ _ c.in_default.in_default-own.rest.1, ne_eqb _ _ c.in_default.in_default-own.rest.0.1, ne_eqb _ _ c.in_default.in_default-own.rest.0.0.1, ne_eqb _ _ c.in_default.in_default-own.rest.0.0.0.1, pick_false)
+returns-in_default c = simp (c.time.ensures, ne_eqb c.args.whole.kind 3 (λ e. omega arith), ne_eqb c.args.whole.kind 2 (λ e. omega arith), ne_eqb c.args.whole.kind 1 (λ e. omega arith), ne_eqb c.args.whole.kind 0 (λ e. omega arith), pick_false)

@@ -1,5 +1,4 @@
 use Rattle.deeds.specs.Done.{cut_done}
-use borrow.Author.Rules.{rules}
 use Rattle.deeds.proofs.deed.cut.Goals as goal
 
 pub returns : goal.returns

@@ -1,9 +1,9 @@
 use Rattle.base.specs.PickLaws.{pick_true, pick_false}
 use borrow.Author.Tests.{ne_eqb}
+use native.Mathlib.Omega.{arith}
 use Rattle.page.specs.PieceLaws.{with_append, with_none}
 use Rattle.page.specs.Pieces.{with}
 use Rattle.deeds.specs.Done.{other_done}
-use borrow.Author.Rules.{rules}
 use Rattle.deeds.proofs.deed.elsewhere.Goals as goal
 
 pub returns-in-5 : goal.returns-in-5
@@ -24,4 +24,4 @@ returns-in-8 c = simp (c.text-in-8.ensures, c.empty-in-8.ensures, c.in-8.is, pic
 
 pub returns-in_default : goal.returns-in_default
 unfolding with other_done
-returns-in_default c = simp (c.decimal.ensures, c.text-in_default.ensures, c.empty-in_default.ensures, ne_eqb _ _ c.in_default.in_default-own.rest.1, ne_eqb _ _ c.in_default.in_default-own.rest.0.1, ne_eqb _ _ c.in_default.in_default-own.rest.0.0.1, ne_eqb _ _ c.in_default.in_default-own.rest.0.0.0.1, pick_false, with_append, with_none)
+returns-in_default c = simp (c.decimal.ensures, c.text-in_default.ensures, c.empty-in_default.ensures, ne_eqb c.args.whole.kind 8 (λ e. omega arith), ne_eqb c.args.whole.kind 7 (λ e. omega arith), ne_eqb c.args.whole.kind 6 (λ e. omega arith), ne_eqb c.args.whole.kind 5 (λ e. omega arith), pick_false, with_append, with_none)

@@ -1,6 +1,5 @@
 use Rattle.base.specs.PickLaws.{pick_true, pick_false}
 use Rattle.deeds.specs.Done.{value_written}
-use borrow.Author.Rules.{rules}
 use Rattle.deeds.proofs.places.value_written.Goals as goal
 
 pub returns-then-number-divisor : goal.returns-then-number-divisor

@@ -1,7 +1,6 @@
 use Rattle.page.specs.PieceLaws.{with_append, with_none}
 use Rattle.page.specs.Pieces.{with}
 use Rattle.deeds.specs.Done.{write_done}
-use borrow.Author.Rules.{rules}
 use Rattle.deeds.proofs.places.write.Goals as goal
 
 pub returns : goal.returns

@@ -1,23 +1,23 @@
 use Rattle.base.specs.PickLaws.{pick_true, pick_false}
-use borrow.Author.Tests.{eq-eqb, ne_eqb}
-use Rattle.page.specs.PieceLaws.{with_append, with_none}
+use borrow.Author.Tests.{ne_eqb}
+use native.Mathlib.Omega.{arith}
+use Rattle.page.specs.PieceLaws.{with_append}
 use Rattle.page.specs.Pieces.{with}
 use Rattle.deeds.specs.Done.{controller_read_done}
-use borrow.Author.Rules.{rules}
 use Rattle.deeds.proofs.ports.read.Goals as goal
 
-pub returns-then-selected : goal.returns-then-selected
+pub returns-in-0 : goal.returns-in-0
 unfolding controller_read_done
-returns-then-selected c = simp (c.text.ensures, c.empty-nothing.ensures, c.if-selected.true, eq-eqb _ _ c.if-port-eq-PORT_COMMAND.true, pick_true)
+returns-in-0 c = simp (c.text.ensures, c.empty-nothing.ensures, c.if-selected.true, c.in-0.is, pick_true)
 
-pub returns-then-port-eq-PORT_COMMAND : goal.returns-then-port-eq-PORT_COMMAND
+pub returns-in-0-2 : goal.returns-in-0-2
 unfolding controller_read_done
-returns-then-port-eq-PORT_COMMAND c = simp (c.text-then-port-eq-PORT_COMMAND.ensures, c.empty-nothing.ensures, c.if-selected.false, eq-eqb _ _ c.if-port-eq-PORT_COMMAND.true, pick_true, pick_false)
+returns-in-0-2 c = simp (c.text-in-0-2.ensures, c.empty-nothing.ensures, c.if-selected.false, c.in-0.is, pick_true, pick_false)
 
-pub returns-then-port-eq-PORT_MASK : goal.returns-then-port-eq-PORT_MASK
+pub returns-in-1 : goal.returns-in-1
 unfolding controller_read_done
-returns-then-port-eq-PORT_MASK c = simp (c.text-then-port-eq-PORT_MASK.ensures, c.empty-nothing.ensures, eq-eqb _ _ c.if-port-eq-PORT_MASK.true, ne_eqb _ _ c.if-port-eq-PORT_COMMAND.false, pick_true, pick_false)
+returns-in-1 c = simp (c.text-in-1.ensures, c.empty-nothing.ensures, c.in-1.is, pick_true, pick_false)
 
-pub returns : goal.returns
+pub returns-in_default : goal.returns-in_default
 unfolding with controller_read_done
-returns c = simp (c.decimal.ensures, c.text-2.ensures, c.empty-nothing.ensures, ne_eqb _ _ c.if-port-eq-PORT_MASK.false, ne_eqb _ _ c.if-port-eq-PORT_COMMAND.false, pick_false, with_append, with_none)
+returns-in_default c = simp (c.decimal.ensures, c.text-in_default.ensures, c.empty-nothing.ensures, ne_eqb c.args.port 0 (λ e. omega arith), ne_eqb c.args.port 1 (λ e. omega arith), pick_false, with_append)

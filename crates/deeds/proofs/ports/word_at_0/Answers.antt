@@ -1,6 +1,5 @@
 use Rattle.base.specs.PickLaws.{pick_true, pick_false}
 use Rattle.deeds.specs.Done.{word_at0}
-use borrow.Author.Rules.{rules}
 use Rattle.deeds.proofs.ports.word_at_0.Goals as goal
 
 pub returns-then-bit : goal.returns-then-bit

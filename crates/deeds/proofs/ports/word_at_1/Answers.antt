@@ -1,7 +1,7 @@
 use Rattle.base.specs.PickLaws.{pick_true, pick_false}
 use borrow.Author.Tests.{ne_eqb}
+use native.Mathlib.Omega.{arith}
 use Rattle.deeds.specs.Done.{word_at1}
-use borrow.Author.Rules.{rules}
 use Rattle.deeds.proofs.ports.word_at_1.Goals as goal
 
 pub returns-in-1 : goal.returns-in-1
@@ -18,4 +18,4 @@ returns-in-3 c = simp (c.text-in-3.ensures, c.in-3.is, pick_true, pick_false)
 
 pub returns-in_default : goal.returns-in_default
 unfolding word_at1
-returns-in_default c = simp (c.text-in_default.ensures, ne_eqb _ _ c.in_default.in_default-own.rest.1, ne_eqb _ _ c.in_default.in_default-own.rest.0.1, ne_eqb _ _ c.in_default.in_default-own.rest.0.0.1, pick_false)
+returns-in_default c = simp (c.text-in_default.ensures, ne_eqb c.args.stage 3 (λ e. omega arith), ne_eqb c.args.stage 2 (λ e. omega arith), ne_eqb c.args.stage 1 (λ e. omega arith), pick_false)

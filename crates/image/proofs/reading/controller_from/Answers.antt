@@ -1,6 +1,5 @@
 use Rattle.base.specs.PickLaws.{tests}
 use Rattle.image.specs.Read.{controller_from}
-use borrow.Author.Rules.{rules}
 use Rattle.image.proofs.reading.controller_from.Goals as goal
 
 pub returns : goal.returns

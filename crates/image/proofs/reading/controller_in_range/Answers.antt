@@ -1,6 +1,5 @@
 use Rattle.base.specs.PickLaws.{tests}
 use Rattle.image.specs.Refusals.{controller_in_range}
-use borrow.Author.Rules.{rules}
 use Rattle.image.proofs.reading.controller_in_range.Goals as goal
 
 pub returns : goal.returns

@@ -1,29 +1,22 @@
-use mathlib.Core.Bool.{false}
-use Prim.Native.Nat.{ℕ, ◌≤◌, ◌-◌}
-use mathlib.Core.Bool.{Bool, true, not, ◌||◌}
-use mathlib.Core.Path.{◌≡◌, refl, sym}
-use native.Mathlib.Omega.{arith}
-use borrow.Author.Rules.{rules}
-use borrow.Author.Tests.{not-true, not-false}
-use Rattle.base.specs.Every.{every}
-use Rattle.rank.specs.Sets.{has}
+use Rattle.std.proofs.Common.{ℕ, ◌<◌, ◌≡◌, not, ◌||◌, ap, ◌∙◌, arith, rules, tests}
+use Rattle.std.proofs.lemmas.Iterator.{YieldsList-from_range}
+use Rattle.std.proofs.lemmas.Iterator.Search.{all_from_yields_List}
+use Rattle.base.specs.Bits.{bit}
+use Rattle.channel_image.proofs.SmallLaws.{every_all}
+use Rattle.channel_image.specs.PartLaws.{every_same}
 use Rattle.controller.specs.Valid.{latches_high}
-use Rattle.base.specs.EveryLaws.{every_fails, every_more}
-use Rattle.image.proofs.reading.latches_high.Invariants.{latch_at}
+use Rattle.rank.specs.Sets.{has, line}
 use Rattle.image.proofs.reading.latches_high.Goals as goal
 
-pub loop-n-init : goal.loop-n-init
-loop-n-init c = (omega arith, refl)
-
-pub returns-then-not-kept : goal.returns-then-not-kept
-unfolding latches_high
-returns-then-not-kept c = let here : latch_at c.args.levels c.args.latches c.loop-n.n ≡ false = rw (← c.bit.ensures, ← c.bit-in-loop-n.ensures) c.if-not-kept.true in
-    sym (every_fails 8 (latch_at c.args.levels c.args.latches) c.loop-n.n c.loop-n-test.true here)
-
-pub loop-n-preserved : goal.loop-n-preserved
-loop-n-preserved c = let here : latch_at c.args.levels c.args.latches c.loop-n.n ≡ true = rw (← c.bit.ensures, ← c.bit-in-loop-n.ensures) c.if-not-kept.false in
-    (omega arith, every_more c.loop-n.n (latch_at c.args.levels c.args.latches) here c.loop-n.invariant.1)
+own : (n : ℕ) → n < 8 → n ≡ line n
+own n below = omega (arith, below)
 
 pub returns : goal.returns
 unfolding latches_high
-returns c = let e : c.loop-n.n ≡ 8 = omega arith in sym (rw e at c.loop-n.invariant.1)
+returns c =
+    let a = c.args in
+    all_from_yields_List (λ n. not (bit n a.latches) || bit n a.levels) _ _ _ c.all.ensures.ran (YieldsList-from_range 0 8 8 (cc) (omega arith))
+    (λ x b q k. search (rules, tests))
+    ∙ every_all 8 (λ n. not (bit n a.latches) || bit n a.levels)
+    ∙ every_same 8 (λ n. not (bit n a.latches) || bit n a.levels) (λ n. not (has a.latches n) || has a.levels n)
+    (λ n below. ap (λ (k : ℕ). not (bit k a.latches) || bit k a.levels) (own n below))

@@ -1,7 +1,6 @@
 use Prim.Native.Nat.{ℕ, ◌+◌, ◌*◌}
 use mathlib.Core.Path.{ap}
 use native.Mathlib.Omega.{arith}
-use borrow.Author.Rules.{rules}
 use Rattle.image.specs.Layout.{place_in}
 use Rattle.image.specs.PlaceLaws.{few}
 use Rattle.image.proofs.reading.place_in.Goals as goal

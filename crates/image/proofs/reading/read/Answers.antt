@@ -1,31 +1,39 @@
-use Prim.Native.Nat.{ℕ}
-use mathlib.Core.Path.{ap, sym, ◌∙◌}
-use lib.Dec.{eqb}
-use borrow.Author.Tests.{ne_eqb}
-use Rattle.base.specs.declared.Answer.TheVariants.{Done, Refused}
-use Rattle.image.specs.declared.reading.Body.{Body}
-use Rattle.image.specs.RefusalLaws.{header_facts, restored_refused, restored_good, restored_bad}
-use Rattle.image.specs.Refusals.{body_of}
-use borrow.Author.Rules.{rules}
+use Rattle.std.proofs.Common.{ℕ, Option, Result, ap, sym, subst, ◌≡◌, ◌∙◌, eqb, arith, IfOk, ok_or}
+use Rattle.std.specs.Result.{result_err}
+use Rattle.base.proofs.GivenLaws.{some_number}
+use Rattle.base.specs.Refusals.{number_given}
+use Rattle.base.specs.declared.Refusal.{Refusal}
+use Rattle.base.specs.declared.Refusal.TheVariants.{NoSuchBench}
+use Rattle.bench.specs.declared.Bench.{Bench}
+use Rattle.image.specs.BodyLaws.{read_bench, read_refusal, err_passed}
+use Rattle.image.specs.Layout.{length_in}
+use Rattle.image.specs.Read.{bench_from}
+use Rattle.image.specs.RefusalLaws.{refusal_first, header_facts}
 use Rattle.image.proofs.reading.read.Goals as goal
 
-pub body_of-body-requires : goal.body_of-body-requires
-body_of-body-requires c = (header_facts c.args.p.now (sym c.header_refusal-number.ensures ∙ c.if-number-eq0.true)).long
+pub body_of-requires-clause-long : goal.body_of-requires-clause-long
+unfolding number_given
+body_of-requires-clause-long c =
+    let taken = header_facts c.args.p.now (sym c.in_ok-version.ensures.refusal) in
+    omega (arith, taken.long, ap length_in c.in_ok-version.ensures.version)
 
-pub returns-then-body : goal.returns-then-body
-unfolding body_of
-returns-then-body c = let body = c.body_of-body.ensures in
-    let taken = sym c.header_refusal-number.ensures ∙ c.if-number-eq0.true in
-    (λ i. record { bench = (body i).bench; answer = Done })
-    ∙ sym (restored_good c.args.bench c.args.p.now taken (sym (ap (λ (r : Body). r.good) body) ∙ c.if-body.true))
+pub returns-in_err-version-clause-refusal : goal.returns-in_err-version-clause-refusal
+unfolding number_given
+returns-in_err-version-clause-refusal c =
+    let e = c.in_err-version.field-0.0 in
+    let number = c.in_err-version.ensures.refusal in
+    ap number_given (err_passed c.from_residual.result e c.from_residual.ensures.0 c.from_residual.ensures.1) ∙ number
+    ∙ sym (refusal_first c.args.p.now (ap (λ (n : ℕ). eqb n 0) (sym number) ∙ some_number e))
 
-pub returns-then-number-eq0 : goal.returns-then-number-eq0
-unfolding body_of
-returns-then-number-eq0 c = let body = c.body_of-body.ensures in
-    let taken = sym c.header_refusal-number.ensures ∙ c.if-number-eq0.true in
-    sym (restored_bad c.args.bench c.args.p.now taken (sym (ap (λ (r : Body). r.good) body) ∙ c.if-body.false))
+pub returns-clause-refusal : goal.returns-clause-refusal
+unfolding number_given
+returns-clause-refusal c =
+    ap (λ (r : Result Bench Refusal). number_given (result_err r))
+    (c.ok_or.ensures.value ∙ ap (λ (o : Option Bench). ok_or o NoSuchBench) c.body_of.ensures)
+    ∙ read_refusal c.args.p.now (sym c.in_ok-version.ensures.refusal)
 
-pub returns : goal.returns
-returns c = let number = c.header_refusal-number.ensures in
-    (λ i. record { bench = c.args.bench; answer = Refused (number i) })
-    ∙ sym (restored_refused c.args.bench c.args.p.now (sym (ap (λ (n : ℕ). eqb n 0) number) ∙ ne_eqb _ _ c.if-number-eq0.false))
+pub returns-clause-bench : goal.returns-clause-bench
+returns-clause-bench c =
+    subst (λ (r : Result Bench Refusal). IfOk r (λ b. b ≡ bench_from c.args.p.now))
+    (sym (c.ok_or.ensures.value ∙ ap (λ (o : Option Bench). ok_or o NoSuchBench) c.body_of.ensures))
+    (read_bench c.args.p.now)

@@ -4,7 +4,6 @@ use Prim.Native.Nat.{ℕ, ◌+◌}
 use lib.Seq.{sets}
 use Rattle.base.specs.StoreLaws.{sets_append}
 use Rattle.image.specs.Written.{header, controller_bytes, records_of, image_of}
-use borrow.Author.Rules.{rules}
 use Rattle.image.proofs.writing.put_image.Goals as goal
 
 pub returns : goal.returns

@@ -1,15 +1,7 @@
-use Prim.Native.Nat.{ℕ, ◌≤◌, ◌-◌}
-use mathlib.Core.Path.{◌≡◌, refl, ap, ◌∙◌}
-use native.Mathlib.Omega.{arith}
-use lib.ListN.{length}
-use lib.Seq.{sets}
-use borrow.Author.Rules.{rules}
+use Rattle.std.proofs.Common.{◌≡◌}
+use Rattle.std.proofs.lemmas.List.Edits.{sets}
 use Rattle.image.specs.Written.{records_of}
-use Rattle.image.specs.WrittenLaws.{turn}
 use Rattle.image.proofs.writing.put_seats.Given as goal
 
 abbrev pub invariant-loop-k : goal.invariant-loop-k
-invariant-loop-k l = (l.k ≤ 8) × ((length l.out ≡ length l.initial.out) × (l.out ≡ sets l.initial.out l.at (records_of l.k l.seats)))
-
-abbrev pub decreases-loop-k : goal.decreases-loop-k
-decreases-loop-k l = 8 - l.k
+invariant-loop-k l = l.out ≡ sets l.initial.out l.at (records_of l.k l.seat-items)

@@ -1,6 +1,5 @@
 use Rattle.lesson.proofs.Stops.{found_marked, found_wide, found_stopped}
 use mathlib.Core.Path.{sym, ◌∙◌}
-use borrow.Author.Rules.{rules}
 use Rattle.lesson.proofs.causes.find.Goals as goal
 
 pub returns-then-is_marked : goal.returns-then-is_marked

@@ -1,19 +1,10 @@
 use Rattle.lesson.proofs.Stops.{stops_alien, stops_half, stops_short}
-use Rattle.lesson.proofs.Walks.{half_behind}
 use Rattle.lesson.specs.Cause.{alien}
-use lib.Seq.{length-take-le}
 use mathlib.Core.Path.{sym, ap, ◌∙◌}
-use borrow.Author.Rules.{rules}
 use Rattle.lesson.proofs.causes.stopped_at.Goals as goal
 
 pub returns-then-is_alien : goal.returns-then-is_alien
 returns-then-is_alien c = stops_alien c.args.text.now c.args.at (sym (c.is_alien.ensures ∙ ap alien c.character_at.ensures) ∙ c.if-is_alien.true)
-
-pub slice_bounds-begun_behind-end : goal.slice_bounds-begun_behind-end
-slice_bounds-begun_behind-end c = sym (length-take-le _ _ c.requires)
-
-pub overflow_sub-result : goal.overflow_sub-result
-overflow_sub-result c = half_behind c.args.text.now c.args.at (rw (← c.begun_behind-behind.ensures.0) c.if-reading-eq1.true)
 
 pub returns-then-reading-eq1 : goal.returns-then-reading-eq1
 returns-then-reading-eq1 c = stops_half c.args.text.now c.args.at (sym (c.is_alien.ensures ∙ ap alien c.character_at.ensures) ∙ c.if-is_alien.false) _ c.begun_behind-behind.ensures.0 c.if-reading-eq1.true

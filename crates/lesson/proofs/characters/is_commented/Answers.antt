@@ -2,14 +2,14 @@ use Rattle.base.specs.PickLaws.{tests}
 use Rattle.lesson.specs.Text.{commented}
 use Rattle.lesson.proofs.characters.is_commented.Goals as goal
 
-pub returns-then-c-eq35 : goal.returns-then-c-eq35
+pub returns-in-35 : goal.returns-in-35
 unfolding commented
-returns-then-c-eq35 c = search tests
+returns-in-35 c = search tests
 
-pub returns-then-c-eq10 : goal.returns-then-c-eq10
+pub returns-in-10 : goal.returns-in-10
 unfolding commented
-returns-then-c-eq10 c = search tests
+returns-in-10 c = search tests
 
-pub returns : goal.returns
+pub returns-in_default : goal.returns-in_default
 unfolding commented
-returns c = search tests
+returns-in_default c = search tests

@@ -1,27 +1,17 @@
-use Rattle.lesson.proofs.Commenting.{reach_on, reach_stop, reach_over}
-use Rattle.lesson.specs.Comments.{place_after, reached}
+use Prim.Native.Nat.{◌≤◌}
 use mathlib.Core.Bool.{false}
-use mathlib.Core.Path.{sym, ap, ◌∙◌, ◌≡◌}
-use Prim.Native.Nat.{◌≤◌, ◌-◌}
-use borrow.Author.Rules.{rules}
+use mathlib.Core.Path.{◌≡◌, ap, ◌∙◌}
 use native.Mathlib.Omega.{arith}
 use lib.ListN.{length}
+use Rattle.lesson.proofs.Commenting.{nearer, reached_from}
+use Rattle.lesson.specs.Comments.{in_text, place_after, reached}
 use Rattle.lesson.proofs.comments.behind.Goals as goal
 
-pub loop-at-init : goal.loop-at-init
-unfolding place_after
-loop-at-init c = (c.in_text-at.ensures.1, ap (reached false c.args.digits c.args.text.now) (sym c.in_text-at.ensures.0))
-
-pub returns-then-due-eq0 : goal.returns-then-due-eq0
-returns-then-due-eq0 c = (sym (c.loop-at.invariant.1 ∙ reach_stop c.loop-at.comment c.args.text.now c.loop-at.at c.loop-at.due (omega arith) c.if-due-eq0.true), c.loop-at.invariant.0)
-
-pub loop-at-preserved : goal.loop-at-preserved
-loop-at-preserved c = (
-  omega arith,
-  c.loop-at.invariant.1
-      ∙ reach_on c.loop-at.comment c.args.text.now c.loop-at.at c.loop-at.due (omega arith) c.if-due-eq0.false
-      ∙ rw (c.due_behind-due.ensures, c.is_commented-comment.ensures),
-)
-
 pub returns : goal.returns
-returns c = (sym (c.loop-at.invariant.1 ∙ reach_over c.loop-at.comment c.args.text.now c.loop-at.at c.loop-at.due (omega arith)), c.loop-at.invariant.0)
+unfolding place_after
+returns c = let a = c.args in
+    let start : c.min-start.result ≡ in_text a.text.now a.from = c.min-start.ensures ∙ nearer a.text.now a.from in
+    let inside : c.min-start.result ≤ length a.text.now = grind arith in (
+      reached_from a.text.now c.min-start.result inside a.digits c.reach.result c.reach.ensures.0 ∙ ap (reached false a.digits a.text.now) start,
+      omega (arith, c.reach.ensures.1),
+    )

@@ -1,24 +1,22 @@
+use Prim.Native.Nat.{◌+◌}
 use Rattle.lesson.proofs.Walks.{place_on, place_end, place_within}
-use mathlib.Core.Path.{refl, sym, ◌∙◌, ◌≡◌}
-use Rattle.lesson.specs.Place.{place_behind, place_from}
-use Prim.Native.Nat.{◌+◌, ◌≤◌, ◌-◌}
-use borrow.Author.Rules.{rules}
+use mathlib.Core.Path.{refl, sym, ◌∙◌}
+use Rattle.lesson.specs.Place.{place_behind}
 use native.Mathlib.Omega.{arith}
-use lib.ListN.{length, drop}
 use Rattle.lesson.proofs.places.place_behind.Goals as goal
 
-pub loop-i-init : goal.loop-i-init
+pub loop-c-init : goal.loop-c-init
 unfolding place_behind
-loop-i-init c = (refl, omega arith, omega arith, omega arith, refl)
+loop-c-init c = record { line = omega arith; column = omega arith; place = refl }
 
-pub loop-i-preserved : goal.loop-i-preserved
-loop-i-preserved c = let bounds : _ = place_within c.loop-i.place _ (c.loop-i.i + 1) c.loop-i.invariant.2 c.loop-i.invariant.3 (omega arith) in (
-  refl,
-  omega arith,
-  rw c.onward-place.ensures bounds.0,
-  rw c.onward-place.ensures bounds.1,
-  c.loop-i.invariant.4 ∙ place_on c.loop-i.place c.args.text.now c.loop-i.i (omega arith) ∙ rw (← c.onward-place.ensures),
-)
+pub loop-c-preserved : goal.loop-c-preserved
+loop-c-preserved c =
+    let bounds = place_within c.loop-c.place _ (c.loop-c.c-index + 1) c.loop-c.invariant.line c.loop-c.invariant.column (omega arith) in
+    record {
+      line = rw c.onward-place.ensures bounds.0;
+      column = rw c.onward-place.ensures bounds.1;
+      place = c.loop-c.invariant.place ∙ place_on c.loop-c.place c.args.text.now c.loop-c.c-index (omega arith) ∙ rw (← c.onward-place.ensures);
+    }
 
 pub returns : goal.returns
-returns c = sym (c.loop-i.invariant.4 ∙ place_end c.loop-i.place c.args.text.now c.loop-i.i (omega arith))
+returns c = sym (c.loop-c.invariant.place ∙ place_end c.loop-c.place c.args.text.now c.loop-c.c-index (omega arith))

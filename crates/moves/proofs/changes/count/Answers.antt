@@ -1,6 +1,5 @@
 use Rattle.page.specs.PageLaws.{joined_piece}
 use Rattle.moves.specs.Moved.{counted}
-use borrow.Author.Rules.{rules}
 use Rattle.moves.proofs.changes.count.Goals as goal
 
 pub returns : goal.returns

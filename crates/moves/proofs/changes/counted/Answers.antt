@@ -3,7 +3,6 @@ use borrow.Author.Tests.{eq-eqb, ne_eqb}
 use Rattle.page.specs.PieceLaws.{with_append, with_none}
 use Rattle.page.specs.Pieces.{with}
 use Rattle.moves.specs.Moved.{counted}
-use borrow.Author.Rules.{rules}
 use Rattle.moves.proofs.changes.counted.Goals as goal
 
 pub returns-then-before-after : goal.returns-then-before-after

@@ -1,21 +1,20 @@
 use Rattle.base.specs.PickLaws.{pick_true, pick_false}
 use Rattle.page.specs.PieceLaws.{with_append, with_none}
 use Rattle.moves.specs.Moved.{turned}
-use borrow.Author.Rules.{rules}
 use Rattle.moves.proofs.changes.flagged.Goals as goal
 
-pub returns-then-before : goal.returns-then-before
+pub returns-in-true-false : goal.returns-in-true-false
 unfolding turned
-returns-then-before c = simp (c.empty.ensures, c.if-before.true, c.if-after.true, pick_true, with_append, with_none)
+returns-in-true-false c = simp (c.text.ensures, c.empty-none.ensures, c.in-true-false.is-0, c.in-true-false.is-1, pick_true, pick_false, with_append, with_none)
 
-pub returns-then-after : goal.returns-then-after
+pub returns-in-false-true : goal.returns-in-false-true
 unfolding turned
-returns-then-after c = simp (c.text.ensures, c.empty-then-after.ensures, c.if-before.false, c.if-after.true, pick_true, pick_false)
+returns-in-false-true c = simp (c.text-in-false-true.ensures, c.empty-none.ensures, c.in-false-true.is-0, c.in-false-true.is-1, pick_true, pick_false, with_append, with_none)
 
-pub returns-then-before-2 : goal.returns-then-before-2
+pub returns-in_default : goal.returns-in_default
 unfolding turned
-returns-then-before-2 c = simp (c.text-then-before-2.ensures, c.empty-then-before-2.ensures, c.if-before-2.true, c.if-after.false, pick_true, pick_false)
+returns-in_default c = simp (c.empty-none.ensures, c.in_default.is-0, c.in_default.is-1, pick_true, pick_false, with_append, with_none)
 
-pub returns : goal.returns
+pub returns-in_default-2 : goal.returns-in_default-2
 unfolding turned
-returns c = simp (c.empty-2.ensures, c.if-before-2.false, c.if-after.false, pick_false, with_append, with_none)
+returns-in_default-2 c = simp (c.empty-none.ensures, c.in_default.is-0, c.in_default.is-1, pick_true, pick_false, with_append, with_none)

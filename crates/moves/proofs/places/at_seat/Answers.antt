@@ -1,6 +1,5 @@
 use Rattle.base.specs.PickLaws.{pick_true, pick_false}
 use Rattle.moves.specs.Moved.{seat_moved}
-use borrow.Author.Rules.{rules}
 use Rattle.moves.proofs.places.at_seat.Goals as goal
 
 pub returns-then-kind-n : goal.returns-then-kind-n

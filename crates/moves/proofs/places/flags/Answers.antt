@@ -1,6 +1,5 @@
 use Rattle.page.specs.PageLaws.{joined_all_lem}
 use Rattle.moves.specs.Moved.{flags_moved}
-use borrow.Author.Rules.{rules}
 use Rattle.moves.proofs.places.flags.Goals as goal
 
 pub returns : goal.returns

@@ -1,5 +1,4 @@
 use Rattle.moves.specs.Moved.{loopback_moved}
-use borrow.Author.Rules.{rules}
 use Rattle.moves.proofs.places.loopback.Goals as goal
 
 pub returns : goal.returns

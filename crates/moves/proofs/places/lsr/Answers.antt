@@ -1,5 +1,4 @@
 use Rattle.channel.specs.Status.{lsr}
-use borrow.Author.Rules.{rules}
 use Rattle.moves.proofs.places.lsr.Goals as goal
 
 pub returns : goal.returns

@@ -1,5 +1,4 @@
 use Rattle.channel.specs.Status.{msr}
-use borrow.Author.Rules.{rules}
 use Rattle.moves.proofs.places.msr.Goals as goal
 
 pub returns : goal.returns

@@ -1,6 +1,5 @@
 use Rattle.page.specs.PageLaws.{joined_all_lem}
 use Rattle.moves.specs.Moved.{controller_moved}
-use borrow.Author.Rules.{rules}
 use Rattle.moves.proofs.signals.at_controller.Goals as goal
 
 pub returns : goal.returns

@@ -1,6 +1,5 @@
 use Rattle.page.specs.PageLaws.{joined_piece}
 use Rattle.moves.specs.Moved.{first_moved}
-use borrow.Author.Rules.{rules}
 use Rattle.moves.proofs.signals.first.Goals as goal
 
 pub returns : goal.returns

@@ -2,7 +2,6 @@ use Rattle.base.specs.PickLaws.{pick_true, pick_false}
 use borrow.Author.Tests.{eq-eqb, ne_eqb}
 use Rattle.page.specs.PieceLaws.{with_append, with_none}
 use Rattle.moves.specs.Moved.{first_moved}
-use borrow.Author.Rules.{rules}
 use Rattle.moves.proofs.signals.first_piece.Goals as goal
 
 pub returns-then-before-after : goal.returns-then-before-after

@@ -1,7 +1,6 @@
 use Rattle.page.specs.PieceLaws.{with_append, with_none}
 use Rattle.page.specs.Pieces.{with}
 use Rattle.moves.specs.Moved.{line_words}
-use borrow.Author.Rules.{rules}
 use Rattle.moves.proofs.signals.named.Goals as goal
 
 pub returns : goal.returns

@@ -1,5 +1,4 @@
 use Rattle.moves.specs.Moved.{ready_moved}
-use borrow.Author.Rules.{rules}
 use Rattle.moves.proofs.signals.ready.Goals as goal
 
 pub returns : goal.returns

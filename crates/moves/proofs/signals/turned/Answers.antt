@@ -1,21 +1,20 @@
 use Rattle.base.specs.PickLaws.{pick_true, pick_false}
 use Rattle.page.specs.PieceLaws.{with_append, with_none}
-use Rattle.moves.specs.Moved.{line_turned, turned}
-use borrow.Author.Rules.{rules}
+use Rattle.moves.specs.Moved.{turned}
 use Rattle.moves.proofs.signals.turned.Goals as goal
 
-pub returns-then-was : goal.returns-then-was
-unfolding line_turned turned
-returns-then-was c = simp (c.empty.ensures, ← c.bit-is.ensures, ← c.bit-was.ensures, c.if-was.true, c.if-is.true, pick_true, with_append, with_none)
+pub returns-in-true-false : goal.returns-in-true-false
+unfolding turned
+returns-in-true-false c = simp (c.named.ensures, c.in-true-false.is-0, c.in-true-false.is-1, pick_true, pick_false, with_append, with_none)
 
-pub returns-then-is : goal.returns-then-is
-unfolding line_turned turned
-returns-then-is c = simp (c.named.ensures, ← c.bit-is.ensures, ← c.bit-was.ensures, c.if-was.false, c.if-is.true, pick_true, pick_false, with_append, with_none)
+pub returns-in-false-true : goal.returns-in-false-true
+unfolding turned
+returns-in-false-true c = simp (c.named-in-false-true.ensures, c.in-false-true.is-0, c.in-false-true.is-1, pick_true, pick_false, with_append, with_none)
 
-pub returns-then-was-2 : goal.returns-then-was-2
-unfolding line_turned turned
-returns-then-was-2 c = simp (c.named-then-was-2.ensures, ← c.bit-is.ensures, ← c.bit-was.ensures, c.if-was-2.true, c.if-is.false, pick_true, pick_false, with_append, with_none)
+pub returns-in_default : goal.returns-in_default
+unfolding turned
+returns-in_default c = simp (c.empty-none.ensures, c.in_default.is-0, c.in_default.is-1, pick_true, pick_false, with_append, with_none)
 
-pub returns : goal.returns
-unfolding line_turned turned
-returns c = simp (c.empty-2.ensures, ← c.bit-is.ensures, ← c.bit-was.ensures, c.if-was-2.false, c.if-is.false, pick_false, with_append, with_none)
+pub returns-in_default-2 : goal.returns-in_default-2
+unfolding turned
+returns-in_default-2 c = simp (c.empty-none.ensures, c.in_default.is-0, c.in_default.is-1, pick_true, pick_false, with_append, with_none)

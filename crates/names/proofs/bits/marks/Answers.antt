@@ -3,7 +3,6 @@ use borrow.Author.Tests.{eq-eqb, le-leb, le-ltb, lt-leb, lt-ltb, ne_eqb}
 use Rattle.page.specs.PieceLaws.{with_append, with_none}
 use Rattle.page.specs.Pieces.{with}
 use Rattle.names.specs.Words.{marks_said}
-use borrow.Author.Rules.{rules}
 use Rattle.names.proofs.bits.marks.Goals as goal
 
 pub returns-then-marks-gt-ALL_MARKS : goal.returns-then-marks-gt-ALL_MARKS

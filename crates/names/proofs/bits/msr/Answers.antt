@@ -1,9 +1,8 @@
 use Rattle.page.specs.PieceLaws.{with_append, with_none}
 use Rattle.page.specs.Pieces.{with}
-use Rattle.names.specs.Words.{msr_said}
-use borrow.Author.Rules.{rules}
+use Rattle.names.specs.Words.{bits_said, msr_said}
 use Rattle.names.proofs.bits.msr.Goals as goal
 
 pub returns : goal.returns
-unfolding with msr_said
-returns c = simp (c.msr_bits.ensures, c.text-head.ensures, c.hex.ensures, c.text.ensures, c.empty.ensures, with_append, with_none)
+unfolding with msr_said bits_said
+returns c = simp (c.named_or_none.ensures, c.text-head.ensures, c.hex.ensures, c.text.ensures, c.empty.ensures, with_append, with_none)

@@ -1,6 +1,5 @@
 use Rattle.base.specs.PickLaws.{pick_true, pick_false}
 use Rattle.page.specs.PieceLaws.{with_append, with_none}
-use borrow.Author.Rules.{rules}
 use Rattle.names.proofs.bits.word.Goals as goal
 
 pub returns-then-set : goal.returns-then-set

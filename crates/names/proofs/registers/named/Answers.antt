@@ -1,6 +1,5 @@
 use Rattle.base.specs.PickLaws.{pick_true, pick_false}
 use Rattle.names.specs.Words.{name_of}
-use borrow.Author.Rules.{rules}
 use Rattle.names.proofs.registers.named.Goals as goal
 
 pub returns-then-write : goal.returns-then-write

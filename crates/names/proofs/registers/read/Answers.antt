@@ -2,7 +2,6 @@ use Rattle.base.specs.PickLaws.{pick_true, pick_false}
 use borrow.Author.Tests.{ne_eqb}
 use Rattle.page.specs.PieceLaws.{with_append, with_none}
 use Rattle.names.specs.Words.{name_read}
-use borrow.Author.Rules.{rules}
 use Rattle.names.proofs.registers.read.Goals as goal
 
 pub returns-in-0 : goal.returns-in-0

@@ -3,7 +3,6 @@ use borrow.Author.Tests.{le-leb, le-ltb, lt-leb, lt-ltb}
 use Rattle.page.specs.PieceLaws.{with_append, with_none}
 use Rattle.page.specs.Pieces.{with}
 use Rattle.names.specs.Words.{register_words}
-use borrow.Author.Rules.{rules}
 use Rattle.names.proofs.registers.register.Goals as goal
 
 pub returns-then-number-gt-LAST : goal.returns-then-number-gt-LAST

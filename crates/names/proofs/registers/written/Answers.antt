@@ -1,7 +1,6 @@
 use Rattle.base.specs.PickLaws.{pick_true, pick_false}
 use borrow.Author.Tests.{ne_eqb}
 use Rattle.names.specs.Words.{name_written}
-use borrow.Author.Rules.{rules}
 use Rattle.names.proofs.registers.written.Goals as goal
 
 pub returns-in-0 : goal.returns-in-0

@@ -3,7 +3,6 @@ use borrow.Author.Tests.{eq-eqb, ne_eqb}
 use Rattle.page.specs.PieceLaws.{with_append, with_none}
 use Rattle.page.specs.Pieces.{with}
 use Rattle.names.specs.Words.{lines_said}
-use borrow.Author.Rules.{rules}
 use Rattle.names.proofs.sets.lines.Goals as goal
 
 pub returns-then-set-eq0 : goal.returns-then-set-eq0

@@ -1,7 +1,6 @@
 use Rattle.base.specs.PickLaws.{pick_true, pick_false}
 use borrow.Author.Tests.{ne_eqb}
 use Rattle.names.specs.Words.{cause_said}
-use borrow.Author.Rules.{rules}
 use Rattle.names.proofs.words.cause.Goals as goal
 
 pub returns-in-6 : goal.returns-in-6

@@ -1,7 +1,6 @@
 use Rattle.page.specs.PieceLaws.{with_append, with_none}
 use Rattle.page.specs.Pieces.{with}
 use Rattle.names.specs.Words.{iir_words}
-use borrow.Author.Rules.{rules}
 use Rattle.names.proofs.words.iir.Goals as goal
 
 pub returns : goal.returns

@@ -1,36 +1,34 @@
-use Rattle.base.specs.PickLaws.{tests, pick_true, pick_false}
 use Rattle.options.specs.Words.{words_after}
-use borrow.Author.Rules.{rules}
 use Rattle.options.proofs.Words.after.Goals as goal
 
-pub returns-in-0 : goal.returns-in-0
+pub returns-in-Word : goal.returns-in-Word
 unfolding words_after
-returns-in-0 c = simp (← c.with_option.ensures, c.in-0.is, pick_true, pick_false)
+returns-in-Word c = simp (← c.with_option.ensures, c.in-Word.is)
 
-pub returns-in-1 : goal.returns-in-1
+pub returns-in-Moment : goal.returns-in-Moment
 unfolding words_after
-returns-in-1 c = simp (← c.with_moment.ensures, ← c.read.ensures, c.in-1.is, pick_true, pick_false)
+returns-in-Moment c = simp (← c.with_moment.ensures, ← c.read.ensures, c.in-Moment.is)
 
-pub returns-in-2 : goal.returns-in-2
+pub returns-in-File : goal.returns-in-File
 unfolding words_after
-returns-in-2 c = simp (← c.awaiting.ensures, c.in-2.is, pick_true, pick_false)
+returns-in-File c = simp (← c.awaiting.ensures, c.in-File.is)
 
-pub returns-in-3 : goal.returns-in-3
+pub returns-in-Image : goal.returns-in-Image
 unfolding words_after
-returns-in-3 c = simp (← c.once.ensures, c.in-3.is, pick_true, pick_false)
+returns-in-Image c = simp (← c.once.ensures, c.in-Image.is)
 
-pub returns-in-4 : goal.returns-in-4
+pub returns-in-Lesson : goal.returns-in-Lesson
 unfolding words_after
-returns-in-4 c = simp (← c.once-in-4.ensures, c.in-4.is, pick_true, pick_false)
+returns-in-Lesson c = simp (← c.once-in-Lesson.ensures, c.in-Lesson.is)
 
-pub returns-in-6 : goal.returns-in-6
+pub returns-in-When : goal.returns-in-When
 unfolding words_after
-returns-in-6 c = simp (← c.with_when.ensures, c.in-6.is, pick_true, pick_false)
+returns-in-When c = simp (← c.with_when.ensures, c.in-When.is)
 
-pub returns-in-7 : goal.returns-in-7
+pub returns-in-Timeline : goal.returns-in-Timeline
 unfolding words_after
-returns-in-7 c = simp (← c.once-in-7.ensures, c.in-7.is, pick_true, pick_false)
+returns-in-Timeline c = simp (← c.once-in-Timeline.ensures, c.in-Timeline.is)
 
-pub returns-in_default : goal.returns-in_default
+pub returns-in-Nothing : goal.returns-in-Nothing
 unfolding words_after
-returns-in_default c = search tests
+returns-in-Nothing c = simp (c.in-Nothing.is)

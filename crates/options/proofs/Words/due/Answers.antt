@@ -1,13 +1,13 @@
-use Rattle.base.specs.PickLaws.{pick_true, pick_false}
-use borrow.Author.Tests.{eq-eqb, ne_eqb}
-use Rattle.options.specs.Saves.{due_of}
-use borrow.Author.Rules.{rules}
+use mathlib.Core.Path.{ap, ◌∙◌}
+use Rattle.std.specs.Prelude.{Option}
+use Rattle.options.specs.declared.Moment.{Moment}
+use Rattle.options.specs.Saves.{due_by, due_of}
 use Rattle.options.proofs.Words.due.Goals as goal
 
-pub returns-then-self-eq-FILE : goal.returns-then-self-eq-FILE
+pub returns-in-Some : goal.returns-in-Some
 unfolding due_of
-returns-then-self-eq-FILE c = simp (← c.due_at.ensures, eq-eqb _ _ c.if-self-eq-FILE.true, pick_true)
+returns-in-Some c = c.due_at.ensures ∙ ap (λ (m : Option Moment). due_by m c.args.now) c.in-Some.ensures
 
-pub returns : goal.returns
+pub returns-in-None : goal.returns-in-None
 unfolding due_of
-returns c = simp (ne_eqb _ _ c.if-self-eq-FILE.false, pick_false)
+returns-in-None c = ap (λ (m : Option Moment). due_by m c.args.now) c.in-None.ensures

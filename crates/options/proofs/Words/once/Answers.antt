@@ -1,13 +1,12 @@
+use mathlib.Core.Path.{sym, ◌∙◌}
 use Rattle.base.specs.PickLaws.{pick_true, pick_false}
-use borrow.Author.Tests.{eq-eqb, ne_eqb}
 use Rattle.options.specs.Words.{once, place_of}
-use borrow.Author.Rules.{rules}
 use Rattle.options.proofs.Words.once.Goals as goal
 
-pub returns-then-self-what-eq0 : goal.returns-then-self-what-eq0
+pub returns-then-is_some : goal.returns-then-is_some
 unfolding once place_of
-returns-then-self-what-eq0 c = simp (eq-eqb _ _ c.if-self-what-eq0.true, pick_true)
+returns-then-is_some c = c.stopped.ensures ∙ sym (pick_true _ _ _ (sym c.if-is_some.ensures))
 
 pub returns : goal.returns
 unfolding once place_of
-returns c = simp (← c.stopped.ensures, ne_eqb _ _ c.if-self-what-eq0.false, pick_false)
+returns c = rw c.placed.ensures (sym (pick_false _ _ _ (sym c.if-is_some.ensures)))

@@ -1,17 +1,17 @@
-use mathlib.Core.Path.{◌≡◌, refl, sym}
-use native.Mathlib.Omega.{arith}
-use Prim.Native.Nat.{◌≤◌}
-use lib.ListN.{length, get_or-eq_default}
-use borrow.Author.Rules.{rules}
+use mathlib.Core.Path.{sym, ◌∙◌}
+use lib.ListN.{get_or-eq_default}
+use borrow.Author.Tests.{ltb-true, ltb-false}
+use Rattle.std.specs.Prelude.{None}
+use Rattle.std.proofs.lemmas.List.{get_or_default}
 use Rattle.options.specs.Words.{place_of}
 use Rattle.options.proofs.Words.place_of.Goals as goal
 
-pub returns-then-what-lt-ASKED : goal.returns-then-what-lt-ASKED
+pub returns-in_err-get : goal.returns-in_err-get
 unfolding place_of
-returns-then-what-lt-ASKED c = refl
+returns-in_err-get c = let a = c.args in
+    c.from_residual.ensures ∙ sym (get_or-eq_default a.self.asked None (ltb-false _ _ (sym c.in_err-get.ensures.lookup.0)))
 
 pub returns : goal.returns
 unfolding place_of
 returns c = let a = c.args in
-    let size : length a.self.asked ≡ 7 = search rules in
-    sym (get_or-eq_default a.self.asked 0 (omega (arith, size)))
+    c.in_ok-get.ensures.lookup.1 ∙ get_or_default a.self.asked a.what _ None (ltb-true _ _ (sym c.in_ok-get.ensures.lookup.0))

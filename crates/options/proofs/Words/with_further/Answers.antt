@@ -1,5 +1,4 @@
 use Rattle.base.specs.PickLaws.{pick_true, pick_false}
-use borrow.Author.Rules.{rules}
 use Rattle.options.proofs.Words.with_further.Goals as goal
 
 pub returns-then-is_word : goal.returns-then-is_word

@@ -1,6 +1,5 @@
 use Rattle.base.specs.PickLaws.{pick_true, pick_false}
 use Rattle.options.specs.Words.{option_read}
-use borrow.Author.Rules.{rules}
 use Rattle.options.proofs.Words.with_option.Goals as goal
 
 pub returns-then-is_word : goal.returns-then-is_word

@@ -1,34 +1,28 @@
-use Prim.Native.Nat.{◌≤◌, ◌-◌}
-use mathlib.Core.Path.{◌≡◌, refl, sym, ◌∙◌}
+use mathlib.Core.Path.{sym, ◌∙◌}
 use native.Mathlib.Omega.{arith}
-use lib.ListN.{length, drop}
-use borrow.Author.Rules.{rules}
-use Rattle.options.specs.Moments.{number_from}
+use Rattle.text.specs.HexLaws.{digit_some, digit_none}
 use Rattle.options.proofs.Digits.{number_on, number_breaks, number_ends}
 use Rattle.options.proofs.moments.counted.Goals as goal
 
-pub loop-i-init : goal.loop-i-init
-loop-i-init c = (refl, omega arith, omega arith, refl)
+pub returns-in_err-digit : goal.returns-in_err-digit
+returns-in_err-digit c = let l = c.loop-c in
+    let none = digit_none _ c.in_err-digit.ensures.0 in
+    c.from_residual.ensures ∙ sym (l.invariant.1 ∙ number_breaks l.n c.args.word.now l.c-index (omega arith) (omega (arith, none)))
 
 pub returns-then-digit-ge10 : goal.returns-then-digit-ge10
-returns-then-digit-ge10 c = let l = c.loop-i in
-    let digit : _ = c.digit-digit.ensures.0 in
-    sym (l.invariant.3 ∙ number_breaks l.n c.args.word.now l.i (omega arith) (omega arith))
+returns-then-digit-ge10 c = let l = c.loop-c in
+    let digit = digit_some _ _ c.in_ok-digit.ensures.0 in
+    sym (l.invariant.1 ∙ number_breaks l.n c.args.word.now l.c-index (omega arith) (omega (arith, digit.0)))
 
-pub with_digit-n-requires : goal.with_digit-n-requires
-with_digit-n-requires c = (omega arith, omega arith)
-
-pub loop-i-preserved : goal.loop-i-preserved
-loop-i-preserved c = let l = c.loop-i in
-    let digit : _ = c.digit-digit.ensures.0 in (
-      refl,
-      omega arith,
+pub loop-c-preserved : goal.loop-c-preserved
+loop-c-preserved c = let l = c.loop-c in
+    let digit = digit_some _ _ c.in_ok-digit.ensures.0 in (
       c.with_digit-n.ensures.1,
-      l.invariant.3
-          ∙ number_on l.n c.args.word.now l.i (omega arith) (omega arith)
-          ∙ rw (← digit, ← c.with_digit-n.ensures.0),
+      l.invariant.1
+          ∙ number_on l.n c.args.word.now l.c-index (omega arith) (omega (arith, digit.0))
+          ∙ rw (← digit.0, ← c.with_digit-n.ensures.0),
     )
 
 pub returns : goal.returns
-returns c = let l = c.loop-i in
-    sym (l.invariant.3 ∙ number_ends l.n c.args.word.now l.i (omega arith))
+returns c = let l = c.loop-c in
+    sym (l.invariant.1 ∙ number_ends l.n c.args.word.now l.c-index (omega arith))

@@ -1,13 +1,12 @@
+use mathlib.Core.Path.{sym, ◌∙◌}
 use Rattle.base.specs.PickLaws.{pick_true, pick_false}
-use borrow.Author.Tests.{eq-eqb, ne_eqb}
 use Rattle.options.specs.Moments.{number_of}
-use borrow.Author.Rules.{rules}
 use Rattle.options.proofs.moments.number.Goals as goal
 
-pub returns-then-word-eq0 : goal.returns-then-word-eq0
+pub returns-then-is_empty : goal.returns-then-is_empty
 unfolding number_of
-returns-then-word-eq0 c = simp (eq-eqb _ _ c.if-word-eq0.true, pick_true)
+returns-then-is_empty c = sym (pick_true _ _ _ (sym c.if-is_empty.ensures))
 
 pub returns : goal.returns
 unfolding number_of
-returns c = simp (← c.counted.ensures, ne_eqb _ _ c.if-word-eq0.false, pick_false)
+returns c = c.counted.ensures ∙ sym (pick_false _ _ _ (sym c.if-is_empty.ensures))

@@ -1,6 +1,5 @@
 use Rattle.base.specs.PickLaws.{pick_true, pick_false}
 use Rattle.options.specs.Moments.{moment_of}
-use borrow.Author.Rules.{rules}
 use Rattle.options.proofs.moments.read.Goals as goal
 
 pub returns-then-is_word : goal.returns-then-is_word

@@ -1,6 +1,5 @@
 use Rattle.base.specs.PickLaws.{tests}
 use Rattle.options.specs.Moments.{with_digit}
-use borrow.Author.Rules.{rules}
 use Rattle.options.proofs.moments.with_digit.Goals as goal
 
 pub returns-then-n-lt-MANY : goal.returns-then-n-lt-MANY

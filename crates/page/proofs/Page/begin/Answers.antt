@@ -1,5 +1,4 @@
 use Rattle.page.specs.Pages.{headed}
-use borrow.Author.Rules.{rules}
 use Rattle.page.proofs.Page.begin.Goals as goal
 
 pub returns : goal.returns

@@ -1,4 +1,3 @@
-use mathlib.Core.Path.{◌≡◌, refl}
 use native.Mathlib.Omega.{arith}
 use Rattle.base.specs.PickLaws.{pick_true, pick_false}
 use Rattle.page.specs.Pages.{separation}

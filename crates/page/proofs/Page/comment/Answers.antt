@@ -1,13 +1,11 @@
 use Rattle.base.specs.PickLaws.{pick_true, pick_false}
-use borrow.Author.Tests.{eq-eqb, ne_eqb}
 use Rattle.page.specs.Notes.{commented}
-use borrow.Author.Rules.{rules}
 use Rattle.page.proofs.Page.comment.Goals as goal
 
-pub returns-then-text-eq0 : goal.returns-then-text-eq0
+pub returns-then-is_empty : goal.returns-then-is_empty
 unfolding commented
-returns-then-text-eq0 c = simp (eq-eqb _ _ c.if-text-eq0.true, pick_true)
+returns-then-is_empty c = simp (← c.is_empty.ensures, c.if-is_empty.true, pick_true)
 
 pub returns : goal.returns
 unfolding commented
-returns c = simp (← c.note.ensures, ← c.new_line.ensures, ne_eqb _ _ c.if-text-eq0.false, pick_false)
+returns c = simp (← c.note.ensures, ← c.new_line.ensures, ← c.is_empty.ensures, c.if-is_empty.false, pick_false)

@@ -1,7 +1,6 @@
 use Rattle.base.specs.PickLaws.{pick_true, pick_false}
 use borrow.Author.Tests.{le-leb, le-ltb, lt-leb, lt-ltb}
 use Rattle.page.specs.Pages.{ended}
-use borrow.Author.Rules.{rules}
 use Rattle.page.proofs.Page.end.Goals as goal
 
 pub returns-then-self-lt-MOST : goal.returns-then-self-lt-MOST

@@ -1,7 +1,6 @@
 use Rattle.base.specs.PickLaws.{pick_true, pick_false}
 use borrow.Author.Tests.{le-leb, le-ltb, lt-leb, lt-ltb}
 use Rattle.page.specs.Notes.{note_byte}
-use borrow.Author.Rules.{rules}
 use Rattle.page.proofs.Page.note_byte.Goals as goal
 
 pub returns-then-shown-is_passed : goal.returns-then-shown-is_passed

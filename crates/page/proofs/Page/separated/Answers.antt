@@ -1,6 +1,5 @@
 use Rattle.base.specs.PickLaws.{pick_true, pick_false}
 use Rattle.page.specs.Pages.{put, separation}
-use borrow.Author.Rules.{rules}
 use Rattle.page.proofs.Page.separated.Goals as goal
 
 pub returns-then-self : goal.returns-then-self

@@ -1,7 +1,6 @@
 use Rattle.base.specs.PickLaws.{pick_true, pick_false}
 use borrow.Author.Tests.{le-leb, le-ltb, lt-leb, lt-ltb}
 use Rattle.page.specs.Pieces.{with_byte}
-use borrow.Author.Rules.{rules}
 use Rattle.page.proofs.Piece.byte.Goals as goal
 
 pub returns-then-at-lt-MOST : goal.returns-then-at-lt-MOST

@@ -1,5 +1,4 @@
 use Rattle.page.specs.Pieces.{with, hex}
-use borrow.Author.Rules.{rules}
 use Rattle.page.proofs.Piece.hex.Goals as goal
 
 pub returns : goal.returns

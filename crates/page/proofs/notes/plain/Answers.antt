@@ -1,16 +1,17 @@
+use Rattle.std.proofs.Common.{arith}
+use borrow.Author.Tests.{eq-eqb, le-ltb, lt-ltb, ne_eqb}
 use Rattle.base.specs.PickLaws.{pick_true, pick_false}
-use borrow.Author.Tests.{eq-eqb, le-leb, le-ltb, lt-leb, lt-ltb, ne_eqb}
 use Rattle.page.specs.Notes.{plain}
 use Rattle.page.proofs.notes.plain.Goals as goal
 
-pub returns-then-c-lt32 : goal.returns-then-c-lt32
+pub returns-in-0-to-31 : goal.returns-in-0-to-31
 unfolding plain
-returns-then-c-lt32 c = simp (lt-ltb _ _ c.if-c-lt32.true, lt-leb _ _ c.if-c-lt32.true, pick_true, pick_false)
+returns-in-0-to-31 c = simp (le-ltb c.args.c 32 (omega arith), eq-eqb c.args.c 127 (omega arith), pick_true, pick_false)
 
-pub returns-then-c-eq-DELETE : goal.returns-then-c-eq-DELETE
+pub returns-in-0-to-31-2 : goal.returns-in-0-to-31-2
 unfolding plain
-returns-then-c-eq-DELETE c = simp (eq-eqb _ _ c.if-c-eq-DELETE.true, le-ltb _ _ c.if-c-lt32.false, le-leb _ _ c.if-c-lt32.false, pick_true, pick_false)
+returns-in-0-to-31-2 c = simp (lt-ltb c.args.c 32 (omega arith), pick_true)
 
-pub returns : goal.returns
+pub returns-in_default : goal.returns-in_default
 unfolding plain
-returns c = simp (ne_eqb _ _ c.if-c-eq-DELETE.false, le-ltb _ _ c.if-c-lt32.false, le-leb _ _ c.if-c-lt32.false, pick_true, pick_false)
+returns-in_default c = simp (le-ltb c.args.c 32 (omega arith), ne_eqb c.args.c 127 (omega arith), pick_false)

@@ -1,7 +1,6 @@
 use Rattle.base.specs.PickLaws.{pick_true, pick_false}
 use borrow.Author.Tests.{eq-eqb, le-leb, le-ltb, lt-leb, lt-ltb, ne_eqb}
 use Rattle.page.specs.Pages.{column_after}
-use borrow.Author.Rules.{rules}
 use Rattle.page.proofs.pages.column_after.Goals as goal
 
 pub returns-then-c-eq10 : goal.returns-then-c-eq10

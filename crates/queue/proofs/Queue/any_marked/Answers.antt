@@ -1,7 +1,8 @@
+use Rattle.std.proofs.Common.{◌∙◌}
 use Rattle.queue.specs.Queue.{marked}
-use borrow.Author.Rules.{rules}
+use Rattle.queue.proofs.Marks.{any_marked_lem}
 use Rattle.queue.proofs.Queue.any_marked.Goals as goal
 
 pub returns : goal.returns
 unfolding marked
-returns c = simp (← c.marked_among.ensures)
+returns c = c.marked_among.ensures ∙ any_marked_lem _

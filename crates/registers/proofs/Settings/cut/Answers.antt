@@ -1,25 +1,15 @@
-use Rattle.base.specs.PickLaws.{pick_true, pick_false}
-use Prim.Native.Nat.{◌%◌}
-use mathlib.Core.Path.{◌≡◌, sym}
-use native.Mathlib.Nat.{mod-eq_of_lt}
-use native.Mathlib.Omega.{arith}
-use Rattle.registers.specs.Words.{cut}
+use Rattle.std.specs.Prelude.{ℕ, ◌-◌, ◌^◌, ◌≡◌}
+use Rattle.std.proofs.Common.{ap, ◌∙◌, arith}
+use Rattle.std.proofs.lemmas.Nat.{and_mask}
+use Rattle.std.specs.Int.Bits.{bit_and}
+use Rattle.registers.specs.Words.{cut, word_bits}
 use Rattle.registers.proofs.Settings.cut.Goals as goal
 
-pub returns-in-0 : goal.returns-in-0
+-- a mask that is one below a power of two keeps what division by the power leaves
+pub returns : goal.returns
 unfolding cut
-returns-in-0 c = simp (c.in-0.is, pick_true, pick_false)
-
-pub returns-in-1 : goal.returns-in-1
-unfolding cut
-returns-in-1 c = simp (c.in-1.is, pick_true, pick_false)
-
-pub returns-in-2 : goal.returns-in-2
-unfolding cut
-returns-in-2 c = simp (c.in-2.is, pick_true, pick_false)
-
-pub returns-in_default : goal.returns-in_default
-unfolding cut
-returns-in_default c = let lcr = c.args.self.lcr in
-    let eight : lcr % 4 ≡ 3 = omega (arith, c.in_default.in_default-own.rest) in
-    rw eight (sym (mod-eq_of_lt (omega arith)))
+returns c =
+    let byte = c.args.byte in
+    let bits = word_bits c.args.self.lcr in
+    let mask : c.widest.result ≡ 2 ^ bits - 1 = omega (arith, c.widest.ensures) in
+    ap (λ (m : ℕ). bit_and byte m) mask ∙ and_mask byte bits

@@ -1,19 +1,14 @@
-use Rattle.base.specs.PickLaws.{pick_true, pick_false}
-use Rattle.registers.specs.Refusals.{refusal}
-use borrow.Author.Rules.{rules}
+use Rattle.std.proofs.Common.{⊎_elim, ◌≡◌, ℕ}
+use Rattle.registers.specs.declared.SeatEvent.TheVariants.{Read, Write}
 use Rattle.registers.proofs.Settings.refusal.Goals as goal
 
-pub returns-in-Read : goal.returns-in-Read
-returns-in-Read c = simp (c.in-Read.is, ← (c.refuse_access.ensures c.args.self).0, pick_true, pick_false)
-
-pub returns-in-Write : goal.returns-in-Write
-returns-in-Write c = simp (c.in-Write.is, ← (c.refuse_access-in-Write.ensures c.args.self).1, pick_true, pick_false)
-
-pub returns-in-Arrival : goal.returns-in-Arrival
-returns-in-Arrival c = simp (c.in-Arrival.is, ← c.refuse_arrival.ensures, pick_true, pick_false)
-
 pub returns-in-Levels : goal.returns-in-Levels
-returns-in-Levels c = simp (c.in-Levels.is, ← c.refuse_levels.ensures, pick_true, pick_false)
+returns-in-Levels c = rw c.in-Levels.is (c.refuse_levels.ensures c.args.self)
 
-pub returns-in-Time : goal.returns-in-Time
-returns-in-Time c = simp (c.in-Time.is, ← c.refuse_time.ensures, pick_true, pick_false)
+pub returns-in-Read : goal.returns-in-Read
+returns-in-Read c =
+    let h = c.refuse_access.ensures c.args.self in
+    ⊎_elim
+    (λ (e : c.args.e ≡ Read c.in-Read.number). rw e h.0)
+    (λ (e : (byte : ℕ) × (c.args.e ≡ Write c.in-Read.number byte)). rw e.1 (h.1 e.0))
+    c.in-Read.is

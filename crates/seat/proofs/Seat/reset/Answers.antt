@@ -1,4 +1,4 @@
-use Rattle.std.proofs.Common.{sym, ◌∙◌, ap₂, rules}
+use Rattle.std.proofs.Common.{sym, ◌∙◌, ap₂}
 use Rattle.seat.specs.declared.Seat.{Seat}
 use Rattle.seat.specs.CountLaws.{reset_counts}
 use Rattle.seat.proofs.Seat.reset.Goals as goal

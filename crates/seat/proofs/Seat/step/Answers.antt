@@ -1,4 +1,4 @@
-use Rattle.std.proofs.Common.{sym, ◌∙◌, arith, rules}
+use Rattle.std.proofs.Common.{sym, ◌∙◌, arith}
 use Rattle.seat.specs.CountLaws.{none_more, by_moments, by_last}
 use Rattle.seat.proofs.Seat.step.Goals as goal
 

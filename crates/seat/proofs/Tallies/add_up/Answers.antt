@@ -1,4 +1,4 @@
-use Rattle.std.proofs.Common.{◌+◌, ◌≤◌, Bool, ◌&&◌, eqb, sym, ap, ◌∙◌, arith, rules, le-leb}
+use Rattle.std.proofs.Common.{◌+◌, ◌≤◌, Bool, ◌&&◌, eqb, sym, ap, ◌∙◌, arith, le-leb}
 use mathlib.Core.Bool.{and-true}
 use Rattle.seat.specs.Tallies.{add_up}
 use Rattle.seat.proofs.Tallies.add_up.Goals as goal

@@ -1,4 +1,4 @@
-use Rattle.std.proofs.Common.{ℕ, ◌&&◌, eqb, ap, ◌∙◌, rules}
+use Rattle.std.proofs.Common.{ℕ, ◌&&◌, eqb, ap, ◌∙◌}
 use Rattle.base.specs.Pick.{pick}
 use Rattle.base.specs.Answers.{refusal_of}
 use Rattle.seat.specs.CountLaws.{received_told}

@@ -1,5 +1,4 @@
 use Rattle.seat_image.specs.Read.{tallies_from}
-use borrow.Author.Rules.{rules}
 use Rattle.seat_image.proofs.tallies.tallies_from.Goals as goal
 
 pub returns : goal.returns

@@ -1,7 +1,8 @@
+use Rattle.std.proofs.Common.{◌∙◌}
+use Rattle.seat_image.specs.WordLaws.{word_le}
 use Rattle.seat_image.specs.Words.{word_at}
-use borrow.Author.Rules.{rules}
 use Rattle.seat_image.proofs.tallies.word_at.Goals as goal
 
 pub returns : goal.returns
 unfolding word_at
-returns c = simp (← c.wide-4.ensures.0, ← c.wide-3.ensures.0, ← c.wide-2.ensures.0, ← c.wide.ensures.0)
+returns c = c.from_le_bytes.ensures ∙ word_le _ _ _ _

@@ -11,7 +11,6 @@ use Rattle.seat.specs.Seats.{queued}
 use Rattle.seat_image.specs.Written.{tally_bytes, record_of}
 use Rattle.base.specs.PickLaws.{pick_true, pick_false}
 use borrow.Author.Tests.{le-leb, lt-leb}
-use borrow.Author.Rules.{rules}
 use Rattle.seat_image.proofs.writing.put.Goals as goal
 
 pub returns-then-out-lt-LENGTH : goal.returns-then-out-lt-LENGTH

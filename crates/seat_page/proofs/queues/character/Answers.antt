@@ -1,7 +1,6 @@
 use Rattle.base.specs.PickLaws.{pick_true, pick_false}
 use Rattle.page.specs.PieceLaws.{with_append, with_none}
 use Rattle.seat_page.specs.SeatPages.{character_words}
-use borrow.Author.Rules.{rules}
 use Rattle.seat_page.proofs.queues.character.Goals as goal
 
 pub returns-then-marks : goal.returns-then-marks

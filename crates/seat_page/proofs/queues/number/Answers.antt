@@ -1,6 +1,5 @@
 use Rattle.page.specs.PieceLaws.{with_append, with_none}
 use Rattle.page.specs.Pieces.{with}
-use borrow.Author.Rules.{rules}
 use Rattle.seat_page.proofs.queues.number.Goals as goal
 
 pub returns : goal.returns

@@ -1,7 +1,6 @@
 use Rattle.seat_page.specs.SeatPages.{shift_words}
 use Rattle.page.specs.PieceLaws.{with_append, with_none}
 use Rattle.base.specs.PickLaws.{pick_true, pick_false}
-use borrow.Author.Rules.{rules}
 use Rattle.seat_page.proofs.queues.shift.Goals as goal
 
 pub returns-then-t : goal.returns-then-t

@@ -1,6 +1,5 @@
 use Rattle.seat_page.specs.SeatPages.{queues_pieces}
 use Rattle.page.specs.PageLaws.{joined_all_lem, joined_piece}
-use borrow.Author.Rules.{rules}
 use Rattle.seat_page.proofs.queues.tell_queues.Goals as goal
 
 pub returns : goal.returns

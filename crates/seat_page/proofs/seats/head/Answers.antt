@@ -1,7 +1,6 @@
 use Rattle.page.specs.PieceLaws.{with_append, with_none}
 use Rattle.page.specs.Pieces.{with}
 use Rattle.seat_page.specs.SeatPages.{seat_head}
-use borrow.Author.Rules.{rules}
 use Rattle.seat_page.proofs.seats.head.Goals as goal
 
 pub returns : goal.returns

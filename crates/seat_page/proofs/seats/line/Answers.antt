@@ -1,6 +1,5 @@
 use Rattle.base.specs.PickLaws.{pick_true, pick_false}
 use Rattle.seat_page.specs.SeatPages.{line_words}
-use borrow.Author.Rules.{rules}
 use Rattle.seat_page.proofs.seats.line.Goals as goal
 
 pub returns-then-line : goal.returns-then-line

@@ -3,7 +3,6 @@ use Rattle.seat_page.specs.SeatPages.{seat_page, seat_pieces, seat_head}
 use Rattle.seat_page.specs.HeadLaws.{seat_head_short}
 use Rattle.page.specs.PageLaws.{joined_all_lem}
 use Rattle.page.specs.PieceLaws.{said_all}
-use borrow.Author.Rules.{rules}
 use Rattle.seat_page.proofs.seats.seat.Goals as goal
 
 pub returns : goal.returns

@@ -1,6 +1,5 @@
 use Rattle.seat_page.specs.SeatPages.{channel_pieces}
 use Rattle.page.specs.PageLaws.{joined_all_lem}
-use borrow.Author.Rules.{rules}
 use Rattle.seat_page.proofs.seats.tell_channel.Goals as goal
 
 pub returns : goal.returns

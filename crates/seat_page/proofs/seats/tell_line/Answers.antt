@@ -1,6 +1,5 @@
 use Rattle.seat_page.specs.SeatPages.{line_pieces}
 use Rattle.page.specs.PageLaws.{joined_piece}
-use borrow.Author.Rules.{rules}
 use Rattle.seat_page.proofs.seats.tell_line.Goals as goal
 
 pub returns : goal.returns

@@ -2,7 +2,6 @@ use Rattle.seat_page.specs.SeatPages.{read_pieces}
 use Rattle.channel.specs.Status.{lsr, iir, msr, inputs}
 use Rattle.status.specs.StatusLaws.{iir_by_changes}
 use Rattle.page.specs.PageLaws.{joined_piece}
-use borrow.Author.Rules.{rules}
 use Rattle.seat_page.proofs.seats.tell_reads.Goals as goal
 
 pub returns : goal.returns

@@ -2,7 +2,6 @@ use Rattle.page.specs.PieceLaws.{with_none}
 use Rattle.base.specs.PickLaws.{pick_true, pick_false}
 use borrow.Author.Tests.{eq-eqb, ne_eqb}
 use Rattle.seat_page.specs.SeatPages.{timeout_words}
-use borrow.Author.Rules.{rules}
 use Rattle.seat_page.proofs.seats.timeout.Goals as goal
 
 pub returns-then-r-eq0 : goal.returns-then-r-eq0

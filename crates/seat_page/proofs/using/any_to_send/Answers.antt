@@ -1,5 +1,4 @@
 use Rattle.seat_page.specs.Using.{some_to_send}
-use borrow.Author.Rules.{rules}
 use Rattle.seat_page.proofs.using.any_to_send.Goals as goal
 
 pub returns : goal.returns

@@ -1,5 +1,4 @@
 use Rattle.seat_page.specs.Using.{in_use}
-use borrow.Author.Rules.{rules}
 use Rattle.seat_page.proofs.using.is_in_use.Goals as goal
 
 pub returns : goal.returns

@@ -1,17 +1,11 @@
-use borrow.Author.Tests.{eq-eqb, ne_eqb}
-use borrow.Author.Rules.{rules}
-use Rattle.base.specs.PickLaws.{pick_true, pick_false}
-use Rattle.setting_lines.specs.Guess.{behind_rate}
-use Rattle.setting_lines.proofs.Supposed.{none_behind}
+use Rattle.setting_lines.proofs.Supposed.{ends_5, ends_other, ends_none}
 use Rattle.setting_lines.proofs.guesses.behind_rate.Goals as goal
 
-pub returns-then-line-eq0 : goal.returns-then-line-eq0
-returns-then-line-eq0 c = none_behind _ c.if-line-eq0.true
+pub returns-in-Some : goal.returns-in-Some
+returns-in-Some c = ends_5 c.args.line.now c.in-Some.c.now (rw c.in-Some.is at c.last.ensures.value) c.if-c-eq53.true
 
-pub returns-then-line-eq53 : goal.returns-then-line-eq53
-unfolding behind_rate
-returns-then-line-eq53 c = simp (eq-eqb _ _ c.if-line-eq53.true, ne_eqb _ _ c.if-line-eq0.false, pick_true, pick_false)
+pub returns-in_default : goal.returns-in_default
+returns-in_default c = ends_other c.args.line.now c.in-Some.c.now (rw c.in-Some.is at c.last.ensures.value) c.if-c-eq53.false
 
-pub returns : goal.returns
-unfolding behind_rate
-returns c = simp (ne_eqb _ _ c.if-line-eq53.false, ne_eqb _ _ c.if-line-eq0.false, pick_false)
+pub returns-in_default-2 : goal.returns-in_default-2
+returns-in_default-2 c = ends_none c.args.line.now (rw c.in_default.is at c.last.ensures.value)

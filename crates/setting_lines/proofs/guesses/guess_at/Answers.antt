@@ -1,16 +1,13 @@
-use mathlib.Core.Path.{sym}
-use native.Mathlib.Omega.{arith}
-use borrow.Author.Rules.{rules}
-use lib.Seq.{length-take-le}
+use Prim.Native.Nat.{◌+◌}
+use mathlib.Core.Logic.{inl, inr}
+use lib.ListN.{get_or}
 use Rattle.setting_lines.specs.Guess.{guess_at}
+use Rattle.setting_lines.proofs.Supposed.{is_longer}
 use Rattle.setting_lines.proofs.guesses.guess_at.Goals as goal
-
-pub slice_bounds-rate-end : goal.slice_bounds-rate-end
-slice_bounds-rate-end c = sym (length-take-le _ _ (omega arith))
-
-pub rate-requires : goal.rate-requires
-rate-requires c = let a = c.args in omega (arith, length-take-le a.front a.line.now (omega arith))
+use Rattle.setting_lines.proofs.guesses.guess_at.Goals.{then-behind-eq8, else-behind-eq8}
 
 pub returns : goal.returns
 unfolding guess_at
-returns c = simp (← c.lcr.ensures, ← c.rate.ensures)
+returns c =
+    rw (← is_longer c.args.behind (get_or c.args.line.now (c.args.front + 5) 0) c.if-behind-eq8.longer (elim c.if-behind-eq8.branch [ then-behind-eq8 w ↦ inl (w.if-behind-eq8.true, w.longer-is) | else-behind-eq8 w ↦ inr (w.if-behind-eq8.false, w.longer-is) ]))
+    (simp (← c.lcr.ensures, ← c.rate.ensures))

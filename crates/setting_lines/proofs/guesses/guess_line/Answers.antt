@@ -1,6 +1,5 @@
 use native.Mathlib.Omega.{arith}
 use borrow.Author.Tests.{le-leb, le-ltb, lt-leb, lt-ltb}
-use borrow.Author.Rules.{rules}
 use Rattle.base.specs.PickLaws.{pick_true, pick_false}
 use Rattle.setting_lines.specs.Guess.{guessed}
 use Rattle.setting_lines.proofs.Supposed.{behind_least}

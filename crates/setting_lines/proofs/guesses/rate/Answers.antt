@@ -1,21 +1,20 @@
-use Rattle.base.specs.PickLaws.{pick_true, pick_false}
-use borrow.Author.Tests.{eq-eqb, le-leb, le-ltb, lt-leb, lt-ltb, ne_eqb}
+use mathlib.Core.Path.{sym, ◌∙◌}
+use native.Mathlib.Omega.{arith}
+use Rattle.base.specs.PickLaws.{pick_true}
 use Rattle.setting_lines.specs.Guess.{rate_guess}
-use borrow.Author.Rules.{rules}
+use Rattle.setting_lines.proofs.Supposed.{guessed_10, guessed_whole}
 use Rattle.setting_lines.proofs.guesses.rate.Goals as goal
 
 pub returns-then-is_halved : goal.returns-then-is_halved
 unfolding rate_guess
-returns-then-is_halved c = simp (← c.is_halved.ensures, c.if-is_halved.true, pick_true)
+returns-then-is_halved c = sym (pick_true _ _ _ (sym c.is_halved.ensures ∙ c.if-is_halved.true))
 
-pub returns-then-n-gt99999 : goal.returns-then-n-gt99999
-unfolding rate_guess
-returns-then-n-gt99999 c = simp (← c.number-n.ensures, ← c.is_halved.ensures, lt-ltb _ _ c.if-n-gt99999.true, lt-leb _ _ c.if-n-gt99999.true, c.if-is_halved.false, pick_true, pick_false)
+pub returns-in-1-to-99999 : goal.returns-in-1-to-99999
+returns-in-1-to-99999 c =
+    guessed_whole c.args.front.now c.number.result (sym c.is_halved.ensures ∙ c.if-is_halved.false) c.number.ensures (omega arith) (omega arith)
 
-pub returns-then-n-eq0 : goal.returns-then-n-eq0
-unfolding rate_guess
-returns-then-n-eq0 c = simp (← c.number-n.ensures, ← c.is_halved.ensures, eq-eqb _ _ c.if-n-eq0.true, le-ltb _ _ c.if-n-gt99999.false, le-leb _ _ c.if-n-gt99999.false, c.if-is_halved.false, pick_true, pick_false)
+pub returns-in_default : goal.returns-in_default
+returns-in_default c = guessed_10 c.args.front.now c.number.result (sym c.is_halved.ensures ∙ c.if-is_halved.false) c.number.ensures (λ some few. omega arith)
 
-pub returns : goal.returns
-unfolding rate_guess
-returns c = simp (← c.number-n.ensures, ← c.is_halved.ensures, ne_eqb _ _ c.if-n-eq0.false, le-ltb _ _ c.if-n-gt99999.false, le-leb _ _ c.if-n-gt99999.false, c.if-is_halved.false, pick_true, pick_false)
+pub returns-in_default-2 : goal.returns-in_default-2
+returns-in_default-2 c = guessed_10 c.args.front.now c.number.result (sym c.is_halved.ensures ∙ c.if-is_halved.false) c.number.ensures (λ some few. omega arith)

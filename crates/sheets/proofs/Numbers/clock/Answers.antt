@@ -1,6 +1,5 @@
 use Rattle.base.specs.PickLaws.{pick_true, pick_false}
 use Rattle.sheets.specs.Numbers.{clock_in}
-use borrow.Author.Rules.{rules}
 use Rattle.sheets.proofs.Numbers.clock.Goals as goal
 
 pub returns-then-self : goal.returns-then-self

@@ -1,7 +1,6 @@
 use native.Mathlib.Omega.{arith}
 use mathlib.Core.List.{[], ◌∷◌}
 use Rattle.sheets.proofs.Stores.{three_stored}
-use borrow.Author.Rules.{rules}
 use Rattle.sheets.proofs.answers.put_line.Goals as goal
 
 pub returns : goal.returns

@@ -1,5 +1,4 @@
 use Rattle.sight.specs.Sights.{look_at}
-use borrow.Author.Rules.{rules}
 use Rattle.sight.proofs.Sight.look_at.Goals as goal
 
 pub returns : goal.returns

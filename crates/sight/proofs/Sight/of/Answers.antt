@@ -1,6 +1,5 @@
 use Rattle.bench.specs.Seats.{seat}
 use Rattle.sight.specs.Sights.{sight_of}
-use borrow.Author.Rules.{rules}
 use Rattle.sight.proofs.Sight.of.Goals as goal
 
 pub returns : goal.returns

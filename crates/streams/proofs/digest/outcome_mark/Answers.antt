@@ -1,12 +1,14 @@
-use Rattle.std.proofs.Common.{arith}
+use Rattle.std.proofs.Common.{◌≡◌, Bool, true, false, refl, arith}
+use Rattle.base.specs.Pick.{pick}
 use Rattle.base.specs.Bits.{digit}
-use Rattle.base.specs.PickLaws.{pick_true, pick_false}
 use Rattle.streams.proofs.digest.outcome_mark.Goals as goal
+use mir.Val.{bool_byte}
 
-pub returns-then-output : goal.returns-then-output
-unfolding digit
-returns-then-output c = simp (c.if-output.true, pick_true) (omega arith)
+-- a flag as a byte is its digit
+as_digit : (b : Bool) → bool_byte b ≡ digit b
+unfolding digit pick
+as_digit true = refl
+as_digit false = refl
 
 pub returns : goal.returns
-unfolding digit
-returns c = simp (c.if-output.false, pick_false) (omega arith)
+returns c = omega (arith, as_digit c.args.output)

@@ -1,44 +1,24 @@
-use Rattle.text.specs.HexLaws.{inside}
-use Rattle.text.specs.Hex.{digit}
-use Rattle.base.specs.PickLaws.{pick_true, pick_false}
 use native.Mathlib.Omega.{arith}
-use mathlib.Core.Path.{sym, ◌∙◌}
-use borrow.Author.Rules.{rules}
+use Rattle.text.proofs.Digits.{of_numeral, of_capital, of_small, of_none}
 use Rattle.text.proofs.hex.digit.Goals as goal
 
-pub overflow_sub-result : goal.overflow_sub-result
-overflow_sub-result c = omega (arith, inside 48 57 c.args.c (sym c.is_within.ensures ∙ c.if-is_within.true))
+pub returns-in-48-to-57 : goal.returns-in-48-to-57
+returns-in-48-to-57 c = (of_numeral _ (omega arith) (omega arith), omega arith)
 
-pub returns-then-is_within : goal.returns-then-is_within
-unfolding digit
-returns-then-is_within c = (
-  sym (pick_true _ _ _ (sym c.is_within.ensures ∙ c.if-is_within.true)),
-  omega (arith, inside 48 57 c.args.c (sym c.is_within.ensures ∙ c.if-is_within.true)),
-)
+pub returns-in-65-to-70 : goal.returns-in-65-to-70
+returns-in-65-to-70 c = (of_capital _ (omega arith) (omega arith), omega arith)
 
-pub overflow_sub-result-then-is_within-2 : goal.overflow_sub-result-then-is_within-2
-overflow_sub-result-then-is_within-2 c = omega (arith, inside 65 70 c.args.c (sym c.is_within-2.ensures ∙ c.if-is_within-2.true))
+pub returns-in-97-to-102 : goal.returns-in-97-to-102
+returns-in-97-to-102 c = (of_small _ (omega arith) (omega arith), omega arith)
 
-pub returns-then-is_within-2 : goal.returns-then-is_within-2
-unfolding digit
-returns-then-is_within-2 c = (
-  sym (pick_false _ _ _ (sym c.is_within.ensures ∙ c.if-is_within.false) ∙ pick_true _ _ _ (sym c.is_within-2.ensures ∙ c.if-is_within-2.true)),
-  omega (arith, inside 65 70 c.args.c (sym c.is_within-2.ensures ∙ c.if-is_within-2.true)),
-)
+pub returns-in_default : goal.returns-in_default
+returns-in_default c = (of_none _ (λ l h. omega arith) (λ l h. omega arith) (λ l h. omega arith), tt)
 
-pub overflow_sub-result-then-is_within-3 : goal.overflow_sub-result-then-is_within-3
-overflow_sub-result-then-is_within-3 c = omega (arith, inside 97 102 c.args.c (sym c.is_within-3.ensures ∙ c.if-is_within-3.true))
+pub returns-in_default-2 : goal.returns-in_default-2
+returns-in_default-2 c = (of_none _ (λ l h. omega arith) (λ l h. omega arith) (λ l h. omega arith), tt)
 
-pub returns-then-is_within-3 : goal.returns-then-is_within-3
-unfolding digit
-returns-then-is_within-3 c = (
-  sym (pick_false _ _ _ (sym c.is_within.ensures ∙ c.if-is_within.false) ∙ pick_false _ _ _ (sym c.is_within-2.ensures ∙ c.if-is_within-2.false) ∙ pick_true _ _ _ (sym c.is_within-3.ensures ∙ c.if-is_within-3.true)),
-  omega (arith, inside 97 102 c.args.c (sym c.is_within-3.ensures ∙ c.if-is_within-3.true)),
-)
+pub returns-in_default-3 : goal.returns-in_default-3
+returns-in_default-3 c = (of_none _ (λ l h. omega arith) (λ l h. omega arith) (λ l h. omega arith), tt)
 
-pub returns : goal.returns
-unfolding digit
-returns c = (
-  sym (pick_false _ _ _ (sym c.is_within.ensures ∙ c.if-is_within.false) ∙ pick_false _ _ _ (sym c.is_within-2.ensures ∙ c.if-is_within-2.false) ∙ pick_false _ _ _ (sym c.is_within-3.ensures ∙ c.if-is_within-3.false)),
-  omega arith,
-)
+pub returns-in_default-4 : goal.returns-in_default-4
+returns-in_default-4 c = (of_none _ (λ l h. omega arith) (λ l h. omega arith) (λ l h. omega arith), tt)

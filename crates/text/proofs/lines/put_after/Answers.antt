@@ -9,7 +9,6 @@ use Rattle.base.specs.PickLaws.{pick_true, pick_false}
 use Rattle.base.specs.Answers.{refusal_of}
 use Rattle.text.specs.Front.{line_after}
 use Rattle.text.specs.LineLaws.{room_after, after_short}
-use borrow.Author.Rules.{rules}
 use Rattle.text.proofs.lines.put_after.Goals as goal
 
 pub returns-then-length-at : goal.returns-then-length-at
@@ -25,9 +24,6 @@ write_after-requires c = let a = c.args in
     (sym (room_after a.at (length a.out.now) c.refusal-refusal.result a.front.now a.n a.answer a.output c.refusal-refusal.ensures (omega arith))
     ∙ sym c.holds.ensures
     ∙ c.if-holds.true)
-
-pub shape_of-out-then-holds : goal.shape_of-out-then-holds
-shape_of-out-then-holds c = c.write_after.auto.out
 
 pub returns-then-holds : goal.returns-then-holds
 returns-then-holds c = let a = c.args in

@@ -1,31 +1,15 @@
-use mathlib.Core.Path.{refl}
-use native.Mathlib.Omega.{arith}
-use lib.ListN.{length-set}
-use Rattle.text.proofs.Stores.{seven}
-use borrow.Author.Rules.{rules}
+use mathlib.Core.Bool.{Bool, true, false}
+use mathlib.Core.Path.{◌≡◌, refl}
+use Prim.Native.Nat.{◌+◌}
+use Rattle.std.specs.Int.{from_bool}
+use Rattle.base.specs.Pick.{pick}
+use Rattle.text.specs.Line.{output_digit}
 use Rattle.text.proofs.lines.put_ending.Goals as goal
 
-pub bounds-out-at-2 : goal.bounds-out-at-2
-bounds-out-at-2 c = simp length-set (omega arith)
-
-pub bounds-out-at-3 : goal.bounds-out-at-3
-bounds-out-at-3 c = simp length-set (omega arith)
-
-pub bounds-out-at-4 : goal.bounds-out-at-4
-bounds-out-at-4 c = simp length-set (omega arith)
-
-pub bounds-out-at-5 : goal.bounds-out-at-5
-bounds-out-at-5 c = simp length-set (omega arith)
-
-pub bounds-out-at-6 : goal.bounds-out-at-6
-bounds-out-at-6 c = simp length-set (omega arith)
-
-pub bounds-out-at-7 : goal.bounds-out-at-7
-bounds-out-at-7 c = simp length-set (omega arith)
+shown : (o : Bool) → 48 + from_bool o ≡ output_digit o
+unfolding output_digit pick
+shown true = refl
+shown false = refl
 
 pub returns : goal.returns
-returns c = (
-  refl,
-  rw (← c.capital.ensures, ← c.capital-2.ensures, ← c.capital-3.ensures, ← c.output_digit.ensures)
-      (seven c.args.out.now c.args.at _ _ _ _ _ _ _),
-)
+returns c = (c.put_bytes.ensures.0, cc (shown c.args.output))

@@ -1,11 +1,10 @@
 use Prim.Native.Nat.{ℕ}
-use mathlib.Core.Path.{ap, ◌∙◌}
+use mathlib.Core.Path.{ap}
 use native.Mathlib.Omega.{arith}
 use lib.ListN.{length, length-set}
 use Rattle.text.specs.Line.{decimal}
 use Rattle.text.specs.LineLaws.{after_length}
 use Rattle.text.proofs.Stores.{after_sets}
-use borrow.Author.Rules.{rules}
 use Rattle.text.proofs.lines.write_after.Goals as goal
 
 pub put_bytes-a-requires : goal.put_bytes-a-requires
@@ -13,9 +12,6 @@ put_bytes-a-requires c = let a = c.args in omega (arith, after_length a.front.no
 
 pub bounds-out-a : goal.bounds-out-a
 bounds-out-a c = let a = c.args in omega (arith, after_length a.front.now a.n a.answer a.output)
-
-pub overflow_add-out-2 : goal.overflow_add-out-2
-overflow_add-out-2 c = let a = c.args in omega (arith, after_length a.front.now a.n a.answer a.output)
 
 pub bounds-out-a-2 : goal.bounds-out-a-2
 bounds-out-a-2 c = let a = c.args in simp length-set (omega (arith, after_length a.front.now a.n a.answer a.output))
@@ -30,9 +26,6 @@ pub put_ending-requires : goal.put_ending-requires
 put_ending-requires c = let a = c.args in
     let same : _ = simp length-set at c.put_byte-b.auto.out in
     omega (arith, after_length a.front.now a.n a.answer a.output, ap (λ (x : ℕ). length (decimal x)) c.refusal-refusal.ensures, same)
-
-pub shape_of-out : goal.shape_of-out
-shape_of-out c = c.put_ending.auto.out ∙ c.put_byte-b.auto.out ∙ simp length-set c.put_bytes-a.auto.out
 
 pub returns : goal.returns
 returns c = let a = c.args in (

@@ -5,7 +5,6 @@ use Rattle.base.specs.Pick.{pick}
 use Rattle.base.specs.EveryLaws.{equal_at}
 use Rattle.text.specs.Line.{capital}
 use Rattle.text.specs.Quoted.{quoted}
-use borrow.Author.Rules.{rules}
 use Rattle.text.proofs.numbers.capital.Goals as goal
 
 pub returns : goal.returns

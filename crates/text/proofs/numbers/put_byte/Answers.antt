@@ -1,7 +1,6 @@
-use mathlib.Core.Path.{refl, sym}
+use mathlib.Core.Path.{refl}
 use native.Mathlib.Omega.{arith}
 use Rattle.text.specs.DecimalLaws.{decimal_small, length_small}
-use borrow.Author.Rules.{rules}
 use Rattle.text.proofs.numbers.put_byte.Goals as goal
 
 pub bounds-out-at : goal.bounds-out-at
@@ -9,9 +8,3 @@ bounds-out-at c = omega (arith, length_small _ c.if-n-lt10.true)
 
 pub returns-then-n-lt10 : goal.returns-then-n-lt10
 returns-then-n-lt10 c = rw (decimal_small _ c.if-n-lt10.true) (refl, refl)
-
-pub put_decimal-requires : goal.put_decimal-requires
-put_decimal-requires c = rw c.wide.ensures c.requires
-
-pub returns : goal.returns
-returns c = rw (← c.wide.ensures) c.put_decimal.ensures

@@ -2,7 +2,6 @@ use Rattle.timeline.proofs.Behind.{in_one}
 use Rattle.page.specs.PageLaws.{put_append}
 use Rattle.page.specs.Pages.{put}
 use Rattle.timeline.specs.Dump.{declaration}
-use borrow.Author.Rules.{rules}
 use Rattle.timeline.proofs.heads.declare_bit.Goals as goal
 
 pub returns : goal.returns

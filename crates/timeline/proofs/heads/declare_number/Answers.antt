@@ -1,16 +1,12 @@
-use Prim.Native.Nat.{ℕ, ◌-◌, ◌≤◌}
+use Prim.Native.Nat.{ℕ}
 use mathlib.Core.Path.{◌≡◌, refl, ap, sym, ◌∙◌}
 use native.Mathlib.Omega.{arith}
-use borrow.Author.Rules.{rules}
 use Rattle.page.specs.Pages.{put}
 use Rattle.page.specs.PageLaws.{put_append, put_none}
 use Rattle.timeline.specs.Variables.{down_from, bit_name, bit_word}
 use Rattle.timeline.specs.Dump.{declaration, bit_declarations}
 use Rattle.timeline.proofs.Bits.{one_down}
 use Rattle.timeline.proofs.heads.declare_number.Goals as goal
-
-pub loop-k-init : goal.loop-k-init
-loop-k-init c = (omega arith, refl)
 
 pub loop-k-preserved : goal.loop-k-preserved
 unfolding bit_declarations

@@ -2,7 +2,6 @@ use Rattle.timeline.proofs.Behind.{in_one, from_start}
 use Rattle.page.specs.PageLaws.{put_append}
 use Rattle.page.specs.Pages.{put}
 use Rattle.timeline.specs.Dump.{declaration, declarations, head_words}
-use borrow.Author.Rules.{rules}
 use Rattle.timeline.proofs.heads.head.Goals as goal
 
 pub returns : goal.returns

@@ -2,7 +2,6 @@ use Rattle.timeline.proofs.Behind.{from_start}
 use Rattle.page.specs.PageLaws.{put_append}
 use Rattle.page.specs.Pages.{put}
 use Rattle.timeline.specs.Dump.{head_end}
-use borrow.Author.Rules.{rules}
 use Rattle.timeline.proofs.heads.head_end.Goals as goal
 
 pub returns : goal.returns

@@ -4,7 +4,6 @@ use Rattle.page.specs.Pages.{put}
 use mathlib.Core.Path.{sym}
 use Rattle.timeline.specs.Variables.{line_variables}
 use Rattle.timeline.specs.Dump.{line_head, scoped, declarations}
-use borrow.Author.Rules.{rules}
 use Rattle.timeline.proofs.heads.line_head.Goals as goal
 
 pub returns : goal.returns

@@ -1,7 +1,6 @@
-use Prim.Native.Nat.{ℕ, ◌-◌, ◌≤◌}
+use Prim.Native.Nat.{ℕ}
 use mathlib.Core.Path.{◌≡◌, sym, ap, ◌∙◌}
 use native.Mathlib.Omega.{arith}
-use borrow.Author.Rules.{rules}
 use Rattle.page.specs.Pages.{put}
 use Rattle.page.specs.PageLaws.{put_append, put_none}
 use Rattle.timeline.specs.Variables.{each}
@@ -16,7 +15,3 @@ loop-n-init c = (omega arith, sym (put_none _))
 
 pub loop-n-preserved : goal.loop-n-preserved
 loop-n-preserved c = (omega arith, rw (each_next c.loop-n.n line_head) (in_one put put_append c.loop-n.invariant.1 c.line_head-heads.ensures))
-
-pub returns : goal.returns
-returns c = let all : c.loop-n.n ≡ 8 = omega arith in
-    c.loop-n.invariant.1 ∙ ap (λ (k : ℕ). put c.args.page (each k line_head)) all

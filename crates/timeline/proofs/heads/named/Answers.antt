@@ -1,7 +1,6 @@
 use Rattle.timeline.proofs.Behind.{in_one}
 use Rattle.page.specs.PageLaws.{put_append}
 use Rattle.page.specs.Pages.{put}
-use borrow.Author.Rules.{rules}
 use Rattle.timeline.proofs.heads.named.Goals as goal
 
 pub returns : goal.returns

@@ -7,7 +7,6 @@ use mathlib.Core.Path.{sym, ap, ◌∙◌}
 use Rattle.text.specs.Quoted.{quoted}
 use Rattle.timeline.specs.Dump.{scope, upscope, scoped, seat_head}
 use Rattle.timeline.proofs.Bits.{declared_seat}
-use borrow.Author.Rules.{rules}
 use Rattle.timeline.proofs.heads.seat_head.Goals as goal
 
 pub returns : goal.returns

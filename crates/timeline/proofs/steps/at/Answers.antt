@@ -9,7 +9,6 @@ use Rattle.page.specs.PageLaws.{put_append}
 use Rattle.timeline.specs.Dump.{time}
 use Rattle.timeline.proofs.Behind.{in_one, from_start, put_said}
 use Rattle.timeline.proofs.Lengths.{time_length}
-use borrow.Author.Rules.{rules}
 use Rattle.timeline.proofs.steps.at.Goals as goal
 
 pub returns : goal.returns

@@ -2,7 +2,6 @@ use Rattle.page.specs.Pages.{put}
 use Rattle.page.specs.PageLaws.{put_append}
 use Rattle.timeline.proofs.Behind.{in_one}
 use Rattle.timeline.specs.Dump.{first_words}
-use borrow.Author.Rules.{rules}
 use Rattle.timeline.proofs.steps.first.Goals as goal
 
 pub returns : goal.returns

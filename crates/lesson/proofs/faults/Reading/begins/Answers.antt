@@ -1,7 +1,7 @@
+use Rattle.text.specs.HexLaws.{digit_found}
 use Rattle.lesson.specs.Cause.{begins}
-use borrow.Author.Rules.{rules}
 use Rattle.lesson.proofs.faults.Reading.begins.Goals as goal
 
 pub returns : goal.returns
 unfolding begins
-returns c = rw c.digit.ensures.0
+returns c = rw (c.is_some.ensures, c.digit.ensures.0, digit_found)

@@ -1,6 +1,5 @@
 use Rattle.base.specs.PickLaws.{tests}
 use Rattle.lesson.specs.Fault.{next}
-use borrow.Author.Rules.{rules}
 use Rattle.lesson.proofs.faults.Reading.counted.Goals as goal
 
 pub returns-then-self-lt-LAST_DIGIT : goal.returns-then-self-lt-LAST_DIGIT

@@ -1,6 +1,5 @@
 use Rattle.base.specs.PickLaws.{tests}
 use Rattle.lesson.specs.Place.{onward}
-use borrow.Author.Rules.{rules}
 use Rattle.lesson.proofs.places.Place.onward.Goals as goal
 
 pub returns-then-c-eq10 : goal.returns-then-c-eq10

@@ -1,8 +1,0 @@
-use Rattle.base.specs.PickLaws.{tests}
-use Rattle.image.specs.Refusals.{marked}
-use borrow.Author.Rules.{rules}
-use Rattle.image.proofs.reading.is_marked.Goals as goal
-
-pub returns : goal.returns
-unfolding marked
-returns c = search tests

@@ -1,7 +1,0 @@
-use Rattle.std.proofs.Common.{arith, rules}
-use Rattle.seat.specs.CountLaws.{kept, same_tallies}
-use Rattle.seat.proofs.Tallies.read_more.Goals as goal
-
-pub returns : goal.returns
-returns c = let t = c.args.self in
-    same_tallies (kept t.arrived (omega arith)) c.wrapping_add_u32.ensures.value (kept t.lost (omega arith)) (kept t.dropped (omega arith))

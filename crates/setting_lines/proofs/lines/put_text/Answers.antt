@@ -1,0 +1,7 @@
+use mathlib.Core.Path.{refl}
+use native.Mathlib.Omega.{arith}
+use Rattle.base.specs.StoreLaws.{copied_at}
+use Rattle.setting_lines.proofs.lines.put_text.Goals as goal
+
+pub returns : goal.returns
+returns c = (refl, rw c.copy_from_slice.ensures.after (copied_at c.args.at _ c.args.room.now c.args.text.now refl (omega arith)))
