@@ -44,25 +44,26 @@ fn beside(seat: Seat, signalled: Signalled) -> Touched
     }
 }
 
-// Of a master reset, what it makes of this seat; every line is low after it.
+// Of a master reset, what it makes of this seat; every line is low after it. Each arm returns by itself: a value that all arms join in is copied once
+// more in every event.
 #[tactic(auto, unfolding(crate::specs::Parts::met_parts))]
 fn meet_parts(seat: Seat, controller: Controller, event: Event) -> Touched
     ensures { result ≡ met_parts seat controller event }
 {
     match event {
-        Event::OfSeat(n, e) => touch_seat(seat, controller, n, e),
-        Event::MasterReset => Touched {
+        Event::OfSeat(n, e) => return touch_seat(seat, controller, n, e),
+        Event::MasterReset => return Touched {
             seat: seat.reset(),
             controller: controller.settle(0),
             answer: Answer::Done,
         },
-        Event::ReadController(port) => Touched {
+        Event::ReadController(port) => return Touched {
             seat,
             controller,
             answer: controller.read(port),
         },
-        Event::WriteController(port, byte) => beside(seat, controller.write(port, byte)),
-        Event::Acknowledge => beside(seat, controller.acknowledge()),
+        Event::WriteController(port, byte) => return beside(seat, controller.write(port, byte)),
+        Event::Acknowledge => return beside(seat, controller.acknowledge()),
     }
 }
 

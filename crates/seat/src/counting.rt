@@ -39,7 +39,8 @@ impl Tallies {
         self
     }
 
-    // After an event that left this. A refused one left as many queued as there were, so that only one that may receive asks for the answer.
+    // After an event that left this. A refused one left as many queued as there were, so that only one that may receive asks for the answer. Each arm
+    // returns by itself, so that the code that is made goes from the event's own arm to its own tally.
     pub(crate) fn after(self, held: Channel, e: SeatEvent, left: Stepped) -> Tallies
         requires { left ≡ stepped held e }
         ensures { result ≡ tallied self (side held) (moments_of held e) }
@@ -47,14 +48,19 @@ impl Tallies {
         let before = held.receiver.queue.count;
         let after = left.channel.receiver.queue.count;
         match e {
-            SeatEvent::Read(_) => self.read_more(before.saturating_sub(after)),
-            SeatEvent::Write(_, _) => self.dropped_more(before.saturating_sub(after)),
-            SeatEvent::Arrival(_, _) | SeatEvent::Time => self.arrived_more(
+            SeatEvent::Read(_) => return self.read_more(before.saturating_sub(after)),
+            SeatEvent::Write(_, _) => return self.dropped_more(before.saturating_sub(after)),
+            SeatEvent::Arrival(_, _) => return self.arrived_more(
                 received(held, e, left.answer),
                 before,
                 after,
             ),
-            SeatEvent::Levels(_) => self,
+            SeatEvent::Levels(_) => return self,
+            SeatEvent::Time => return self.arrived_more(
+                received(held, e, left.answer),
+                before,
+                after,
+            ),
         }
     }
 

@@ -17,9 +17,11 @@ fn hears(c: Channel, e: SeatEvent) -> bool
     ensures { pick result 1 0 ≡ length (arrived_in (accepted_moments c e)) }
 {
     match e {
-        SeatEvent::Arrival(_, _) => !c.settings.is_looped(),
-        SeatEvent::Time => c.settings.is_looped() & c.transmitter.busy,
-        SeatEvent::Read(_) | SeatEvent::Write(_, _) | SeatEvent::Levels(_) => false,
+        SeatEvent::Arrival(_, _) => return !c.settings.is_looped(),
+        SeatEvent::Time => return c.settings.is_looped() & c.transmitter.busy,
+        SeatEvent::Read(_) => return false,
+        SeatEvent::Write(_, _) => return false,
+        SeatEvent::Levels(_) => return false,
     }
 }
 
