@@ -1,9 +1,10 @@
 -- What a record's conversion to an event tells: the event, or which refusal comes first.
-use Rattle.std.specs.Prelude.{true, false, ◌≡◌, refl, Result, Ok, Err, eqb}
+use Rattle.std.specs.Prelude.{true, false, ◌≡◌, refl, Result, Ok, Err, Some, eqb}
 use Rattle.std.specs.Result.{result_err}
 use Rattle.std.proofs.Common.{sym, ap, ◌∙◌, ⊎_elim, eqb-true}
 use Rattle.base.specs.PickLaws.{pick_true, pick_false, either_way}
-use Rattle.base.specs.Refusals.{number_given}
+use Rattle.base.specs.Refusals.{number_given, number_of}
+use Rattle.base.proofs.GivenLaws.{given_once}
 use Rattle.base.specs.declared.Refusal.{Refusal}
 use Rattle.base.specs.declared.Whole.{Whole}
 use Rattle.records.specs.declared.Event.{Event}
@@ -25,3 +26,14 @@ decoded_number r =
 -- "The order is 4, 3, 1, 2": a record that is decoded tells which of the first three it is refused by, "0 for none"; `refused_early` has the rest
 pub number_told : (κ e : _) (w : Whole) (d : Result Event Refusal) → try_from.Post κ (w, tt) d e → number_given (result_err d) ≡ early (record_of w)
 number_told κ e w d p = number_same d ∙ ap refused_number p ∙ decoded_number (record_of w)
+
+numbered_once : (d d' : Result Event Refusal) → numbered d ≡ numbered d' → d ≡ d'
+unfolding numbered number_given
+numbered_once (Ok e) (Ok e') same = cc
+numbered_once (Ok e) (Err r') same = cc
+numbered_once (Err r) (Ok e') same = cc
+numbered_once (Err r) (Err r') same = let one : Some r ≡ Some r' = given_once (Some r) (Some r') (cc) in cc
+
+-- Show that no second outcome satisfies it: the conversion's contract leaves one answer, of a refusal too.
+pub decoded_once : (κ κ' e e' : _) (w : Whole) (d d' : Result Event Refusal) → try_from.Post κ (w, tt) d e → try_from.Post κ' (w, tt) d' e' → d ≡ d'
+decoded_once κ κ' e e' w d d' p p' = numbered_once d d' (p ∙ sym p')
