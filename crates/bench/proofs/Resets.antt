@@ -1,20 +1,23 @@
--- The library's `map` over an array gives a function's values, where each call gives the value of its element.
-use Rattle.std.specs.Prelude.{ℕ, ◌<◌, List, map, ◌≡◌, length}
-use Rattle.std.specs.Array.{IsMapOf}
-use Rattle.std.specs.Fn.{Called}
-use Rattle.std.proofs.Common.{sym, ◌∙◌, arith}
-use Rattle.std.proofs.Math.ListN.{get_or-map}
-use Rattle.std.proofs.lemmas.List.{ext_get_or, length-map}
-use denote.Param.Members.{Mut}
+-- A loop that resets one seat after another resets them all.
+use Rattle.std.specs.Prelude.{ℕ, zero, suc, ◌+◌, ◌<◌, ◌≤◌, List, [], ◌∷◌, map, ◌≡◌, refl, length, get_or}
+use Rattle.std.proofs.Common.{ap, arith}
+use Rattle.std.proofs.Math.ListN.{set}
+use Rattle.seat.specs.declared.Seat.{Seat}
+use Rattle.seat.specs.Seats.{reset}
 
-pub mapped : {F A B : Type 0} (g : Mut F (A × Unit {0}) B) (f : F) (xs : List A) (ys : List B) (n : ℕ) (h : A → B) (d : A)
-    → length xs ≡ n
-    → ((x : A) (y : B) (p q : F) → Called g p (x, tt) y q → y ≡ h x)
-    → IsMapOf g f xs ys n
-    → ys ≡ map h xs
-mapped g f xs ys n h d long gives all =
-    ext_get_or (h d) ys (map h xs) (all.long ∙ sym long ∙ sym (length-map xs h))
-    (λ i less.
-    let below : i < n = omega (arith, less, all.long) in
-    let called = all.at i d (h d) below in
-    gives _ _ called.0 called.1 called.2 ∙ sym (get_or-map h xs i d))
+-- the seats, so many of them reset
+abbrev pub reset_first : ℕ → List Seat → List Seat
+reset_first zero l = l
+reset_first (suc n) [] = []
+reset_first (suc n) (s ∷ l) = reset s ∷ reset_first n l
+
+pub reset_one : (l : List Seat) (i : ℕ) (d : Seat) → i < length l → set (reset_first i l) i (reset (get_or (reset_first i l) i d)) ≡ reset_first (suc i) l
+reset_one [] i d h = absurd (omega arith)
+reset_one (s ∷ l) zero d h = refl
+reset_one (s ∷ l) (suc i) d h = ap (λ (rest : List Seat). reset s ∷ rest) (reset_one l i d (omega arith))
+
+pub reset_whole : (l : List Seat) (n : ℕ) → length l ≤ n → reset_first n l ≡ map reset l
+reset_whole [] zero h = refl
+reset_whole [] (suc n) h = refl
+reset_whole (s ∷ l) zero h = absurd (omega arith)
+reset_whole (s ∷ l) (suc n) h = ap (λ (rest : List Seat). reset s ∷ rest) (reset_whole l n (omega arith))

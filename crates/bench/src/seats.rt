@@ -6,10 +6,14 @@ ghost use Rattle.bench.specs.Seats.{chair as Seats·chair};
 use records::SEATS;
 use seat::Seat;
 
-pub fn reset_all(seats: [Seat; SEATS]) -> [Seat; SEATS]
+// In place: `map` moves all the seats several times.
+pub fn reset_all(mut seats: [Seat; SEATS]) -> [Seat; SEATS]
     ensures { result ≡ map reset seats }
 {
-    seats.map(|seat| seat.reset())
+    for seat in &mut seats {
+        *seat = seat.reset();
+    }
+    seats
 }
 
 // Where seat n stands; a number that is no seat's counts round.
