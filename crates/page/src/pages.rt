@@ -43,10 +43,14 @@ impl Page {
         self
     }
 
-    pub fn text(self, words: &[u8]) -> Page
+    // A loop: `fold` copies the page once more for each byte.
+    pub fn text(mut self, words: &[u8]) -> Page
         ensures { result ≡ put self words.now }
     {
-        words.iter().fold(self, |page, c| page.byte(*c))
+        for c in words {
+            self = self.byte(*c);
+        }
+        self
     }
 
     pub fn add(self, piece: Piece) -> Page
