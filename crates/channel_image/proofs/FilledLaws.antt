@@ -1,19 +1,14 @@
 -- What the library's `from_fn` and `map` leave in an array, where each call gives a value of a function; and a yes-or-no as its byte.
-use Rattle.std.specs.Prelude.{ℕ, zero, suc, ◌+◌, ◌<◌, Bool, true, false, refl, List, ◌≡◌, ltb, length, get_or}
+use Rattle.std.specs.Prelude.{ℕ, zero, suc, ◌+◌, ◌<◌, Bool, true, false, refl, List, ◌≡◌, get_or}
 use Rattle.std.specs.Array.{IsFromFnResultFrom, IsFromFnResult, IsMapOf}
 use Rattle.std.specs.Fn.{Called}
 use Rattle.std.specs.Int.{from_bool}
 use Rattle.std.proofs.Common.{subst, ap, ◌∙◌, arith, not-suc-le-zero, le_of_suc-le-suc, add-zero}
 use denote.Param.Members.{Mut}
 use Rattle.base.specs.Bits.{digit}
-use Rattle.base.specs.ListLaws.{listed, listed_at}
+use Rattle.base.specs.ListLaws.{listed}
 use Rattle.base.specs.Pick.{pick}
-use Rattle.base.specs.PickLaws.{pick_through}
 use Rattle.channel_image.specs.PartLaws.{listed_by}
-use Rattle.channel_image.specs.Written.{queued_byte, bytes_of, told_slots}
-use Rattle.queue.specs.declared.Character.{Character}
-use Rattle.queue.specs.declared.Queue.{Queue}
-use Rattle.queue.specs.Queue.{no_character}
 
 module _ {F B : Type 0} (g : Mut F (ℕ × Unit {0}) B) (f : F) (l : List B) (h : ℕ → B) (d : B)
     (gives : (k : ℕ) (y : B) (q : F) → Called g f (k, tt) y q → (q ≡ f) × (y ≡ h k)) where
@@ -37,17 +32,6 @@ pub mapped : {F A B : Type 0} (g : Mut F (A × Unit {0}) B) (f : F) (xs : List A
     → ((x : A) (y : B) (p q : F) → Called g p (x, tt) y q → y ≡ h x)
     → IsMapOf g f xs ys n → (k : ℕ) → k < n → get_or ys k e ≡ h (get_or xs k d)
 mapped g f xs ys n h d e gives all k below = let called = all.at k d e below in gives (get_or xs k d) (get_or ys k e) called.0 called.1 called.2
-
--- one byte of each character that is told
-pub bytes_told : (field : Character → ℕ) (q : Queue) (l : List ℕ) → field no_character ≡ 0 → length l ≡ 16
-    → ((k : ℕ) → k < 16 → get_or l k 0 ≡ field (get_or (told_slots q) k no_character)) → l ≡ bytes_of field q
-bytes_told field q l none long each =
-    listed_by 16 l (queued_byte field q) 0 long
-    (λ k below.
-    let one = get_or q.slots k no_character in
-    each k below ∙ ap field (listed_at 16 (λ j. pick (ltb j q.count) (get_or q.slots j no_character) no_character) k no_character below)
-    ∙ pick_through field (ltb k q.count) one no_character
-    ∙ ap (λ (n : ℕ). pick (ltb k q.count) (field one) n) none)
 
 pub byte_told : (b : Bool) → from_bool b ≡ digit b
 unfolding digit pick

@@ -18,10 +18,6 @@ queued_byte field q k = pick (ltb k q.count) (field (get_or q.slots k no_charact
 abbrev pub bytes_of : (Character → ℕ) → Queue → List ℕ
 bytes_of field q = listed 16 (queued_byte field q)
 
--- the characters of its slots, with none from the number queued on
-abbrev pub told_slots : Queue → List Character
-told_slots q = listed 16 (λ k. pick (ltb k q.count) (get_or q.slots k no_character) no_character)
-
 -- bytes 0 to 16: registers, flags, marks and counts, the shift register, and how many are queued to send
 unfoldable pub front_bytes : Channel → List ℕ
 front_bytes c =

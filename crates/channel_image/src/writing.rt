@@ -1,25 +1,32 @@
 // The writer of a channel's bytes.
 ghost use Rattle.std.specs.Prelude.{◌≡◌, ◌+◌, ◌≤◌, length};
 ghost use Rattle.std.proofs.lemmas.List.Edits.{sets};
-ghost use Rattle.channel_image.specs.Written.{told_slots, front_bytes, channel_bytes, Put};
+ghost use Rattle.channel_image.specs.Written.{bytes_of, front_bytes, channel_bytes, Put};
 
 use channel::Channel;
-use queue::{Character, Queue};
-use std::array;
+use queue::Queue;
 
-const NOTHING: Character = Character { data: 0, marks: 0 };
+// The bytes of a queue's sixteen slots.
+#[derive(Clone, Copy)]
+struct QueueBytes {
+    data: [u8; crate::SLOTS],
+    marks: [u8; crate::SLOTS],
+}
 
-// What stands in a slot from the number queued on is not told, whatever a caller's bench has there.
-fn told_slots(q: Queue) -> [Character; crate::SLOTS]
-    ensures { result ≡ told_slots q }
+// What stands in a slot from the number queued on is not told, whatever a caller's bench has there. A loop over places: it is made into a few vector
+// instructions, and `map` is not.
+fn bytes_of(q: Queue) -> QueueBytes
+    ensures data { result.«data» ≡ bytes_of (λ ch. ch.«data») q }
+    ensures marks { result.marks ≡ bytes_of (λ ch. ch.marks) q }
 {
-    array::from_fn(|k| {
-        if k < q.count as usize {
-            q.slots[k]
-        } else {
-            NOTHING
-        }
-    })
+    let n = q.count as usize;
+    let mut data = [0u8; crate::SLOTS];
+    let mut marks = [0u8; crate::SLOTS];
+    for k in 0..crate::SLOTS {
+        data[k] = base::pick_byte(k < n, q.slots[k].data, 0);
+        marks[k] = base::pick_byte(k < n, q.slots[k].marks, 0);
+    }
+    QueueBytes { data, marks }
 }
 
 fn front_of(c: Channel) -> [u8; crate::OUTGOING]
@@ -58,13 +65,13 @@ fn put_channel(out: &mut [u8], c: Channel)
     ensures { out.new ≡ sets out.old 0 (channel_bytes c) }
 {
     let front = front_of(c);
-    let waiting = told_slots(c.transmitter.queue);
-    let received = told_slots(c.receiver.queue);
+    let waiting = bytes_of(c.transmitter.queue);
+    let received = bytes_of(c.receiver.queue);
     put_at(&mut *out, crate::IER, &front);
-    put_at(&mut *out, crate::OUTGOING, &waiting.map(|ch| ch.data));
+    put_at(&mut *out, crate::OUTGOING, &waiting.data);
     put_at(&mut *out, crate::RECEIVED, &[c.receiver.queue.count]);
-    put_at(&mut *out, crate::ARRIVED, &received.map(|ch| ch.data));
-    put_at(&mut *out, crate::MARKS, &received.map(|ch| ch.marks));
+    put_at(&mut *out, crate::ARRIVED, &received.data);
+    put_at(&mut *out, crate::MARKS, &received.marks);
 }
 
 // Puts a channel's bytes at the start of a lent part, and says whether there was room for them.
