@@ -58,11 +58,8 @@ impl Numbers {
         ensures { result ≡ with_digit self digit }
     {
         let at = usize::from(self.place);
-        let base = u16::from(base(self.place));
-        let number = base
-            .saturating_mul(self.values[at])
-            .saturating_add(u16::from(digit));
-        self.values[at] = number;
+        let number = u32::from(base(self.place)) * u32::from(self.values[at]) + u32::from(digit);
+        self.values[at] = number.min(u32::from(u16::MAX)) as u16;
         self.begun = true;
         self
     }
