@@ -24,7 +24,7 @@ pub fn read(line: &[u8], clock: u8) -> Result<Setting, Refusal>
 {
     let guess = guesses::guess_line(line);
     let mut room = [0u8; 20];
-    let own = lines::put_line(&mut room, guess.rate, guess.lcr);
+    let own = lines::made_line(&mut room, guess.rate, guess.lcr);
     if line != own {
         return Err(Refusal::NoSetting);
     }
@@ -37,18 +37,18 @@ pub fn read(line: &[u8], clock: u8) -> Result<Setting, Refusal>
     })
 }
 
-// The line is made beside the buffer, so that nothing is put where it has no room.
+// The line is made beside the buffer, so that nothing is put where it has no room. It is copied from `room` itself: of a part that a call hands back, the
+// compiler does not see that it lies apart from the buffer, and C would have to bring `memmove`.
 fn write_line(rate: u32, lcr: u8, out: &mut [u8]) -> Result<usize, Refusal>
     requires { rate ≤ 999990 }
     ensures { left result out.new ≡ put_into out.old (line_by rate lcr) }
 {
     let mut room = [0u8; 20];
-    let line = lines::put_line(&mut room, rate, lcr);
-    let length = line.len();
+    let length = lines::put_line(&mut room, rate, lcr);
     if out.len() < length {
         return Err(Refusal::NoRoom);
     }
-    out[..length].copy_from_slice(line);
+    out[..length].copy_from_slice(&room[..length]);
     Ok(length)
 }
 

@@ -72,12 +72,20 @@ fn put_shape(room: &mut [u8; 20], at: usize, lcr: u8) -> usize
     put_text(&mut *room, behind, stop(bits, bit(LCR_STOP, lcr)))
 }
 
-// Makes the line at the start of an array that holds any.
-pub(crate) fn put_line(room: &mut [u8; 20], rate: u32, lcr: u8) -> &[u8]
+// Puts the line at the start of an array that holds any, and answers its length.
+pub(crate) fn put_line(room: &mut [u8; 20], rate: u32, lcr: u8) -> usize
+    requires { rate ≤ 999990 }
+    ensures { (result ≡ length (line_by rate lcr)) × (room.new ≡ sets room.old 0 (line_by rate lcr)) }
+{
+    let at = put_rate(&mut *room, rate);
+    put_shape(&mut *room, at, lcr)
+}
+
+// The same, and answers the line.
+pub(crate) fn made_line(room: &mut [u8; 20], rate: u32, lcr: u8) -> &[u8]
     requires { rate ≤ 999990 }
     ensures { result.now ≡ line_by rate lcr }
 {
-    let at = put_rate(&mut *room, rate);
-    let end = put_shape(&mut *room, at, lcr);
+    let end = put_line(&mut *room, rate, lcr);
     &room[..end]
 }
