@@ -1,4 +1,7 @@
 // One wound of an image, or two: a byte replaced, or a transfer between tallies.
+ghost use Rattle.std.specs.Prelude.{◌≤◌};
+ghost use Rattle.trials.specs.Places.{last_place};
+
 use crate::buffers::Buffer;
 use crate::picks::Picker;
 use crate::transfers::Transfer;
@@ -66,7 +69,9 @@ const WOUNDS: [[u8; 3]; ROWS] = [
 ];
 
 // "If that is 16 or more, r * c more": the same field of seat c.
-fn place_of(copy: &Buffer, place: u8, c: u8) -> u16 {
+fn place_of(copy: &Buffer, place: u8, c: u8) -> u16
+    ensures { result ≤ last_place }
+{
     let place = place as u16;
     if place < 16 {
         place
