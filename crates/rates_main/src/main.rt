@@ -24,8 +24,10 @@ const EDGES: [(u32, u8); 11] = [
 fn ask(rt: &impl Print, rate: u32, clock: u8) -> Result<()> {
     let answer = rates::divisor(rate, clock);
     let refusal = answer.refusal();
-    let value = answer.value();
-    println!(rt; "{clock} {rate} {refusal} {value:03X}")
+    let value = u32::from(answer.value());
+    let [high, middle, low] = [value / 256, value / 16, value].map(|n| text::capital(n));
+    print!(rt; "{clock} {rate} {refusal}")?;
+    rt.write_all(&[b' ', high, middle, low, b'\n'])
 }
 
 // Wrapping, since nothing here says that a listed rate has neighbours.
