@@ -1,5 +1,5 @@
 -- What the definitions compute where a wrong program computes something else.
-use Rattle.std.specs.Prelude.{ℕ, ◌+◌, ◌*◌, ◌≡◌, refl}
+use Rattle.std.specs.Prelude.{ℕ, ◌≡◌, refl}
 use Rattle.trials.specs.Places.{last_place}
 
 -- 255, and 255 records of 86 bytes before it
